@@ -1,14 +1,14 @@
-/* gaffcurrant.h: a controller by the text of a table, for C99 and C++.
+/* gaffcurrant.h: a controller by the text of a table, of reach and stay, or of a patrol, for C99 and C++.
 
    Link libgaffcurrant.a or libgaffcurrant.so, which tools/library makes. The library is proved (crates/controller_c): for
-   any bytes that are the table that a controller holds, the answer 1 of gaffcurrant_control says that the values are those of
-   the input vector that the text chooses at the state. Each answer below is proved in both directions,
+   any bytes that tell what a controller holds, the answer 1 of gaffcurrant_control says that the values are those of the
+   input vector that the text applies at the state. Each answer below is proved in both directions,
    but for want of memory, which is never excluded. This header is
    written by hand, and nothing proves that it fits the library.
 
-   Units. A state is one whole number for each state variable of the table's plant, in the order of its `state` lines:
+   Units. A state is one whole number for each state variable of the text's plant, in the order of its `state` lines:
    floor(measured value / unit). An input is one whole number for each `input` line: the value to apply is the number times
-   the unit. Every number of a table is below 10^18 in size; a state may be any number of 64 bits.
+   the unit. Every number of a text is below 10^18 in size; a state may be any number of 64 bits.
 
    What the caller upholds:
    - each pointer is valid for as many elements as the call is told, and the arguments of a call don't overlap. Where a
@@ -31,35 +31,37 @@ extern "C" {
 #endif
 
 /* What the calls answer. */
-#define GAFFCURRANT_OPEN 0         /* gaffcurrant_open: the table is open */
-#define GAFFCURRANT_MALFORMED 1    /* gaffcurrant_open: the bytes are no table */
-#define GAFFCURRANT_LIMIT 2        /* gaffcurrant_open: a table past a limit */
+#define GAFFCURRANT_OPEN 0         /* gaffcurrant_open: the text is open */
+#define GAFFCURRANT_MALFORMED 1    /* gaffcurrant_open: the bytes are none of the three texts */
+#define GAFFCURRANT_LIMIT 2        /* gaffcurrant_open: a text past a limit */
 #define GAFFCURRANT_NO_MEMORY 3    /* gaffcurrant_open: malloc had none */
 #define GAFFCURRANT_APPLY 1        /* the inputs are to be applied */
 #define GAFFCURRANT_ARRIVED 0      /* the state has come to the targets: nothing has to be applied */
-#define GAFFCURRANT_NO_ROW (-1)    /* the table promises nothing at the state */
-#define GAFFCURRANT_WRONG_SIZE (-2)/* not as many numbers as the table has states and inputs */
-#define GAFFCURRANT_CLOSED (-3)    /* the controller holds no table */
+#define GAFFCURRANT_NO_ROW (-1)    /* the text promises nothing at the state */
+#define GAFFCURRANT_WRONG_SIZE (-2)/* not as many numbers as the text has states and inputs */
+#define GAFFCURRANT_CLOSED (-3)    /* the controller holds no text */
+#define GAFFCURRANT_NEXT_TURN 1    /* gaffcurrant_visit: the next turn of a patrol has begun */
+#define GAFFCURRANT_SAME_TURN 0    /* gaffcurrant_visit: the turn is as before */
 
-/* A controller: it holds a table, or none. Begin with `struct gaffcurrant controller = {0};` (C++: {}). Its members are the
+/* A controller: it holds a text, or none. Begin with `struct gaffcurrant controller = {0};` (C++: {}). Its members are the
    library's own. One that is open owns memory until gaffcurrant_close. */
 struct gaffcurrant {
     bool is_open;
-    void *table;
+    void *text;
 };
 
-/* Reads a table, of either version, from its text. The bytes stay the caller's, and may go once the call has returned.
-   A table that was open is closed first, also where the new one is refused.
+/* Reads a table of either version, a stay text or a patrol text; its first line says which. The bytes stay the caller's, and
+   may go once the call has returned. A text that was open is closed first, also where the new one is refused. Of a
+   patrol the first turn is due.
 
    0: open, and *line is 0. Else the controller is closed, and *line is the first line that doesn't fit, from 1, at 1
-   (malformed); and 0 at 2 (a limit of docs/FORMATS.md is exceeded) and at 3 (no memory). Stay texts and patrol texts are
-   malformed: this library reads tables alone. */
+   (malformed); and 0 at 2 (a limit of docs/FORMATS.md is exceeded) and at 3 (no memory). */
 int32_t gaffcurrant_open(struct gaffcurrant *controller, const uint8_t *bytes, size_t length, uint32_t *line);
 
 /* Puts what is to be applied at a state into input. Both arrays are the caller's.
 
-   1: apply the inputs. 0: the state has come to the targets (`goal reach` alone); nothing has to be applied. -1: the state is
-   outside the plant's ranges, or its cell has no row: the table promises nothing. -2: states or inputs isn't the number of the
+   1: apply the inputs. 0: the state has come to the targets (a table with `goal reach` alone); nothing has to be applied.
+   -1: the state is outside the plant's ranges, or its cell has no row for the turn that is due: the text promises nothing. -2: states or inputs isn't the number of the
    plant's states or input variables. -3: closed. At every answer but 1 input is unchanged. */
 int32_t gaffcurrant_control(struct gaffcurrant *controller, const int64_t *state, size_t states, int64_t *input, size_t inputs);
 
@@ -72,18 +74,33 @@ int32_t gaffcurrant_control(struct gaffcurrant *controller, const int64_t *state
 int32_t gaffcurrant_control_each(struct gaffcurrant *controller, const int64_t *states, size_t state_numbers, int64_t *inputs,
                                  size_t input_numbers, int32_t *replies, size_t count);
 
-/* How many states and input variables the table's plant has: 1 to 6, and 0 to 3.
+/* Of a patrol, begins the next turn where the state is an arrival: its cell lies in the target of the turn that is due,
+   and has a row for the next turn. Call it at each sample but the first, before gaffcurrant_control. A table and a stay text
+   have one turn, which stays.
+
+   1: the next turn has begun. 0: the turn is as before. -2: states isn't the number of the plant's states. -3: closed.
+   *turn is the turn that is then due, from 0; where the controller is closed it is 0. */
+int32_t gaffcurrant_visit(struct gaffcurrant *controller, const int64_t *state, size_t states, uint32_t *turn);
+
+/* Makes a turn of a patrol due, from 0, as after a restart of the loop: any turn for which the state has a row. A table and a
+   stay text have turn 0 alone.
+
+   0: the turn is due. -2: there is no such turn, and the one before is due. -3: closed. */
+int32_t gaffcurrant_begin_turn(struct gaffcurrant *controller, uint32_t turn);
+
+/* How many states and input variables the text's plant has: 1 to 6, and 0 to 3.
 
    0: told. -3: closed, and both are 0. */
 int32_t gaffcurrant_sizes(struct gaffcurrant *controller, uint32_t *states, uint32_t *inputs);
 
-/* The rank at a state: how many samples suffice to the targets. With `goal keep` every row has rank 0.
+/* The rank at a state: how many samples suffice to the targets, of a patrol to the target of the turn that is due. With
+   `goal keep` every row has rank 0.
 
    1: told. -1: the state has no row. -2: states isn't the number of the plant's states. -3: closed. At every answer but 1
    *rank is 0. */
 int32_t gaffcurrant_rank(struct gaffcurrant *controller, const int64_t *state, size_t states, uint32_t *rank);
 
-/* Frees the table. A controller that holds none stays as it is, so it may be closed twice; it may be opened again. */
+/* Frees the text. A controller that holds none stays as it is, so it may be closed twice; it may be opened again. */
 void gaffcurrant_close(struct gaffcurrant *controller);
 
 #ifdef __cplusplus

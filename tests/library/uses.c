@@ -18,13 +18,16 @@ static void expect_closed(struct gaffcurrant *c)
 {
     int64_t state[2] = {395, 55}, input[1] = {77};
     int32_t replies[1] = {77};
-    uint32_t states = 9, inputs = 9, rank = 9;
+    uint32_t states = 9, inputs = 9, rank = 9, turn = 9;
     expect("closed", 0, c->is_open);
     expect("closed: control", -3, gaffcurrant_control(c, state, 2, input, 1));
     expect("closed: control with no arrays", -3, gaffcurrant_control(c, NULL, 0, NULL, 0));
     expect("closed: control_each", -3, gaffcurrant_control_each(c, state, 2, input, 1, replies, 1));
     expect("closed: sizes", -3, gaffcurrant_sizes(c, &states, &inputs));
     expect("closed: rank", -3, gaffcurrant_rank(c, state, 2, &rank));
+    expect("closed: visit", -3, gaffcurrant_visit(c, state, 2, &turn));
+    expect("closed: turn", 0, turn);
+    expect("closed: begin_turn", -3, gaffcurrant_begin_turn(c, 0));
     expect("closed: input", 77, input[0]);
     expect("closed: replies", 77, replies[0]);
     expect("closed: states", 0, states);
@@ -46,7 +49,7 @@ static void expect_open(struct gaffcurrant *c)
 {
     int64_t state[6] = {395, 55, 0, 0, 0, 0}, input[3] = {77, 77, 77}, far[2] = {INT64_MIN, INT64_MAX}, two[4] = {395, 55, INT64_MAX, 0}, values[2] = {77, 77};
     int32_t replies[2] = {77, 77};
-    uint32_t states = 9, inputs = 9, rank = 9;
+    uint32_t states = 9, inputs = 9, rank = 9, turn = 9;
     expect("sizes", 0, gaffcurrant_sizes(c, &states, &inputs));
     expect("states", 2, states);
     expect("inputs", 1, inputs);
@@ -60,6 +63,8 @@ static void expect_open(struct gaffcurrant *c)
     expect("rank of a wrong size", -2, gaffcurrant_rank(c, state, 3, &rank));
     expect("the rank of a wrong size", 0, rank);
     expect("rank of no array", -2, gaffcurrant_rank(c, NULL, 0, &rank));
+    expect("visit of a wrong size", -2, gaffcurrant_visit(c, state, 3, &turn));
+    expect("visit of no array", -2, gaffcurrant_visit(c, NULL, 0, &turn));
     expect("wrong sizes: input", 77, input[0]);
     expect("control outside", -1, gaffcurrant_control(c, far, 2, input, 1));
     expect("rank outside", -1, gaffcurrant_rank(c, far, 2, &rank));
@@ -69,6 +74,10 @@ static void expect_open(struct gaffcurrant *c)
     expect("input", -20, input[0]);
     expect("the next input", 77, input[1]);
     state[0] = 450, state[1] = 0, input[0] = 77;
+    expect("visit in the target", 0, gaffcurrant_visit(c, state, 2, &turn));
+    expect("the turn of a table", 0, turn);
+    expect("the turn of a table is due", 0, gaffcurrant_begin_turn(c, 0));
+    expect("another turn of a table", -2, gaffcurrant_begin_turn(c, 1));
     expect("control in the target", 0, gaffcurrant_control(c, state, 2, input, 1));
     expect("in the target: input", 77, input[0]);
     expect("none at once", 0, gaffcurrant_control_each(c, NULL, 0, NULL, 0, NULL, 0));
@@ -107,7 +116,7 @@ int main(int count, char **words)
     expect("open another", 0, gaffcurrant_open(&d, text, length, &line));
     expect_open(&c);
     expect_open(&d);
-    /* What is no table closes the one before. */
+    /* What is no text closes the one before. */
     expect_refused(&c, text, length - 1, 1, lines);
     expect_open(&d);
     expect_refused(&c, text + 1, length - 1, 1, 1);

@@ -1,4 +1,4 @@
-"""The C library: over the examples' tables its answers are those of the table's rows, of `sim` and of control.c, by both compilers' libraries, and by Python;
+"""The C library: over the examples' texts its answers are those of the text's rows, of `sim` and of control.c, by both compilers' libraries, and by Python;
 its memory is constant, its wrong uses are answered as include/gaffcurrant.h tells, and sanitizers and valgrind find nothing."""
 
 import os
@@ -12,12 +12,13 @@ from pathlib import Path
 
 from gaffcurrant_plant.controller import APPLY, ARRIVED, NO_ROW, Controller
 from gaffcurrant_plant.reader import Refused
-from gaffcurrant_plant.table import NoRow, read_table, text_of_table
+from gaffcurrant_plant.table import NoRow, read_table, read_text, text_of_table
 
 from .check_readers import c_answers, expected, random_states
+from .check_temporal import DAMAGED, PATROL, STAY
 
 # The calls of the library, which alone the shared object shows.
-CALLS = ["close", "control", "control_each", "open", "rank", "sizes"]
+CALLS = ["begin_turn", "close", "control", "control_each", "open", "rank", "sizes", "visit"]
 STRICT = ["-std=c99", "-pedantic", "-Wall", "-Wextra", "-Werror"]
 SANITIZERS = ["-g", "-O1", "-fsanitize=address,undefined", "-fno-sanitize-recover=all"]
 
@@ -45,6 +46,7 @@ def check(report):
             check_memory(report, room, name, text, held)
         with ThreadPoolExecutor(os.cpu_count() or 1) as pool:
             list(pool.map(lambda name: check_table(report, room, name, tables[name], programs, libraries["llvm"]), tables))
+        check_turns(report, room, libraries)
         check_uses(report, room, libraries)
         check_python(report, room, libraries["llvm"], tables["cart"])
         check_readme(report, room, libraries["llvm"])
@@ -52,7 +54,7 @@ def check(report):
 
 def built_library(report, folder, backend):
     """The folder with the library as a compiler builds it, or None: over the libraries that `rt ci` left, where they stand."""
-    standing = ["--standing"] if (report.top / "crates/table_control/out/rlib/table_control.rlib").exists() else []
+    standing = ["--standing"] if (report.top / "crates/text_control/out/rlib/text_control.rlib").exists() else []
     done = subprocess.run([report.top / "tools/library", *standing, folder, "--jobs", "1", "--backend", backend], capture_output=True, check=False)
     report.expect(f"library: tools/library by {backend}", (0, f"{folder}/libgaffcurrant.a\n{folder}/libgaffcurrant.so\n"),
                   (done.returncode, done.stdout.decode() or done.stderr.decode()[-300:]))
@@ -173,6 +175,71 @@ def answer_of(call, *words):
         return type(error).__name__
 
 
+def check_turns(report, room, libraries):
+    """Stay texts and patrol texts, of the examples and of a few cells: the replies, ranks and turns along runs that wander over the whole domain, and the
+    line of texts that are refused."""
+    programs = {backend: compiled(report, room, f"turns_{backend}", "turns.c", library) for backend, library in libraries.items()}
+    programs["the sanitizers"] = compiled(report, room, "turns_sane", "turns.c", libraries["llvm"], SANITIZERS)
+    texts = {"of five cells, stay": STAY.encode(), "of five cells, patrol": PATROL.encode()}
+    for name in report.examples():
+        texts |= {path: text for path, text in report.texts(name).items() if text is not None and not text.startswith(b"table ")}
+    for number, (name, text) in enumerate(texts.items()):
+        path = room / f"{number}.text"
+        path.write_bytes(text)
+        model = read_text(text)
+        states = driven_states(model) + random_states(model.plant)
+        wanted = told_of(model, states)
+        for backend, program in programs.items():
+            report.expect(f"library: {name} by {backend}", (0, wanted, ""), split(ran(program, path, data=lines_of(states))))
+        with Controller(text, str(libraries["llvm"] / "libgaffcurrant.so")) as by_library, Controller(text, "") as by_module:
+            report.expect(f"library: {name} by Python", [told_by(by_library, states), True], [told_by(by_module, states), by_library.is_proved])
+    for text, old, new, line, _ in DAMAGED:
+        path = room / "damaged.text"
+        path.write_text(text.replace(old, new, 1))
+        report.expect(f"library: {text[:6]} text with {new!r}", (1, [f"open 1 line {line}"], ""), split(ran(programs["llvm"], path)))
+
+
+def driven_states(model):
+    """States of a run: the plant is driven by the text from its first cell with a row, or, of a patrol, for its first turn."""
+    plant, turn = model.plant, 0
+    rows = model.turns if model.kind == "patrol" else [model]
+    if not rows or not rows[0].rows:
+        return []
+    states = [plant.low(min(rows[0].rows))]
+    for _ in range(200):
+        state = states[-1]
+        if model.kind == "patrol" and len(states) > 1:
+            turn = model.turn_after(turn, state)
+        row = rows[turn].rows.get(plant.cell_of(state))
+        if row is None:
+            break
+        states.append(plant.step(state, plant.vector(row[1]), [low for _, low, _ in plant.noises]))
+    return states
+
+
+def told_of(model, states):
+    """What turns.c prints: whether a turn began, the turn, the reply, the rank and the inputs."""
+    said, turn = [], 0
+    for sample, state in enumerate(states):
+        before = turn
+        has_come = model.kind == "patrol" and sample > 0 and model.plant.cell_of(state) in model.turns[turn].arrivals
+        turn = model.behind(before) if has_come else before
+        rows = model.turns[turn].rows if model.kind == "patrol" else model.rows
+        row = rows.get(model.plant.cell_of(state))
+        reply = f"{NO_ROW} 0" if row is None else " ".join(map(str, (APPLY, row[0], *model.plant.vector(row[1]))))
+        said.append(f"{int(has_come)} {turn} {reply}")
+    return [*said, f"turns {len(model.turns) if model.kind == 'patrol' else 1}"]
+
+
+def told_by(controller, states):
+    """The same by Python's Controller."""
+    said = []
+    for sample, state in enumerate(states[:400]):
+        has_come = sample > 0 and controller.visit(state)
+        said.append((has_come, controller.turn, answer_of(controller.choice, state), answer_of(controller.rank, state)))
+    return said
+
+
 def check_uses(report, room, libraries):
     cart, line = room / "cart.table", room / "line.table"
     valgrind = shutil.which("valgrind")
@@ -198,7 +265,7 @@ def check_readme(report, room, library):
     program = compiled(report, room, "sample", room / "sample.c", library)
     wanted = re.search(r"\./sample gate\.table +# prints (\S+):", said).group(1)
     report.expect("library: what the README tells", (0, f"{wanted}\n", ""), ran(program, room / "gate.table"))
-    report.expect("library: the README's program of no table", (1, "no table: line 1\n", ""), ran(program, room / "sample.c"))
+    report.expect("library: the README's program of no text", (1, "no text: line 1\n", ""), ran(program, room / "sample.c"))
 
 
 def check_python(report, room, library, text):

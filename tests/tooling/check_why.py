@@ -1,5 +1,6 @@
 """tools/why on the tables of line, tank and cart, against boxes worked out by hand."""
 
+import importlib.util
 import re
 
 from gaffcurrant_plant.table import read_table
@@ -138,6 +139,14 @@ def check(report):
         report.expect(f"why {words}", (wanted, ""), (status, output))
         report.holds(f"why {words} says `{said}`", said in error and error.count("\n") == 1, error)
     check_damaged(report)
+    check_deep(report)
+
+
+def check_deep(report):
+    """What --deep says, which it works out by numpy."""
+    if not importlib.util.find_spec("numpy"):
+        print("skipped: numpy isn't there (apt-get install python3-numpy), so why isn't asked what lies deeper")
+        return
     for lines, rows, state, wanted in DEEP:
         text = "\n".join(["table 1", "plant 1", "state x 0 14 3", *lines, "end", f"rows {len(rows)}", *rows, "end", ""])
         status, output, error = report.tool("why", "--deep", "-", state, data=text.encode())

@@ -1,5 +1,5 @@
-"""A controller by a table: the proved library of crates/controller_c by ctypes where its shared object is found (tools/library makes it), else the
-module's own Table."""
+"""A controller by a table, a stay text or a patrol text: the proved library of crates/controller_c by ctypes where its shared object is found
+(tools/library makes it), else the module's own reader."""
 
 from __future__ import annotations
 
@@ -9,7 +9,7 @@ from pathlib import Path
 from typing import Any, Iterable, Optional, Sequence, Union
 
 from .reader import Refused
-from .table import NoRow, Table, read_table, whole_of
+from .table import NoRow, Table, read_text, whole_of
 
 HERE = Path(__file__).resolve().parent
 
@@ -25,7 +25,7 @@ Values = Optional[tuple[int, ...]]
 
 class Held(ctypes.Structure):
     """The struct gaffcurrant."""
-    _fields_ = [("is_open", ctypes.c_bool), ("table", ctypes.c_void_p)]
+    _fields_ = [("is_open", ctypes.c_bool), ("text", ctypes.c_void_p)]
 
 
 def library_path() -> Optional[str]:
@@ -41,14 +41,15 @@ def library_at(path: str) -> ctypes.CDLL:
     held, numbers, replies = ctypes.POINTER(Held), ctypes.POINTER(ctypes.c_int64), ctypes.POINTER(ctypes.c_int32)
     number, size = ctypes.POINTER(ctypes.c_uint32), ctypes.c_size_t
     for name, words in (("open", [ctypes.c_char_p, size, number]), ("control", [numbers, size, numbers, size]), ("sizes", [number, number]),
-                        ("control_each", [numbers, size, numbers, size, replies, size]), ("rank", [numbers, size, number]), ("close", [])):
+                        ("control_each", [numbers, size, numbers, size, replies, size]), ("rank", [numbers, size, number]),
+                        ("visit", [numbers, size, number]), ("begin_turn", [ctypes.c_uint32]), ("close", [])):
         call = getattr(library, f"gaffcurrant_{name}")
         call.argtypes, call.restype = [held, *words], None if name == "close" else ctypes.c_int32
     return library
 
 
 class Library:
-    """A table that the library holds. One thread at a time uses it."""
+    """A text that the library holds. One thread at a time uses it."""
 
     def __init__(self, path: str, text: bytes) -> None:
         self.calls, self.held = library_at(path), Held()
@@ -56,10 +57,11 @@ class Library:
         status = self.calls.gaffcurrant_open(self.held, text, len(text), line)
         if status:
             if status != 3:
-                read_table(text)
+                read_text(text)
             raise Refused(FAULTS[status].format(line.value), "the library refuses it")
         self.calls.gaffcurrant_sizes(self.held, *sizes)
         self.states, self.inputs = (size.value for size in sizes)
+        self.turn = 0
 
     def replies(self, states: Sequence[Sequence[int]]) -> list[tuple[int, Values]]:
         count = len(states)
@@ -78,46 +80,82 @@ class Library:
             raise ValueError("the controller is closed" if status == CLOSED else f"a state has {self.states} numbers")
         return rank.value if status == 1 else None
 
+    def visit(self, state: Sequence[int]) -> bool:
+        turn = ctypes.c_uint32()
+        status = self.calls.gaffcurrant_visit(self.held, (ctypes.c_int64 * len(state))(*state), len(state), turn)
+        if status < 0:
+            raise ValueError("the controller is closed" if status == CLOSED else f"a state has {self.states} numbers")
+        self.turn = turn.value
+        return status == 1
+
+    def begin_turn(self, turn: int) -> None:
+        status = self.calls.gaffcurrant_begin_turn(self.held, turn) if 0 <= turn < 2 ** 32 else WRONG_SIZE
+        if status < 0:
+            raise ValueError("the controller is closed" if status == CLOSED else f"there is no turn {turn}")
+        self.turn = turn
+
     def close(self) -> None:
         self.calls.gaffcurrant_close(self.held)
 
 
 class Rows:
-    """The same by a Table."""
+    """The same by the module's own reader."""
 
     def __init__(self, text: bytes) -> None:
-        self.table: Optional[Table] = read_table(text)
-        self.states = len(self.table.plant.states)
+        self.text: Any = read_text(text)
+        self.states, self.turn = len(self.text.plant.states), 0
 
     def replies(self, states: Sequence[Sequence[int]]) -> list[tuple[int, Values]]:
         return [self.reply(state) for state in states]
 
     def reply(self, state: Sequence[int]) -> tuple[int, Values]:
         try:
-            values = self.opened().choice(state)
+            values = self.due().choice(state)
         except NoRow:
             return NO_ROW, None
         return (ARRIVED if values is None else APPLY), values
 
     def rank(self, state: Sequence[int]) -> Optional[int]:
         try:
-            return self.opened().rank(state) or 0
+            return self.due().rank(state) or 0
         except NoRow:
             return None
 
-    def opened(self) -> Table:
-        if self.table is None:
+    def visit(self, state: Sequence[int]) -> bool:
+        before, text = self.turn, self.opened()
+        if text.kind == "patrol" and text.turns:
+            has_come = text.plant.cell_of(state) in text.turns[before].arrivals
+            self.turn = text.behind(before) if has_come else before
+            return has_come
+        return False
+
+    def begin_turn(self, turn: int) -> None:
+        text = self.opened()
+        if not 0 <= turn < (len(text.turns) if text.kind == "patrol" else 1):
+            raise ValueError(f"there is no turn {turn}")
+        self.turn = turn
+
+    def due(self) -> Any:
+        """The rows of the turn that is due."""
+        text = self.opened()
+        if text.kind != "patrol":
+            return text
+        return text.turns[self.turn] if text.turns else Table(text.plant, {})
+
+    def opened(self) -> Any:
+        if self.text is None:
             raise ValueError("the controller is closed")
-        return self.table
+        return self.text
 
     def close(self) -> None:
-        self.table = None
+        self.text = None
 
 
 class Controller:
-    """What a table chooses at states in whole units. is_proved: whether the library answers. Raises Refused where the bytes are no table.
+    """What a table, a stay text or a patrol text applies at states in whole units. is_proved: whether the library answers. Raises Refused where the
+    bytes are no such text. Of a patrol `visit` is called at each sample but the first, before the inputs are asked for.
 
-    library names the shared object; it is looked for where that is left out, and '' is for the module's own Table. A controller is closed by
+    library names the shared object; it is looked for where that is left out, and '' is for the module's own reader. A controller is closed by
     `close`, at the end of a `with`, or when it is collected; after that it raises ValueError, as at a state of a wrong size."""
 
     def __init__(self, text: Union[str, bytes], library: Optional[str] = None) -> None:
@@ -146,6 +184,19 @@ class Controller:
             raise NoRow(f"{whole} has no row")
         return rank
 
+    @property
+    def turn(self) -> int:
+        """The turn of a patrol that is due, from 0; 0 for other texts."""
+        return self._rows.turn
+
+    def visit(self, state: Iterable[Any]) -> bool:
+        """Whether the next turn of a patrol begins at a state: where the state has come to the target of the turn that is due."""
+        return self._rows.visit(self.whole(state))
+
+    def begin_turn(self, turn: int) -> None:
+        """Makes a turn of a patrol due, as after a restart of the loop; raises ValueError where there is no such turn."""
+        self._rows.begin_turn(turn)
+
     def whole(self, state: Iterable[Any]) -> list[int]:
         """A state as whole numbers of 64 bits; raises ValueError where it is none, or has too few or too many numbers."""
         whole = [max(-FARTHEST, min(FARTHEST, whole_of(value))) for value in state]
@@ -154,7 +205,7 @@ class Controller:
         return whole
 
     def close(self) -> None:
-        """Frees the table; may be called twice."""
+        """Frees the text; may be called twice."""
         if hasattr(self, "_rows"):
             self._rows.close()
 

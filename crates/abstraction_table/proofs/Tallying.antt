@@ -2,14 +2,15 @@
 use Rattle.std.proofs.Common.{◌≡◌, ◌≢◌, ℕ, zero, suc, ◌+◌, ◌-◌, ◌<◌, ◌≤◌, Bool, ◌==◌, cond, List, [], ◌∷◌, ◌++◌, All, length, map, replicate, take, drop, get_or, set, refl, sym, ap, subst, subst₂, ◌∙◌, arith, inl, inr, append_assoc, append-nil}
 use Rattle.std.specs.List.{range_with_len}
 use Rattle.std.proofs.lemmas.Bool.{cases_eq, eq-eqb, ne_eqb}
-use Rattle.std.proofs.lemmas.List.{drop_more, drop-set-lt, take-append-drop, take_more_set, length-append, length-replicate, length-set, length-take, length-take-le, length-drop, get_or_default, get_or-append_right, get_or-take, get_or-drop, get_or-set_same, get_or-set_other, replicate-append-replicate, set-append_right}
+use Rattle.std.proofs.lemmas.List.{drop_more, drop-set-lt, take-append-drop, take_more_set, length-append, length-set, length-take, length-take-le, length-drop, get_or_default, get_or-append_right, get_or-take, get_or-drop, get_or-set_same, get_or-set_other, replicate-append-replicate, set-append_right}
 use Rattle.std.proofs.lemmas.List.Edits.{map_over_more}
 use Rattle.std.proofs.lemmas.List.Elements.{All-tail}
 use Rattle.std.proofs.lemmas.List.Sums.{sum_by_push, sum_by-set}
 use Rattle.rayon.specs.Shown.{run-append}
 use Rattle.game_core.specs.Counts.{times}
 use Rattle.edge_rows.specs.Rows.{Filling, row_at, with_value, with_each_changed, with_value_each, EachHasFreeSlot}
-use Rattle.abstraction_table.specs.inside.Tallies.{AreCounted, CountsFit, ArePut, HasCapacityFor}
+use Rattle.abstraction_table.specs.inside.Tallies.{AreCounted, ArePut, HasCapacityFor}
+use Rattle.abstraction_table.specs.inside.IntakeLaws.{counted_none}
 use Rattle.base.proofs.Times.{times-append}
 
 -- a number is a cell or another
@@ -46,9 +47,6 @@ range_split a m i low high =
 
 -- ---- counts
 
-pub counted_none : (counts : List ℕ) → AreCounted counts counts []
-counted_none counts = record { long = refl; each = λ c. omega arith; total = omega arith }
-
 pub counted_one : (before counts cells : List ℕ) (x : ℕ) → AreCounted before counts cells → x < length counts → AreCounted before (set counts x (get_or counts x 0 + 1)) (cells ++ x ∷ [])
 counted_one before counts cells x h within = record {
   long = length-set counts x (get_or counts x 0 + 1) ∙ h.long;
@@ -57,16 +55,6 @@ counted_one before counts cells x h within = record {
       (λ other. get_or-set_other counts x c (get_or counts x 0 + 1) 0 other ∙ h.each c ∙ ap (λ (n : ℕ). get_or before c 0 + n) (sym (times_other c x cells other)));
   total = omega (arith, sum_by-set (λ n. n) counts x (get_or counts x 0 + 1) 0 within, h.total, length-append cells (x ∷ []));
 }
-
-pub counted_more : (before counts after cells more : List ℕ) → AreCounted before counts cells → AreCounted counts after more → AreCounted before after (cells ++ more)
-counted_more before counts after cells more h g = record {
-  long = g.long ∙ h.long;
-  each = λ c. omega (arith, g.each c, h.each c, times-append c cells more);
-  total = omega (arith, g.total, h.total, length-append cells more);
-}
-
-pub segment_fits : (before counts done segment later : List ℕ) → AreCounted before counts done → CountsFit before ((done ++ segment) ++ later) → CountsFit counts segment
-segment_fits before counts done segment later h capacity = λ c. omega (arith, h.each c, capacity c, times-append c (done ++ segment) later, times-append c done segment)
 
 -- ---- rows
 
@@ -84,28 +72,6 @@ put_one pair before now after cells x h within rows lengths = record {
       ∙ ap (λ (i : ℕ). row_at before.rows i ++ replicate (times i (cells ++ x ∷ [])) pair) (sym same))
       (λ other. get_or-set_other now.rows x c (row_at now.rows x ++ pair ∷ []) [] other ∙ h.each c below ∙ ap (λ (n : ℕ). row_at before.rows c ++ replicate n pair) (sym (times_other c x cells other)));
 }
-
-pub put_more : (pair : ℕ) (before now after : Filling) (cells more : List ℕ) → ArePut pair before now cells → ArePut pair now after more → ArePut pair before after (cells ++ more)
-put_more pair before now after cells more h g = record {
-  long = g.long ∙ h.long;
-  lengths = g.lengths ∙ h.lengths;
-  each = λ c below.
-      g.each c (rw h.long below)
-      ∙ ap (λ (r : List ℕ). r ++ replicate (times c more) pair) (h.each c below)
-      ∙ append_assoc (row_at before.rows c) (replicate (times c cells) pair) (replicate (times c more) pair)
-      ∙ ap (λ (r : List ℕ). row_at before.rows c ++ r) (replicate-append-replicate (times c cells) (times c more) pair ∙ ap (λ (n : ℕ). replicate n pair) (sym (times-append c cells more)));
-}
-
--- a row is as long as it was, and one longer for each time that its cell came
-put_length : (pair : ℕ) (before now : Filling) (cells : List ℕ) (c : ℕ) → ArePut pair before now cells → c < length before.rows → length (row_at now.rows c) ≡ length (row_at before.rows c) + times c cells
-put_length pair before now cells c h below =
-    ap length (h.each c below) ∙ length-append (row_at before.rows c) (replicate (times c cells) pair) ∙ ap (λ (n : ℕ). length (row_at before.rows c) + n) (length-replicate (times c cells) pair)
-
--- there is room for the next segment
-pub capacity_left : (pair : ℕ) (before now : Filling) (done segment later : List ℕ) → ArePut pair before now done → HasCapacityFor before ((done ++ segment) ++ later) → HasCapacityFor now segment
-capacity_left pair before now done segment later h capacity = λ c below.
-    let within : c < length before.rows = omega (arith, below, h.long) in
-    rw h.lengths (omega (arith, put_length pair before now done c h within, capacity c within, times-append c (done ++ segment) later, times-append c done segment))
 
 -- ---- segments
 

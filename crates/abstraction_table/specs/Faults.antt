@@ -1,5 +1,5 @@
 -- Why a plant has no abstraction.
-use Rattle.std.specs.Prelude.{◌^◌, ◌<◌}
+use Rattle.std.specs.Prelude.{◌<◌}
 use Rattle.plant_record.specs.Description.{Description}
 use Rattle.abstraction_table.specs.declared.build_fault.BuildFault.{BuildFault}
 use Rattle.abstraction_table.specs.declared.build_fault.BuildFault.TheVariants.{TooManyEdges, Memory}

@@ -11,3 +11,5 @@ pub mod ExtentTables
 pub mod SourceLists
 pub mod Sums
 pub mod Tallies
+pub mod Intakes
+pub mod IntakeLaws

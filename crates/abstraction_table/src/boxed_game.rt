@@ -59,7 +59,7 @@ impl BoxedGame {
         requires { pair < pairs_of (game_in self.now) }
         ensures { result ≡ length (successors_at (game_in self.now) pair) }
     {
-        self.fans.of(self.boxes(pair))
+        self.fans.fan_of_box(self.boxes(pair))
     }
 
     /// The successors of a pair, in rising order.
@@ -85,7 +85,7 @@ impl BoxedGame {
         if at == 0 {
             return b.first;
         }
-        if at + 1 == self.fans.of(Some(b)) {
+        if at + 1 == self.fans.fan_of_box(Some(b)) {
             return b.last;
         }
         self.grid.nth_of(b, u64::from(at))

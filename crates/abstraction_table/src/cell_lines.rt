@@ -9,7 +9,7 @@ ghost use Rattle.plant_record.specs.Limits.{IsWithinLimits};
 ghost use Rattle.abstraction_table.specs.inside.Sums.{plus, term_under, AreChangedBy};
 ghost use Rattle.abstraction_table.specs.inside.CellLines.{AreInLine, AreSumsOfLine, BecomeBoxes, AreBoxesFrom};
 ghost use Rattle.abstraction_table.specs.inside.Terms.{AreIndicesOf, Brings, BringAs, IsFreeTerm, AreSumsAlong, HasCell, HasSums, AddsTerms, AddsState, IsTermTableOf, AreTermTablesOf};
-ghost use Rattle.abstraction_table.specs.declared.pair_box.TheConstants.{NO_BOX};
+ghost use Rattle.abstraction_table.specs.declared.pair_box.TheConstants.{SUMS_LIMIT};
 
 use crate::pair_box::PairBox;
 use crate::terms::{TermTable, Terms};
@@ -159,8 +159,8 @@ fn add_terms(
 fn add_listed(inputs: &[u32], terms: &[PairBox], boxes: &mut [PairBox])
     requires one_each { length boxes.old ≡ length inputs.now }
     requires indices { All (λ n. n < length terms.now) inputs.now }
-    requires terms { All (λ n. IfSome (slice_index_or terms.now n None) (λ b. b.last < NO_BOX)) inputs.now }
-    requires boxes { All (λ b. IfSome b (λ b. b.last < NO_BOX)) boxes.old }
+    requires terms { All (λ n. IfSome (slice_index_or terms.now n None) (λ b. b.last < SUMS_LIMIT)) inputs.now }
+    requires boxes { All (λ b. IfSome b (λ b. b.last < SUMS_LIMIT)) boxes.old }
     ensures long { length boxes.new ≡ length boxes.old }
     ensures each { AreChangedBy (λ u b. plus b (term_under terms.now inputs.now u)) boxes.old boxes.new }
 {
@@ -188,8 +188,8 @@ fn add_moved(p: &Plant, table: &TermTable, state: u32, first: u32, own: u32, box
 /// Adds to all boxes of a cell what is the same under all inputs.
 #[inline]
 fn add_base(base: PairBox, boxes: &mut [PairBox])
-    requires base { IfSome base (λ b. b.last < NO_BOX) }
-    requires boxes { All (λ b. IfSome b (λ b. b.last < NO_BOX)) boxes.old }
+    requires base { IfSome base (λ b. b.last < SUMS_LIMIT) }
+    requires boxes { All (λ b. IfSome b (λ b. b.last < SUMS_LIMIT)) boxes.old }
     ensures long { length boxes.new ≡ length boxes.old }
     ensures each { AreChangedBy (λ _ b. plus base b) boxes.old boxes.new }
 {

@@ -25,7 +25,7 @@ pub(crate) struct Fans {
 impl Fans {
     /// How many cells a box has.
     #[inline]
-    pub(crate) fn of(&self, b: Option<CellBox>) -> u32
+    pub(crate) fn fan_of_box(&self, b: Option<CellBox>) -> u32
         requires ordered { IfSome b (λ b. b.first ≤ b.last) }
         requires within { IfSome b (λ b. b.last - b.first < length self.now.counts.items) }
         ensures { result ≡ fan_of self.now.counts.items b }

@@ -18,6 +18,7 @@ mod extent_blocks;
 mod extent_table;
 mod fans;
 mod forward;
+mod intake;
 mod pair_box;
 mod pair_boxes;
 mod shapes;

@@ -1,14 +1,20 @@
-//! The box of a pair as it is kept: two numbers, of which the first is the greater where there is no box.
+//! The box of a pair as it is kept: two numbers, the greatest there are where there is no box.
 ghost use Rattle.std.specs.Prelude.{◌≡◌, ◌*◌, ◌^◌, ◌<◌, ◌≤◌, IfSome, IsTrue};
 ghost use Rattle.grid_quantiser.specs.ExtentBoxes.{one_cell};
-ghost use Rattle.abstraction_table.specs.inside.Sums.{term, plus};
-ghost use Rattle.abstraction_table.specs.declared.pair_box.TheConstants.{NO_BOX};
+ghost use Rattle.abstraction_table.specs.inside.Sums.{term, plus, word_of};
+ghost use Rattle.abstraction_table.specs.declared.pair_box.TheConstants.{SUMS_LIMIT};
 
 use grid_quantiser::{CellBox, Extent};
 use std::marker::Model;
 
-/// The first number where there is no box. It is past the last cell of every sum, so what is added to it stays none.
-const NO_BOX: u32 = 0x1000_0000;
+/// Both numbers where there is no box.
+const NO_BOX: u32 = u32::MAX;
+
+/// Past the last cell of every sum of terms.
+const SUMS_LIMIT: u32 = 0x1000_0000;
+
+/// What the last cell counts in the word of both numbers.
+const LAST_UNIT: u64 = 1 << 32;
 
 /// The box of a pair, or none, in 8 bytes.
 #[derive(Clone, Copy)]
@@ -37,7 +43,8 @@ impl PairBox {
     /// A box, or none.
     #[inline]
     pub(crate) fn new(b: Option<CellBox>) -> PairBox
-        requires { IfSome b (λ b. b.first ≤ b.last) }
+        requires ordered { IfSome b (λ b. b.first ≤ b.last) }
+        requires few { IfSome b (λ b. b.last < SUMS_LIMIT) }
         ensures { result ≡ b }
     {
         match b {
@@ -47,7 +54,7 @@ impl PairBox {
             },
             None => PairBox {
                 first: NO_BOX,
-                last: 0,
+                last: NO_BOX,
             },
         }
     }
@@ -57,7 +64,7 @@ impl PairBox {
     pub(crate) fn get(&self) -> Option<CellBox>
         ensures { result ≡ self.now }
     {
-        if self.last < self.first {
+        if self.first == NO_BOX {
             return None;
         }
         Some(CellBox {
@@ -77,7 +84,7 @@ impl PairBox {
     /// What an extent adds to a box, along an axis of which one slot makes so many cells: none where the extent is missing.
     #[inline]
     pub(crate) fn term(extent: Option<Extent>, stride: u32) -> PairBox
-        requires { IfSome extent (λ s. (s.first ≤ s.last) × (s.last * stride < NO_BOX)) }
+        requires { IfSome extent (λ s. (s.first ≤ s.last) × (s.last * stride < SUMS_LIMIT)) }
         ensures { result ≡ term stride extent }
     {
         let Some(extent) = extent else {
@@ -89,19 +96,27 @@ impl PairBox {
         }))
     }
 
-    /// The sum of two boxes, end by end: none where one of the two is missing.
+    /// The sum of two boxes, end by end: none where one of the two is missing. Both ends are added at once, in one word,
+    /// and what is added to the greatest word stays that.
     #[inline]
     pub(crate) fn plus(self, other: PairBox) -> PairBox
-        requires one { IfSome self (λ b. b.last < NO_BOX) }
-        requires other { IfSome other (λ b. b.last < NO_BOX) }
+        requires one { IfSome self (λ b. b.last < SUMS_LIMIT) }
+        requires other { IfSome other (λ b. b.last < SUMS_LIMIT) }
         ensures { result ≡ plus self other }
     {
-        let first = self.first + other.first;
-        let last = self.last + other.last;
-        if last < first {
-            PairBox::new(None)
-        } else {
-            PairBox { first, last }
+        let sum = self.word().saturating_add(other.word());
+        PairBox {
+            first: (sum % LAST_UNIT) as u32,
+            last: (sum / LAST_UNIT) as u32,
         }
+    }
+
+    /// Both numbers in one word.
+    #[inline]
+    fn word(self) -> u64
+        ensures word { result ≡ word_of self }
+        ensures ordered { IfSome self (λ b. b.first ≤ b.last) }
+    {
+        u64::from(self.last) * LAST_UNIT + u64::from(self.first)
     }
 }

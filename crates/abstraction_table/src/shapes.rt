@@ -51,8 +51,8 @@ impl Shapes {
         &self.segments[range.from as usize..range.to as usize]
     }
 
-    /// Lists the segments of the shape of a distance.
-    fn list(&mut self, grid: &Grid, distance: u32) -> Result<(), AllocError>
+    /// Pushes the segments of the shape of a distance.
+    fn push_shape(&mut self, grid: &Grid, distance: u32) -> Result<(), AllocError>
         requires shape { IsCellBox grid.now 0 distance }
         requires within { distance < length self.old.spans.items }
         requires few { length self.old.segments.items + length (cells_between grid.now 0 distance) ≤ EDGES_LIMIT }
@@ -66,7 +66,7 @@ impl Shapes {
             last: distance,
         };
         let from = self.segments.len() as u32;
-        list_segments(grid.segments(shape), &mut self.segments)?;
+        push_segments(grid.segments(shape), &mut self.segments)?;
         let to = self.segments.len() as u32;
         self.spans[distance as usize] = SegmentRange { from, to };
         Ok(())
@@ -86,14 +86,14 @@ pub(crate) fn build_shapes(alloc: Global, grid: &Grid, fans: &Fans) -> Result<Sh
     };
     for distance in 0..grid.cells() {
         if fans.counts[distance as usize] > 0 {
-            shapes.list(grid, distance)?;
+            shapes.push_shape(grid, distance)?;
         }
     }
     Ok(shapes)
 }
 
 /// Puts the segments of cells at the end of a list.
-fn list_segments(mut cells: Segments, segments: &mut Vec<Segment>) -> Result<(), AllocError>
+fn push_segments(mut cells: Segments, segments: &mut Vec<Segment>) -> Result<(), AllocError>
     ensures { IfOk result (λ _. ListsSegments segments.old.items segments.new.items cells) }
 {
     while let Some((start, len)) = cells.next_segment() {

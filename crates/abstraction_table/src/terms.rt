@@ -148,7 +148,7 @@ fn build_terms(
     let own = own_indices_along(p, state, table.moves);
     let pairs = p.grid().cells() as usize * p.vectors() as usize;
     if table.extents.as_slice().len() <= pairs / PAIRS_FOR_EACH_TERM / own as usize {
-        return listed(alloc, p, state, stride, own, table);
+        return build_listed(alloc, p, state, stride, own, table);
     }
     let free = are_zero(&table.inputs);
     Ok(TermTable {
@@ -162,7 +162,7 @@ fn build_terms(
 }
 
 /// The terms that extents make, for each of so many indices of a cell along the axis.
-fn listed(
+fn build_listed(
     alloc: Global,
     p: &Plant,
     state: u32,
@@ -184,7 +184,7 @@ fn listed(
         extents,
         moves,
     } = table;
-    let terms = list_terms(alloc, p, state, stride, own, &extents)?;
+    let terms = build_term_list(alloc, p, state, stride, own, &extents)?;
     if moves {
         digits.push(Digit {
             variable: state,
@@ -227,7 +227,7 @@ fn own_indices_along(p: &Plant, state: u32, moves: bool) -> u32
 }
 
 /// The terms of extents, moved by each of so many indices, one slot after another.
-fn list_terms(
+fn build_term_list(
     alloc: Global,
     p: &Plant,
     state: u32,

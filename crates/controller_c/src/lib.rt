@@ -1,12 +1,12 @@
-//! Controllers for C: a table's text is read once, and then asked at each sample.
+//! Controllers for C: a text is read once, and then asked at each sample.
 //!
-//! The layer above is C code (`include/gaffcurrant.h`). No export has a `requires`: to contracts a controller is the
-//! table that it holds, or none. Status 1 of `gaffcurrant_control` says that the values are those of the input vector
-//! that the table's text chooses at the state.
+//! The layer above is C code (`include/gaffcurrant.h`). No export has a `requires`: to contracts a controller is what the
+//! text tells that it holds, or none. Status 1 of `gaffcurrant_control` says that the values are those of the input vector
+//! that the text applies at the state.
 #![tactic(auto)]
 
 ghost use Rattle.std.specs.Prelude.{◌≡◌, None};
-ghost use Rattle.controller_c.specs.Exports.{IsOpened, IsReplied, AreReplied, HasSizes, IsRanked};
+ghost use Rattle.controller_c.specs.Exports.{IsOpened, IsReplied, AreReplied, IsVisited, IsBegun, HasSizes, IsRanked};
 
 mod controller;
 mod held;
@@ -14,15 +14,15 @@ mod loose;
 mod opening;
 mod rank;
 
-use crate::opening::{boxed_table, fault_at, fault_status};
+use crate::opening::{boxed_text, fault_at, fault_status};
 use crate::rank::copy_rank;
 pub use controller::Controller;
 pub use held::Held;
 use std::alloc::Global;
-use table_control::{control, control_each};
+use text_control::{begin_turn, control, control_each, visit};
 
-/// Reads the table that the bytes are. 0: it is open. Else the controller is closed: 1, the line is the
-/// first that doesn't fit; 2, a limit is exceeded; 3, there was no memory.
+/// Reads the table, the stay text or the patrol text that the bytes are. 0: it is open. Else the controller is closed: 1,
+/// the line is the first that doesn't fit; 2, a limit is exceeded; 3, there was no memory.
 #[unsafe(no_mangle)]
 pub extern "C" fn gaffcurrant_open(
     alloc: Global,
@@ -30,12 +30,12 @@ pub extern "C" fn gaffcurrant_open(
     bytes: &[u8],
     line: &mut u32,
 ) -> i32
-    ensures { IsOpened bytes.now controller.new.held.table result line.new }
+    ensures { IsOpened bytes.now controller.new.held.text result line.new }
 {
     gaffcurrant_close(alloc, controller);
-    match boxed_table(alloc, bytes) {
-        Ok(table) => {
-            controller.put(table);
+    match boxed_text(alloc, bytes) {
+        Ok(text) => {
+            controller.put(text);
             *line = 0;
             0
         }
@@ -47,7 +47,7 @@ pub extern "C" fn gaffcurrant_open(
 }
 
 /// Puts what is to be applied at the state into the inputs. 1: apply them. 0: the state has come to the
-/// targets. -1: the table promises nothing there. -2: a wrong number of states or inputs. -3: closed.
+/// targets. -1: the text promises nothing there. -2: a wrong number of states or inputs. -3: closed.
 #[unsafe(no_mangle)]
 pub extern "C" fn gaffcurrant_control(
     alloc: Global,
@@ -55,13 +55,13 @@ pub extern "C" fn gaffcurrant_control(
     state: &[i64],
     input: &mut [i64],
 ) -> i32
-    ensures kept { controller.new.held.table ≡ controller.old.held.table }
-    ensures reply { IsReplied controller.old.held.table state.now input.old input.new result }
+    ensures kept { controller.new.held.text ≡ controller.old.held.text }
+    ensures reply { IsReplied controller.old.held.text state.now input.old input.new result }
 {
     match controller.take(alloc) {
-        Some(table) => {
-            let reply = control(&table, state, input);
-            controller.put(table);
+        Some(text) => {
+            let reply = control(&text, state, input);
+            controller.put(text);
             reply.number()
         }
         None => -3,
@@ -78,20 +78,64 @@ pub extern "C" fn gaffcurrant_control_each(
     inputs: &mut [i64],
     replies: &mut [i32],
 ) -> i32
-    ensures kept { controller.new.held.table ≡ controller.old.held.table }
-    ensures replies { AreReplied controller.old.held.table states.now inputs.old inputs.new replies.old replies.new result }
+    ensures kept { controller.new.held.text ≡ controller.old.held.text }
+    ensures replies { AreReplied controller.old.held.text states.now inputs.old inputs.new replies.old replies.new result }
 {
     match controller.take(alloc) {
-        Some(table) => {
-            let told = control_each(&table, states, inputs, replies);
-            controller.put(table);
+        Some(text) => {
+            let told = control_each(&text, states, inputs, replies);
+            controller.put(text);
             if told { 0 } else { -2 }
         }
         None => -3,
     }
 }
 
-/// How many states and input variables the table's plant has. 0: told. -3: closed.
+/// Begins the next turn of a patrol where the state is an arrival, and tells the turn that is then due. 1: it has begun. 0:
+/// the turn is as before. -2: a wrong number of states. -3: closed.
+#[unsafe(no_mangle)]
+pub extern "C" fn gaffcurrant_visit(
+    alloc: Global,
+    controller: &mut Controller,
+    state: &[i64],
+    turn: &mut u32,
+) -> i32
+    ensures { IsVisited controller.old.held.text state.now controller.new.held.text turn.new result }
+{
+    match controller.take(alloc) {
+        Some(mut text) => {
+            let visit = visit(&mut text, state);
+            *turn = text.turn();
+            controller.put(text);
+            visit.number()
+        }
+        None => {
+            *turn = 0;
+            -3
+        }
+    }
+}
+
+/// Makes a turn of a patrol due, as after a restart of the loop. 0: it is due. -2: there is no such turn. -3: closed.
+#[unsafe(no_mangle)]
+pub extern "C" fn gaffcurrant_begin_turn(
+    alloc: Global,
+    controller: &mut Controller,
+    turn: u32,
+) -> i32
+    ensures { IsBegun controller.old.held.text turn controller.new.held.text result }
+{
+    match controller.take(alloc) {
+        Some(mut text) => {
+            let is_begun = begin_turn(&mut text, turn);
+            controller.put(text);
+            if is_begun { 0 } else { -2 }
+        }
+        None => -3,
+    }
+}
+
+/// How many states and input variables the text's plant has. 0: told. -3: closed.
 #[unsafe(no_mangle)]
 pub extern "C" fn gaffcurrant_sizes(
     alloc: Global,
@@ -99,14 +143,14 @@ pub extern "C" fn gaffcurrant_sizes(
     states: &mut u32,
     inputs: &mut u32,
 ) -> i32
-    ensures kept { controller.new.held.table ≡ controller.old.held.table }
-    ensures sizes { HasSizes controller.old.held.table states.new inputs.new result }
+    ensures kept { controller.new.held.text ≡ controller.old.held.text }
+    ensures sizes { HasSizes controller.old.held.text states.new inputs.new result }
 {
     match controller.take(alloc) {
-        Some(table) => {
-            *states = table.plant().states();
-            *inputs = table.plant().input_variables();
-            controller.put(table);
+        Some(text) => {
+            *states = text.plant().states();
+            *inputs = text.plant().input_variables();
+            controller.put(text);
             0
         }
         None => {
@@ -126,13 +170,13 @@ pub extern "C" fn gaffcurrant_rank(
     state: &[i64],
     rank: &mut u32,
 ) -> i32
-    ensures kept { controller.new.held.table ≡ controller.old.held.table }
-    ensures rank { IsRanked controller.old.held.table state.now rank.new result }
+    ensures kept { controller.new.held.text ≡ controller.old.held.text }
+    ensures rank { IsRanked controller.old.held.text state.now rank.new result }
 {
     match controller.take(alloc) {
-        Some(table) => {
-            let status = copy_rank(&table, state, rank);
-            controller.put(table);
+        Some(text) => {
+            let status = copy_rank(&text, state, rank);
+            controller.put(text);
             status
         }
         None => {
@@ -142,10 +186,10 @@ pub extern "C" fn gaffcurrant_rank(
     }
 }
 
-/// Frees the table, if any.
+/// Frees the text, if any.
 #[unsafe(no_mangle)]
 pub extern "C" fn gaffcurrant_close(alloc: Global, controller: &mut Controller)
-    ensures { controller.new.held.table ≡ None }
+    ensures { controller.new.held.text ≡ None }
 {
     controller.take(alloc);
 }

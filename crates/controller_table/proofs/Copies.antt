@@ -6,7 +6,6 @@ use Rattle.plant_record.specs.Description.{Description}
 use Rattle.plant_record.specs.Limits.{IsWithinLimits}
 use Rattle.plant_writing.specs.CanonicalText.{text_of}
 use Rattle.plant_text.specs.CanonicalFronts.{IsFront, IsFrontRefusedFor}
-use Rattle.plant_reading.proofs.lemmas.StatementLaws.{one_statement}
 use Rattle.plant_text.proofs.lemmas.CanonicalFronts.{one_front, front_read_or_refused}
 use Rattle.controller_table.proofs.PlantLength.{plant_bytes, plant_length}
 
@@ -18,7 +17,7 @@ module _ (p : Description) (within : IsWithinLimits p) (text : List ℕ) (is : t
   short_text = subst (λ (n : ℕ). n ≤ plant_bytes) (ap length (sym is)) (plant_length p within.plant)
 
   pub same_plant : (q : Description) (count : ℕ) → IsFront text q count → q ≡ p
-  same_plant q count front = (one_front one_statement text q p count (length text) front own_front).0
+  same_plant q count front = (one_front text q p count (length text) front own_front).0
 
   pub not_refused : (fault : PlantFault) → IsFrontRefusedFor text fault → ⊥
-  not_refused fault refused = front_read_or_refused one_statement text p (length text) fault own_front within refused
+  not_refused fault refused = front_read_or_refused text p (length text) fault own_front within refused

@@ -8,14 +8,12 @@ use Rattle.plant_record.specs.declared.version.PlantVersion.{PlantVersion}
 use Rattle.plant_record.specs.Description.{Description, axes_of, vectors_of}
 use Rattle.plant_record.specs.Limits.{IsWithinLimits, Exceeds}
 use Rattle.plant_record.specs.Plants.{IsPlant}
-use Rattle.plant_reading.proofs.lemmas.StatementLaws.{one_statement}
 use Rattle.read_texts.specs.Steps.{IsReading}
-use Rattle.read_texts.proofs.Laws.{Outcome, is_read, is_refused, undeniable}
+use Rattle.read_texts.proofs.Laws.{undeniable}
 use Rattle.plant_text.specs.Grammar.{PartialPlant, nothing_yet, IsWhole}
 use Rattle.plant_text.specs.CanonicalFronts.{FrontStep, IsFrontEnded, IsFirstRefusedAtFront, IsFront}
 use Rattle.plant_text.specs.inside.PartialPlantRules.{KeepsRules}
-use Rattle.plant_text.proofs.lemmas.FrontGrammar.{IsOnTheWay, at_the_beginning, front_is_grammar}
-use Rattle.plant_text.proofs.lemmas.FrontLineByLine.{read_way, read_front}
+use Rattle.plant_text.proofs.lemmas.FrontGrammar.{IsOnTheWay, at_the_beginning, front_is_grammar, read_way, read_front}
 
 -- the plant that a closed part holds
 pub whole : (q : PartialPlant) → KeepsRules q → q.ended ≡ true → (p : Description) × IsWhole q p
@@ -57,19 +55,11 @@ limits_end p plant =
 -- ---- the plant at the front
 
 -- the canonical text of a plant stands there, or a line is refused
-pub data FrontEnd (bytes : List ℕ) : Type 0 where
-  stops_at : (n : ℕ) → IsFirstRefusedAtFront bytes n → FrontEnd bytes
-  has_plant : (p : Description) (count : ℕ) → IsFront bytes p count → FrontEnd bytes
-
-read_front_end : (bytes rest : List ℕ) (q : PartialPlant) → IsReading FrontStep IsFrontEnded nothing_yet bytes q rest → FrontEnd bytes
-read_front_end bytes rest q reading =
-    let way = read_way bytes rest reading.pieces q reading.read in
-    let held = whole q way.rules reading.closed in
-    has_plant held.0 (length bytes - length rest) (read_front bytes rest reading.pieces q held.0 reading.read held.1)
-
-pub front_end : (bytes : List ℕ) → (FrontEnd bytes → ⊥) → ⊥
-front_end bytes deny = undeniable FrontStep IsFrontEnded IsOnTheWay (front_is_grammar one_statement) nothing_yet bytes at_the_beginning by
+pub front_end : (bytes : List ℕ) → ((p : Description) (count : ℕ) → IsFront bytes p count → ⊥) → ((n : ℕ) → IsFirstRefusedAtFront bytes n → ⊥) → ⊥
+front_end bytes no_plant no_line = undeniable FrontStep IsFrontEnded IsOnTheWay front_is_grammar nothing_yet bytes at_the_beginning unread no_line
   where
-    by : Outcome FrontStep IsFrontEnded IsOnTheWay (front_is_grammar one_statement) nothing_yet bytes → ⊥
-    by (is_read q rest reading) = deny (read_front_end bytes rest q reading)
-    by (is_refused n refused) = deny (stops_at n refused)
+    unread : (q : PartialPlant) (rest : List ℕ) → IsReading FrontStep IsFrontEnded nothing_yet bytes q rest → ⊥
+    unread q rest reading =
+        let way = read_way bytes rest reading.pieces q reading.read in
+        let held = whole q way.rules reading.closed in
+        no_plant held.0 (length bytes - length rest) (read_front bytes rest reading.pieces q held.0 reading.read held.1)

@@ -1,9 +1,9 @@
 pub mod Text
 pub mod Fitting
+pub mod OneRow
 pub mod RefusedPlant
 pub mod SameRules
 pub mod Headings
-pub mod ReadTable
 pub mod SolutionsFit
 pub mod OneTable
 pub mod FrontEnds
@@ -13,4 +13,3 @@ pub mod PlantLength
 pub mod RowLengths
 pub mod ShortTables
 pub mod Copies
-pub mod SomeTable

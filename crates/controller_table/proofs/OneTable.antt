@@ -10,7 +10,7 @@ use Rattle.plant_record.specs.declared.aims.GoalKind.TheVariants.{Reach, Keep}
 use Rattle.plant_record.specs.Description.{Description, axes_of}
 use Rattle.plant_record.specs.Limits.{IsWithinLimits}
 use Rattle.plant_writing.specs.CanonicalText.{text_of}
-use Rattle.plant_text.specs.Laws.{OnePlantAtTheFront}
+use Rattle.plant_text.proofs.lemmas.CanonicalFronts as fronts
 use Rattle.row_runs.specs.declared.run.TableVersion.{TableVersion}
 use Rattle.row_runs.specs.declared.run.TableVersion.TheVariants.{First, Second}
 use Rattle.row_reading.proofs.Laws.{one_rows}
@@ -36,12 +36,12 @@ after_told : (v : TableVersion) (p : Description) (rows others : List (Option Ro
 after_told v p rows others within h k e =
     one_rows (rules_of v p) (small_rules v p within) (concat (lines_after v p.goal rows)) rows others (record { within = rows_within v p rows h; text = refl }) (record { within = rows_within v p others k; text = e })
 
-pub one_table : OnePlantAtTheFront → OneTablePerText
-one_table front bytes p q rows others h k =
+pub one_table : OneTablePerText
+one_table bytes p q rows others h k =
     let whole : version_line h.version ++ (text_of p ++ concat (lines_after h.version p.goal rows)) ≡ version_line k.version ++ (text_of q ++ concat (lines_after k.version q.goal others)) =
     sym (append_assoc (version_line h.version) (text_of p) (concat (lines_after h.version p.goal rows))) ∙ sym h.text ∙ k.text ∙ append_assoc (version_line k.version) (text_of q) (concat (lines_after k.version q.goal others)) in
     let version = one_version h.version k.version (text_of p ++ concat (lines_after h.version p.goal rows)) (text_of q ++ concat (lines_after k.version q.goal others)) whole in
-    let plant = front p q (concat (lines_after h.version p.goal rows)) (concat (lines_after k.version q.goal others)) h.limits.plant k.limits.plant version.1 in
+    let plant = fronts.one_plant_at_the_front p q (concat (lines_after h.version p.goal rows)) (concat (lines_after k.version q.goal others)) h.limits.plant k.limits.plant version.1 in
     let moved : concat (lines_after h.version p.goal rows) ≡ concat (lines_after h.version p.goal others) =
     plant.1
     ∙ ap (λ (v : TableVersion). concat (lines_after v q.goal others)) (sym version.0)
@@ -50,9 +50,9 @@ one_table front bytes p q rows others h k =
 
 -- ---- one row at a state
 
-one_row : OneTablePerText → (bytes : List ℕ) (p q : Description) (rows others : List (Option Row)) (x : List ℤ) (a b : Row) → IsTable bytes p rows → IsTable bytes q others → HasRowAt p rows x a → HasRowAt q others x b → (p ≡ q) × (a ≡ b)
-one_row one bytes p q rows others x a b h k r s =
-    let same = one bytes p q rows others h k in
+one_row : (bytes : List ℕ) (p q : Description) (rows others : List (Option Row)) (x : List ℤ) (a b : Row) → IsTable bytes p rows → IsTable bytes q others → HasRowAt p rows x a → HasRowAt q others x b → (p ≡ q) × (a ≡ b)
+one_row bytes p q rows others x a b h k r s =
+    let same = one_table bytes p q rows others h k in
     let at : row_of rows (cell_of (axes_of p) x) ≡ row_of others (cell_of (axes_of q) x) =
     ap (λ (r : List (Option Row)). row_of r (cell_of (axes_of p) x)) same.1 ∙ ap (λ (d : Description). row_of others (cell_of (axes_of d) x)) same.0 in
     (same.0, same_Some a b (sym r.is ∙ at ∙ s.is))
@@ -61,12 +61,12 @@ pub applied : (goal : GoalKind) (row : Row) (u : ℕ) → Applies goal row u →
 applied Reach row u h = h.1
 applied Keep row u h = h
 
-pub one_choice : OneTablePerText → OneChoice
-one_choice one bytes x u v a b =
-    let rows = one_row one bytes a.plant b.plant a.rows b.rows x a.chosen.0 b.chosen.0 a.table b.table a.chosen.1 b.chosen.1 in
+pub one_choice : OneChoice
+one_choice bytes x u v a b =
+    let rows = one_row bytes a.plant b.plant a.rows b.rows x a.chosen.0 b.chosen.0 a.table b.table a.chosen.1 b.chosen.1 in
     sym (applied a.plant.goal a.chosen.0 u a.chosen.2) ∙ ap (λ (r : Row). r.input) rows.1 ∙ applied b.plant.goal b.chosen.0 v b.chosen.2
 
-pub one_rank : OneTablePerText → OneRank
-one_rank one bytes x j k a b =
-    let rows = one_row one bytes a.plant b.plant a.rows b.rows x a.row b.row a.table b.table a.has b.has in
+pub one_rank : OneRank
+one_rank bytes x j k a b =
+    let rows = one_row bytes a.plant b.plant a.rows b.rows x a.row b.row a.table b.table a.has b.has in
     sym a.ranked ∙ ap (λ (r : Row). r.rank) rows.1 ∙ b.ranked

@@ -50,11 +50,11 @@ fn eval_values(e: &Expr, columns: &[[i64; LANES]], found: &mut [i64; LANES]) -> 
     match e {
         Expr::Num(k) => Some(LaneValues::Alike(narrow(*k)?)),
         Expr::Var(i) => Some(column_values(&columns[*i as usize], found)),
-        Expr::Add(a, b) => eval_combined(Binary::AddOp, a, b, columns, found),
-        Expr::Sub(a, b) => eval_combined(Binary::SubOp, a, b, columns, found),
-        Expr::Mul(a, b) => eval_combined(Binary::MulOp, a, b, columns, found),
-        Expr::Min(a, b) => eval_combined(Binary::MinOp, a, b, columns, found),
-        Expr::Max(a, b) => eval_combined(Binary::MaxOp, a, b, columns, found),
+        Expr::Add(a, b) => eval_values_binary(Binary::AddOp, a, b, columns, found),
+        Expr::Sub(a, b) => eval_values_binary(Binary::SubOp, a, b, columns, found),
+        Expr::Mul(a, b) => eval_values_binary(Binary::MulOp, a, b, columns, found),
+        Expr::Min(a, b) => eval_values_binary(Binary::MinOp, a, b, columns, found),
+        Expr::Max(a, b) => eval_values_binary(Binary::MaxOp, a, b, columns, found),
         Expr::Neg(a) => {
             let values = eval_values(a, columns, found)?;
             negate_values(values, found)
@@ -100,7 +100,7 @@ fn are_alike(column: &[i64; LANES]) -> bool
 
 /// The values of two expressions combined.
 #[cycle(values)]
-fn eval_combined(
+fn eval_values_binary(
     binary: Binary,
     a: &Expr,
     b: &Expr,

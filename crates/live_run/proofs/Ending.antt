@@ -4,7 +4,7 @@ use Rattle.std.specs.Prelude.{IfSome, IfErr}
 use Rattle.std.specs.Result.{IsErrAnd}
 use Rattle.std.proofs.lemmas.Bool.{cases_lt}
 use Rattle.std.proofs.lemmas.List.{take_all}
-use Rattle.run_devices.specs.Devices.{next_count, Reading, Writing, GainsWhole, GainsPart, TakesAtMost}
+use Rattle.run_devices.specs.Devices.{Reading, Writing, GainsWhole, GainsPart, TakesAtMost}
 use Rattle.run_devices.specs.Transfers.{ReadUpTo, IsUntouched}
 use Rattle.live_script.specs.declared.script_fault.ScriptFault.{ScriptFault}
 use Rattle.live_script.specs.declared.script_fault.ScriptFault.TheVariants as scripts
@@ -26,6 +26,7 @@ use Rattle.live_run.specs.inside.Answering.{IsUnanswered}
 use Rattle.live_run.specs.declared.live_stop.LiveStop.{LiveStop}
 use Rattle.live_run.specs.declared.live_stop.LiveStop.TheVariants.{Unread, Unanswered}
 use Rattle.live_run.specs.inside.LiveWorking.{IsRead, IsWorkedOut, IsUnread, IsStopped, end_of, IsWrittenOut}
+use Rattle.command_line.proofs.Shown.{shown_done, shown_cut_off, shown_refused, shown_unread, shown_without_memory}
 use Rattle.base.proofs.Options.{IfSome-weaker}
 
 -- ---- what was read stands for the whole script
@@ -73,14 +74,7 @@ ends_without_memory source out within stood untouched = record {
   read = λ _ some. absurd (some refl);
   never_past = within;
   refused = λ refusal e. absurd (let clash : Failed Memory ≡ Refused refusal = e in cc);
-  shown = record {
-    nothing_written = λ _ _. untouched.nothing;
-    read_fault = λ e. absurd (let clash : Failed Memory ≡ Failed Read = e in cc);
-    no_read_fault = λ _. stood;
-    sound_source = λ _ e. cc;
-    write_fault = λ e. absurd (let clash : Failed Memory ≡ Failed Write = e in cc);
-    no_write_fault = λ _. untouched.no_fault;
-  };
+  shown = shown_without_memory source out stood untouched;
 }
 
 -- nothing was read, or not all
@@ -92,14 +86,7 @@ ends_unread reads.Device source out h untouched = record {
   read = λ other _. absurd (other refl);
   never_past = h.never_past;
   refused = λ refusal e. absurd (let clash : Failed Read ≡ Refused refusal = e in cc);
-  shown = record {
-    nothing_written = λ _ _. untouched.nothing;
-    read_fault = λ _. h.failed refl;
-    no_read_fault = λ other. absurd (other refl);
-    sound_source = λ is_sound _. h.sound is_sound refl;
-    write_fault = λ e. absurd (let clash : Failed Read ≡ Failed Write = e in cc);
-    no_write_fault = λ _. untouched.no_fault;
-  };
+  shown = shown_unread source out (h.failed refl) (λ is_sound. h.sound is_sound refl) untouched;
 }
 ends_unread reads.Memory source out h untouched = ends_without_memory source out h.never_past (h.stood (λ e. cc)) untouched
 
@@ -112,14 +99,7 @@ ends_refused fault refusal source read out same is h untouched = record {
   read = λ _ _. to_the_limit source.before source.after read is.up_to;
   never_past = is.never_past;
   refused = λ _ _. (fault, sym same, of_whole (λ script. IsScriptRefusedFor script fault) source.before source.after read is.up_to (refuses_whole fault) h);
-  shown = record {
-    nothing_written = λ _ _. untouched.nothing;
-    read_fault = λ e. absurd (let clash : Refused refusal ≡ Failed Read = e in cc);
-    no_read_fault = λ _. is.no_fault;
-    sound_source = λ _ e. cc;
-    write_fault = λ e. absurd (let clash : Refused refusal ≡ Failed Write = e in cc);
-    no_write_fault = λ _. untouched.no_fault;
-  };
+  shown = shown_refused refusal source out is.no_fault untouched;
 }
 
 -- what was read has no answers
@@ -142,14 +122,7 @@ ends_done text source read out is answers whole = record {
   read = λ _ _. to_the_limit source.before source.after read is.up_to;
   never_past = is.never_past;
   refused = λ refusal e. absurd (let clash : Done ≡ Refused refusal = e in cc);
-  shown = record {
-    nothing_written = λ not_done _. absurd (not_done refl);
-    read_fault = λ e. absurd (let clash : Done ≡ Failed Read = e in cc);
-    no_read_fault = λ _. is.no_fault;
-    sound_source = λ _ e. cc;
-    write_fault = λ e. absurd (let clash : Done ≡ Failed Write = e in cc);
-    no_write_fault = λ _. whole.no_fault;
-  };
+  shown = shown_done source out text is.no_fault whole;
 }
 
 ends_cut_off : (text : List ℕ) (source : Reading) (read : List ℕ) (out : Writing) → IsRead source read → IsLiveText read text → GainsPart out text → IsLiveEnd (Failed Write) source out
@@ -160,14 +133,7 @@ ends_cut_off text source read out is answers part = record {
   read = λ _ _. to_the_limit source.before source.after read is.up_to;
   never_past = is.never_past;
   refused = λ refusal e. absurd (let clash : Failed Write ≡ Refused refusal = e in cc);
-  shown = record {
-    nothing_written = λ _ other. absurd (other refl);
-    read_fault = λ e. absurd (let clash : Failed Write ≡ Failed Read = e in cc);
-    no_read_fault = λ _. is.no_fault;
-    sound_source = λ _ e. cc;
-    write_fault = λ _. part.fault;
-    no_write_fault = λ other. absurd (other refl);
-  };
+  shown = shown_cut_off source out text is.no_fault part;
 }
 
 pub ends_written_out : (outcome : Outcome) (text : List ℕ) (source : Reading) (out : Writing) → IsWorkedOut text source → IsWrittenOut text outcome out → IsLiveEnd outcome source out

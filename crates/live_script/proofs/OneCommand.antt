@@ -1,21 +1,15 @@
 -- Bytes begin with one command at most.
-use Rattle.std.proofs.Common.{◌≡◌, ℕ, ◌≤◌, List, [], ◌∷◌, ◌++◌, length, take, drop, Option, refl, ap, sym, ◌∙◌, subst, arith, append_assoc}
+use Rattle.std.proofs.Common.{◌≡◌, ℕ, ◌≤◌, List, [], ◌∷◌, ◌++◌, length, take, drop, refl, ap, sym, ◌∙◌, subst, arith, append_assoc}
 use Rattle.std.specs.Prelude.{ℤ}
-use Rattle.std.specs.List.{All, concat}
+use Rattle.std.specs.List.{All}
 use Rattle.std.specs.Fmt.{signed_decimal}
 use Rattle.std.proofs.Math.Seq.{take-append_seam, drop-append_seam}
 use Rattle.std.proofs.lemmas.List.Elements.{All-head, All-tail}
-use Rattle.plant_record.specs.Description.{Description}
 use Rattle.plant_record.specs.Numbers.{IsLiteral}
-use Rattle.plant_reading.proofs.lemmas.StatementLaws.{one_statement}
-use Rattle.plant_text.proofs.lemmas.CanonicalFronts as fronts
 use Rattle.controller_table.specs.Tables.{TableModel, IsTable, IsTableIn}
-use Rattle.controller_table.specs.Laws.{OneTablePerText}
 use Rattle.row_runs.specs.declared.run.TableVersion.{TableVersion}
 use Rattle.row_runs.specs.declared.run.TableVersion.TheVariants.{First, Second}
-use Rattle.game_core.specs.declared.game.Row.{Row}
-use Rattle.plant_writing.specs.CanonicalText.{text_of}
-use Rattle.controller_table.specs.TableText.{table_text, version_line, lines_after}
+use Rattle.controller_table.specs.TableText.{table_text}
 use Rattle.controller_table.proofs.OneTable as tables
 use Rattle.controller_table.proofs.ShortTables as short
 use Rattle.live_script.specs.declared.command.ScriptCommand.{ScriptCommand}
@@ -29,9 +23,6 @@ use Rattle.live_script.proofs.QuestionLines.{line_opened, begins, after_word}
 use Rattle.live_script.proofs.TableLines.{one_announced, not_asked}
 
 -- ---- tables
-
-pub one_table : OneTablePerText
-one_table = tables.one_table (fronts.one_plant_at_the_front one_statement)
 
 some_byte : (text : List ℕ) (t : TableModel) → IsTable text t.plant t.rows → 1 ≤ length text
 some_byte text t is = longer is.version (ap length is.text)
@@ -55,16 +46,11 @@ one_text v w s t size e = (
   sym (drop-append_seam v s) ∙ ap (drop (length v)) e ∙ ap (λ (n : ℕ). drop n (w ++ t)) size ∙ drop-append_seam w t,
 )
 
-same_version : (text : List ℕ) (p q : Description) (rows others : List (Option Row)) (h : IsTable text p rows) (k : IsTable text q others) → h.version ≡ k.version
-same_version text p q rows others h k =
-    (tables.one_version h.version k.version (text_of p ++ concat (lines_after h.version p.goal rows)) (text_of q ++ concat (lines_after k.version q.goal others))
-    (sym (append_assoc (version_line h.version) (text_of p) (concat (lines_after h.version p.goal rows))) ∙ sym h.text ∙ k.text ∙ append_assoc (version_line k.version) (text_of q) (concat (lines_after k.version q.goal others)))).0
-
 -- one table in one version is read from a text
 same_table : (text : List ℕ) (t u : TableModel) → IsTableIn t.version text t.plant t.rows → IsTableIn u.version text u.plant u.rows → t ≡ u
 same_table text t u h k =
-    let one = one_table text t.plant u.plant t.rows u.rows h.0 k.0 in
-    let version : t.version ≡ u.version = sym h.1 ∙ same_version text t.plant u.plant t.rows u.rows h.0 k.0 ∙ k.1 in
+    let one = tables.one_table text t.plant u.plant t.rows u.rows h.0 k.0 in
+    let version : t.version ≡ u.version = sym h.1 ∙ one.2 ∙ k.1 in
     λ i. record { version = version i; plant = one.0 i; rows = one.1 i }
 
 -- ---- questions

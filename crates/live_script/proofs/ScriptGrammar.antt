@@ -1,16 +1,15 @@
 -- Scripts are a grammar: bytes begin with one command at most.
-use Rattle.std.proofs.Common.{◌≡◌, ℕ, ◌≤◌, List, [], ◌∷◌, ◌++◌, length, length-append, get_or, refl, sym, ap, subst, ◌∙◌, arith}
-use Rattle.std.specs.Prelude.{ℤ, codes}
+use Rattle.std.proofs.Common.{◌≡◌, ℕ, ◌<◌, ◌≤◌, List, [], ◌∷◌, ◌++◌, length, length-append, refl, sym, ap, subst, ◌∙◌, arith}
+use Rattle.std.specs.Prelude.{ℤ}
 use Rattle.std.proofs.lemmas.List.{append_cancel_right}
 use Rattle.controller_table.specs.Tables.{TableModel}
 use Rattle.read_texts.specs.Steps.{IsGrammar}
 use Rattle.live_script.specs.declared.command.ScriptCommand.{ScriptCommand}
 use Rattle.live_script.specs.declared.command.ScriptCommand.TheVariants.{Publish, Ask}
-use Rattle.live_script.specs.Scripts.{Spell, FitsAfter, published_tables, CommandStep, IsScriptEnd}
+use Rattle.live_script.specs.Scripts.{publish_line, ask_line, Spell, FitsAfter, published_tables, CommandStep, IsScriptEnd}
 use Rattle.live_script.specs.inside.QuestionWords.{spaced}
 use Rattle.live_script.proofs.OneCommand.{announces, one_command}
 use Rattle.live_script.proofs.QuestionLines.{line_opened}
-use Rattle.live_script.proofs.TableLines.{announced_is_some}
 
 -- ---- the tables of one command more
 
@@ -37,10 +36,9 @@ still_few commands (Ask numbers) few fits = omega (arith, few, ap length (publis
 
 -- ---- the grammar
 
-some_bytes : (first : List ℕ) (c : ScriptCommand) → Spell first c → (rest : List ℕ) → [] ≡ first ++ rest → ⊥
-some_bytes first (Publish t) spells rest none = announced_is_some (first ++ rest) (length spells.text) (spells.text ++ rest) (announces t first rest spells) (sym none)
-some_bytes first (Ask xs) spells rest none =
-    let asked : [] ≡ codes "ask" ++ (spaced xs ++ 10 ∷ rest) = none ∙ ap (λ (x : List ℕ). x ++ rest) spells.1 ∙ line_opened xs rest in omega (arith, ap (λ (x : List ℕ). get_or x 0 0) asked)
+pub some_bytes : (first : List ℕ) (c : ScriptCommand) → Spell first c → 0 < length first
+some_bytes first (Publish t) h = omega (arith, ap length h.are, length-append (publish_line (length h.text)) h.text, (announces t first [] h).some)
+some_bytes first (Ask xs) h = omega (arith, ap length h.1, ap length (line_opened xs []), length-append (ask_line xs) [], length-append (spaced xs) (10 ∷ []))
 
 one_piece : (x y : List ℕ) (c d : ScriptCommand) (rest others : List ℕ) → Spell x c → Spell y d → x ++ rest ≡ y ++ others → x ≡ y
 one_piece x y c d rest others first second e = append_cancel_right x y rest (e ∙ ap (λ (z : List ℕ). y ++ z) (sym (one_command x y c d rest others first second e).rest))
@@ -53,6 +51,6 @@ scripts_are_grammar = record {
   one_piece = λ q m n x y rest others few a b e. one_piece x y a.0 b.0 rest others a.1 b.1 e;
   one_state = λ q m n x few a b. one_state q m n x a b;
   met = λ q m x few step. subst HasFewTables (sym step.3) (still_few q step.0 few step.2);
-  some = λ q m behind few step. some_bytes [] step.0 step.1 [] refl;
-  ends = λ q rest few over piece behind r cut step. some_bytes piece step.0 step.1 behind (sym over.0 ∙ cut);
+  some = λ q m behind few step. omega (arith, some_bytes [] step.0 step.1);
+  ends = λ q rest few over piece behind r cut step. omega (arith, some_bytes piece step.0 step.1, ap length over.0, ap length cut, length-append piece behind);
 }

@@ -8,7 +8,7 @@ use Rattle.controller_table.specs.TableRefusals.{IsTableRefusedFor}
 use Rattle.row_reading.proofs.Digits.{one_number}
 use Rattle.live_script.specs.declared.script_fault.ScriptFault.TheVariants.{Memory}
 use Rattle.live_script.specs.Scripts.{publish_line, ask_line}
-use Rattle.live_script.specs.ScriptRefusals.{Announce, IsMalformedAfter, IsRefusedAfter}
+use Rattle.live_script.specs.ScriptRefusals.{Announce, IsMalformedAfter, IsTableRefusedAfter, IsRefusedAfter}
 use Rattle.live_script.specs.inside.Faults.{of_table}
 use Rattle.live_script.specs.inside.QuestionWords.{BeginsWithSeparator, IsNumberAt, spaced}
 use Rattle.live_script.proofs.WordsCut.{one_number_at}
@@ -84,10 +84,16 @@ ends_too_early count size bytes few some most short = record {
 
 -- ---- a text that is refused
 
+pub refused_after : (count number : ℕ) (bytes : List ℕ) (f : TableFault) → IsTableRefusedAfter count bytes f → IsRefusedAfter count number bytes (of_table number f)
+refused_after count number bytes (tables.Malformed line) r = inr (line, refl, r)
+refused_after count number bytes (tables.Limit what) r = r
+refused_after count number bytes tables.Memory r = absurd r.refused
+
 -- the fault of a table's text is the script's, after so many lines
 pub table_refused : (count number size : ℕ) (bytes text rest : List ℕ) (fault : TableFault) → count < 8 → 1 ≤ size → size ≤ 67108864 → length text ≡ size → bytes ≡ text ++ rest
     → ((fault ≡ tables.Memory → ⊥) → IsTableRefusedFor text fault) → (of_table number fault ≡ Memory → ⊥) → IsRefusedAfter count number (publish_line size ++ bytes) (of_table number fault)
-table_refused count number size bytes text rest fault few some most long cut refused = by_fault fault refused
+table_refused count number size bytes text rest fault few some most long cut refused other =
+    refused_after count number (publish_line size ++ bytes) fault (record { few = few; text = text; rest = rest; announced = told; refused = refused (λ e. other (ap (of_table number) e)) })
   where
     told : Announce (publish_line size ++ bytes) (length text) (text ++ rest)
     told = record {
@@ -95,8 +101,3 @@ table_refused count number size bytes text rest fault few some most long cut ref
       most = omega (arith, most, long);
       are = ap (λ (n : ℕ). publish_line n ++ bytes) (sym long) ∙ ap (λ (x : List ℕ). publish_line (length text) ++ x) cut;
     }
-
-    by_fault : (f : TableFault) → ((f ≡ tables.Memory → ⊥) → IsTableRefusedFor text f) → (of_table number f ≡ Memory → ⊥) → IsRefusedAfter count number (publish_line size ++ bytes) (of_table number f)
-    by_fault (tables.Malformed line) h other = inr (line, refl, record { few = few; text = text; rest = rest; announced = told; refused = h (λ e. cc) })
-    by_fault (tables.Limit what) h other = record { few = few; text = text; rest = rest; announced = told; refused = h (λ e. cc) }
-    by_fault tables.Memory h other = absurd (other refl)

@@ -1,5 +1,5 @@
 -- A command is taken from the front of a script.
-use Rattle.std.proofs.Common.{◌≡◌, ℕ, ◌+◌, ◌<◌, List, ◌∷◌, ◌++◌, length, refl, ap, sym, ◌∙◌, arith, append_assoc, length-append}
+use Rattle.std.proofs.Common.{◌≡◌, ℕ, ◌+◌, ◌<◌, List, ◌++◌, length, refl, ap, sym, ◌∙◌, arith, append_assoc, length-append}
 use Rattle.std.specs.Prelude.{ℤ}
 use Rattle.controller_table.specs.Tables.{TableModel, IsTableIn}
 use Rattle.row_reading.specs.Counting.{line_count}
@@ -8,9 +8,8 @@ use Rattle.command_line.specs.Command.{AreStateNumbers}
 use Rattle.live_script.specs.Scripts.{publish_line, ask_line}
 use Rattle.live_script.specs.ScriptRefusals.{Announce}
 use Rattle.live_script.specs.ScriptReading.{IsTaken}
-use Rattle.live_script.specs.inside.QuestionWords.{spaced}
 use Rattle.live_script.proofs.Counting.{one_in_question, one_before_table}
-use Rattle.live_script.proofs.QuestionLines.{line_opened}
+use Rattle.live_script.proofs.ScriptGrammar.{some_bytes}
 
 pub table_taken : (tables line size : ℕ) (bytes after text rest : List ℕ) (t : TableModel) (count : ℕ) → Announce bytes size after → tables < 8 → IsTableIn t.version text t.plant t.rows → length text ≡ size → after ≡ text ++ rest → count ≡ line_count text
     → IsTaken (record { tables = tables; line = line; rest = bytes }) (Publish t) (record { tables = tables + 1; line = line + (1 + count); rest = rest })
@@ -36,8 +35,5 @@ question_taken tables line bytes rest numbers some question at = record {
   fits = some;
   tables = refl;
   line = ap (λ (n : ℕ). line + n) (sym (one_in_question numbers question));
-  shorter = omega (arith, ap length at, length-append (ask_line numbers) rest, some_bytes);
+  shorter = omega (arith, ap length at, length-append (ask_line numbers) rest, some_bytes (ask_line numbers) (Ask numbers) (question, refl));
 }
-  where
-    some_bytes : 0 < length (ask_line numbers)
-    some_bytes = omega (arith, ap length (line_opened numbers rest), length-append (ask_line numbers) rest, length-append (spaced numbers) (10 ∷ rest))

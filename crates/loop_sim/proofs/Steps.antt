@@ -12,7 +12,7 @@ use Rattle.plant_record.specs.Steps.{IsNoise, step_of, StepStaysInRange}
 use Rattle.successor_box.specs.Deviations.{HasNoOverflow}
 use Rattle.successor_box.proofs.Steps.{step_stays}
 use Rattle.controller_table.specs.Tables.{TableModel, IsRowOf, RowsFit}
-use Rattle.table_control.proofs.Fitting.{row_fits as fits}
+use Rattle.controller_table.proofs.OneRow.{row_fits as fits}
 use Rattle.loop_sim.specs.Noise.{generator, noises_at, noises_from}
 use Rattle.loop_sim.specs.Trace.{row_at, trace_lines}
 use Rattle.loop_sim.specs.inside.Stages.{lines_on}

@@ -10,8 +10,6 @@ use Rattle.plant_record.specs.declared.aims.GoalKind.TheVariants.{Reach, Keep}
 use Rattle.plant_record.specs.Description.{Description}
 use Rattle.plant_record.specs.Steps.{step_of, IsNoise}
 use Rattle.controller_table.specs.Choice.{Applies, HasRowAt, HasRank}
-use Rattle.plant_reading.proofs.lemmas.StatementLaws.{one_statement}
-use Rattle.plant_text.proofs.lemmas.CanonicalFronts.{one_plant_at_the_front}
 use Rattle.controller_table.specs.Tables.{IsTable}
 use Rattle.controller_table.proofs.OneTable.{one_table}
 use Rattle.plant_refine.specs.Drives.{Comes, Drives}
@@ -26,7 +24,7 @@ applies Keep k u = refl
 -- the row that the bytes have at a state is that of the table
 pub row_of_table : (bytes : List ℕ) (p : Description) (rows : List (Option Row)) (x : List ℤ) (k : ℕ) → IsTable bytes p rows → HasRank bytes x k → (row : Row) × HasRowAt p rows x row × (row.rank ≡ k)
 row_of_table bytes p rows x k table h =
-    let same = one_table (one_plant_at_the_front one_statement) bytes h.plant p h.rows rows h.table table in
+    let same = one_table bytes h.plant p h.rows rows h.table table in
     let has : HasRowAt p h.rows x h.row = subst (λ (q : Description). HasRowAt q h.rows x h.row) same.0 h.has in
     (h.row, subst (λ (r : List (Option Row)). HasRowAt p r x h.row) same.1 has, h.ranked)
 

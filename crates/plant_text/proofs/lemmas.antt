@@ -6,10 +6,8 @@ pub mod CanonicalTrees
 pub mod CanonicalWords
 pub mod ExpressionTokens
 pub mod FrontGrammar
-pub mod FrontLineByLine
-pub mod LineByLine
-pub mod LineFaults
 pub mod LineGrammar
+pub mod LineFaults
 pub mod LinesLead
 pub mod Lists
 pub mod PlantLines

@@ -1,5 +1,5 @@
 -- One reading, one first refusal, never both and never neither.
-use Rattle.std.proofs.Common.{inl, inr, ◌≡◌, ◌⊎◌, ℕ, zero, suc, ◌<◌, ◌≤◌, List, [], ◌∷◌, ◌++◌, length, refl, sym, ap, ◌∙◌, append_assoc, append-nil, length-append, subst, arith}
+use Rattle.std.proofs.Common.{inl, inr, ◌≡◌, ◌⊎◌, ℕ, zero, suc, ◌+◌, ◌<◌, ◌≤◌, List, [], ◌∷◌, ◌++◌, length, refl, sym, ap, ◌∙◌, append_assoc, append-nil, length-append, subst, arith}
 use Rattle.std.specs.List.{concat}
 use Rattle.std.proofs.lemmas.List.{append_cancel_left}
 use Rattle.read_texts.specs.Steps.{joined, Leads, IsRead, IsStuck, IsReading, IsFirstRefused, IsGrammar}
@@ -44,6 +44,16 @@ read_on {A = A} Step from to r text rest piece after pieces read cut step = reco
       ∙ ap (λ (x : List A). x ++ after) (sym (joined_more pieces piece));
 }
 
+-- what each step keeps holds of the state that a way leads to
+pub kept : {S A : Type 0} (Step : S → List A → S → Type 0) (Is : S → Type 0) → ((q m : S) (x : List A) → Is q → Step q x m → Is m) → (q : S) (pieces : List (List A)) (r : S) → Is q → Leads Step q pieces r → Is r
+kept Step Is keep q [] r is leads = subst Is (sym leads) is
+kept Step Is keep q (x ∷ pieces) r is leads = kept Step Is keep leads.0 pieces r (keep q leads.0 x is leads.1) leads.2
+
+-- a way has no more pieces than its steps take from a number
+pub few_pieces : {S A : Type 0} (Step : S → List A → S → Type 0) (left : S → ℕ) → ((q m : S) (x : List A) → Step q x m → left m < left q) → (q r : S) (pieces : List (List A)) → Leads Step q pieces r → length pieces + left r ≤ left q
+few_pieces Step left less q r [] leads = omega (arith, ap left leads)
+few_pieces Step left less q r (x ∷ pieces) leads = omega (arith, less q leads.0 x leads.1, few_pieces Step left less leads.0 r pieces leads.2)
+
 -- The second way goes on where the first ends.
 pub record GoesOn {S A : Type 0} (Step : S → List A → S → Type 0) (first second : List (List A)) (m n : S) (rest others : List A) : Type 0 where
   pub more : List (List A)
@@ -62,15 +72,7 @@ further {A = A} Step x y first second m n rest others e g = record {
 module _ {S A : Type 0} (Step : S → List A → S → Type 0) (Closed : S → List A → Type 0) (IsMet : S → Type 0) (grammar : IsGrammar Step Closed IsMet) where
   -- the state that a way leads to is met
   pub met : (q : S) (pieces : List (List A)) (r : S) → IsMet q → Leads Step q pieces r → IsMet r
-  met q [] r is leads = subst IsMet (sym leads) is
-  met q (x ∷ pieces) r is leads = met leads.0 pieces r (grammar.met q leads.0 x is leads.1) leads.2
-
-  -- pieces lead to one state
-  pub led_once : (q : S) (pieces : List (List A)) (m n : S) → IsMet q → Leads Step q pieces m → Leads Step q pieces n → m ≡ n
-  led_once q [] m n is a b = a ∙ sym b
-  led_once q (x ∷ pieces) m n is a b =
-      let state : b.0 ≡ a.0 = grammar.one_state q b.0 a.0 x is b.1 a.1 in
-      led_once a.0 pieces m n (grammar.met q a.0 x is a.1) a.2 (subst (λ (z : S). Leads Step z pieces n) state b.2)
+  met q pieces r is leads = kept Step IsMet grammar.met q pieces r is leads
 
   -- of two ways through the same text one goes on where the other ends
   pub one_way : (q : S) (first second : List (List A)) (m n : S) (rest others : List A) → IsMet q → Leads Step q first m → Leads Step q second n → joined first ++ rest ≡ joined second ++ others
@@ -177,8 +179,21 @@ module _ {S A : Type 0} (Step : S → List A → S → Type 0) (Closed : S → L
   decided look from text is = some_outcome (Outcome from text) (λ q rest here then. then (look q rest here)) from text is (λ o. o)
 
   -- and that there is one can't be denied in any case
-  pub undeniable : (from : S) (text : List A) → IsMet from → (Outcome from text → ⊥) → ⊥
-  undeniable from text is deny = some_outcome ⊥ look from text is deny
+  pub undeniable : (from : S) (text : List A) → IsMet from → ((to : S) (rest : List A) → IsReading Step Closed from text to rest → ⊥) → ((n : ℕ) → IsFirstRefused Step Closed from text n → ⊥) → ⊥
+  undeniable from text is unread unrefused = some_outcome ⊥ look from text is by
     where
       look : (q : S) (rest : List A) → IsMet q → (Look q rest → ⊥) → ⊥
       look q rest here deny = deny (is_stuck (λ piece after r cut step. deny (leads_on piece after r cut step)) (λ closed. deny (is_closed closed)))
+
+      by : Outcome from text → ⊥
+      by (is_read to rest reading) = unread to rest reading
+      by (is_refused n refused) = unrefused n refused
+
+-- ---- texts of a length at most
+
+-- a text is too long, or short and refused for something: it has one reason, where a short text has one
+pub one_by_length : {Fault : Type 0} (Short A B : Type 0) (long f g : Fault) → ((f ≡ long) × (Short → ⊥)) ⊎ (Short × A) → ((g ≡ long) × (Short → ⊥)) ⊎ (Short × B) → (A → B → f ≡ g) → f ≡ g
+one_by_length Short A B long f g (inl far) (inl also) same = far.0 ∙ sym also.0
+one_by_length Short A B long f g (inl far) (inr b) same = absurd (far.1 b.0)
+one_by_length Short A B long f g (inr a) (inl far) same = absurd (far.1 a.0)
+one_by_length Short A B long f g (inr a) (inr b) same = same a.1 b.1

@@ -1,27 +1,29 @@
 -- What is read of lines of rows, and which line is refused.
-use Rattle.std.proofs.Common.{◌≡◌, ℕ, zero, suc, ◌+◌, ◌^◌, ◌≤◌, List, [], ◌∷◌, ◌++◌, length, length-append, Option, Some, None, refl, sym, ap, subst, ◌∙◌, append_assoc, append-nil, arith}
+use Rattle.std.proofs.Common.{◌≡◌, ℕ, suc, ◌+◌, ◌<◌, ◌≤◌, List, [], ◌∷◌, ◌++◌, length, length-append, Option, None, refl, sym, ap, ◌∙◌, append_assoc, append-nil, arith}
 use Rattle.std.specs.List.{concat}
 use Rattle.std.proofs.lemmas.List.Folds.{concat-append}
 use Rattle.game_core.specs.declared.game.Row.{Row}
-use Rattle.row_runs.specs.declared.run.Run.{Run}
 use Rattle.row_runs.specs.RunText.{count_line, end_line}
-use Rattle.read_texts.specs.Steps.{joined, Leads, IsRead}
-use Rattle.read_texts.proofs.Laws.{joined_bytes, both_ways, other_steps}
+use Rattle.read_texts.specs.Steps.{joined}
+use Rattle.read_texts.proofs.Laws.{joined_bytes, other_steps, few_pieces}
 use Rattle.row_reading.specs.declared.row_rules.RowRules.{RowRules}
 use Rattle.row_reading.specs.RowsTexts.{row_lines, counted_lines, IsRowsText, AreRowsAt}
-use Rattle.row_reading.specs.RowSteps.{RowState, Begin, Due, Done, RunStep, RowStep, IsOver, IsRowRefused, IsRunRefused}
+use Rattle.row_reading.specs.RowSteps.{RowState, Begin, Due, Done, RunStep, RowStep, IsRowRefused, IsRunRefused}
 use Rattle.row_reading.proofs.RowGrammar.{IsDue, stays_due, row_step, stuck_too, not_over}
-use Rattle.row_reading.proofs.RowsRead.{counted_lead, all_lead, few_lines}
+use Rattle.row_reading.proofs.RowsRead.{counted_lead, all_lead}
 
-few_pieces : (rules : RowRules) (n : ℕ) (last : Option Run) (pieces : List (List ℕ)) (to : RowState) → Leads (RunStep rules) (Due n last) pieces to → length pieces ≤ n
-few_pieces rules n last [] to leads = omega arith
-few_pieces rules zero last (x ∷ pieces) to leads = absurd leads.1
-few_pieces rules (suc n) last (x ∷ pieces) to leads =
-    let less = few_pieces rules n (Some leads.1.0) pieces to (subst (λ (q : RowState). Leads (RunStep rules) q pieces to) leads.1.2 leads.2) in
-    omega (arith, less)
+-- how many row lines are due
+abbrev due_at : RowState → ℕ
+due_at Begin = 0
+due_at (Due n last) = n
+due_at Done = 0
+
+takes_one : (rules : RowRules) (q m : RowState) (x : List ℕ) → RunStep rules q x m → due_at m < due_at q
+takes_one rules (Due (suc n) last) m x h = omega (arith, ap due_at h.2)
+takes_one rules q m x h = absurd h
 
 pub few_refused : (rules : RowRules) (count : ℕ) (bytes : List ℕ) (n : ℕ) → IsRunRefused rules count bytes n → n ≤ count + 1
-few_refused rules count bytes n r = omega (arith, r.next, few_pieces rules count None r.pieces r.to (r.read).leads)
+few_refused rules count bytes n r = omega (arith, r.next, few_pieces (RunStep rules) due_at (takes_one rules) (Due count None) r.to r.pieces (r.read).leads)
 
 module _ (rules : RowRules) (bytes : List ℕ) where
   pub no_count : ((y : ℕ × List ℕ) → (y.0 ≤ rules.cells) × (bytes ≡ count_line y.0 ++ y.1) → ⊥) → IsRowRefused rules bytes 1

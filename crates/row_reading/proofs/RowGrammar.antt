@@ -1,16 +1,16 @@
 -- The lines of rows are a grammar: each is one line, and tells one thing.
-use Rattle.std.proofs.Common.{◌≡◌, ℕ, zero, suc, ◌+◌, ◌^◌, ◌<◌, ◌≤◌, List, [], ◌∷◌, ◌++◌, length, length-append, Option, Some, None, refl, sym, ap, subst, ◌∙◌, arith}
+use Rattle.std.proofs.Common.{◌≡◌, ℕ, zero, suc, ◌+◌, ◌^◌, ◌<◌, ◌≤◌, List, [], length, length-append, Option, Some, None, sym, ap, subst, ◌∙◌, arith}
 use Rattle.std.specs.Prelude.{codes}
 use Rattle.row_runs.specs.declared.run.Run.{Run}
 use Rattle.row_runs.specs.Runs.{HasCells}
-use Rattle.row_runs.specs.RunText.{run_line, count_line, end_line}
 use Rattle.row_runs.proofs.RunLaws.{forward}
 use Rattle.row_runs.proofs.Lines.{IsLine, one_line}
 use Rattle.row_runs.proofs.RunWords.{count_is_line, end_is_line}
 use Rattle.read_texts.specs.Steps.{Leads, IsStuck, IsGrammar}
+use Rattle.read_texts.proofs.Laws.{kept, few_pieces}
 use Rattle.row_reading.specs.declared.row_rules.RowRules.{RowRules}
 use Rattle.row_reading.specs.RowsTexts.{IsRunWithin}
-use Rattle.row_reading.specs.RowSteps.{RowState, Begin, Due, Done, MayStandAfter, IsNextRow, RunStep, AreAll, RowStep, IsOver}
+use Rattle.row_reading.specs.RowSteps.{RowState, Begin, Due, Done, IsNextRow, RunStep, AreAll, RowStep, IsOver}
 use Rattle.row_reading.specs.inside.RunReading.{IsSpelled, AreSmall}
 use Rattle.row_reading.proofs.RunWords.{count_same, run_is_line, run_same}
 
@@ -51,9 +51,8 @@ module _ (rules : RowRules) (small : AreSmall rules) where
   one_state Done m n x a b = absurd a
 
   stops : (q : RowState) (rest : List ℕ) → IsOver q rest → IsStuck (RowStep rules) q rest
-  stops Begin rest over piece after r cut step = over
-  stops (Due n last) rest over piece after r cut step = over
   stops Done rest over piece after r cut step = step
+  stops q rest over piece after r cut step = over
 
   pub rows_are_grammar : IsGrammar (RowStep rules) IsOver (λ q. Unit {0})
   rows_are_grammar = record {
@@ -72,51 +71,38 @@ IsDue (Due n last) = Unit {0}
 IsDue Done = ⊥
 
 module _ (rules : RowRules) where
-  due_next : (q m : RowState) (x : List ℕ) → RunStep rules q x m → IsDue m
-  due_next Begin m x h = absurd h
-  due_next (Due zero last) m x h = absurd h
-  due_next (Due (suc n) last) m x h = subst IsDue (sym h.2) tt
-  due_next Done m x h = absurd h
+  due_next : (q m : RowState) (x : List ℕ) → IsDue q → RunStep rules q x m → IsDue m
+  due_next (Due (suc n) last) m x due h = subst IsDue (sym h.2) tt
+  due_next q m x due h = absurd h
 
   pub stays_due : (q r : RowState) (pieces : List (List ℕ)) → IsDue q → Leads (RunStep rules) q pieces r → IsDue r
-  stays_due q r [] due leads = subst IsDue (sym leads) due
-  stays_due q r (x ∷ pieces) due leads = stays_due leads.0 r pieces (due_next q leads.0 x leads.1) leads.2
+  stays_due q r pieces due leads = kept (RunStep rules) IsDue due_next q pieces r due leads
 
   pub row_step : (q m : RowState) (x : List ℕ) → RunStep rules q x m → RowStep rules q x m
-  row_step Begin m x h = absurd h
-  row_step (Due zero last) m x h = absurd h
   row_step (Due (suc n) last) m x h = h
-  row_step Done m x h = absurd h
+  row_step q m x h = absurd h
 
   pub stuck_too : (q : RowState) (rest : List ℕ) → IsDue q → (AreAll q rest → ⊥) → IsStuck (RunStep rules) q rest → IsStuck (RowStep rules) q rest
-  stuck_too Begin rest due unclosed stuck = absurd due
   stuck_too (Due zero last) rest due unclosed stuck = absurd (unclosed tt)
   stuck_too (Due (suc n) last) rest due unclosed stuck = stuck
-  stuck_too Done rest due unclosed stuck = absurd due
+  stuck_too q rest due unclosed stuck = absurd due
 
   pub not_over : (q : RowState) (rest : List ℕ) → IsDue q → IsOver q rest → ⊥
-  not_over Begin rest due over = over
-  not_over (Due n last) rest due over = over
   not_over Done rest due over = due
+  not_over q rest due over = over
 
   -- ---- how many lines there may be
 
-  few_done : (pieces : List (List ℕ)) (to : RowState) → Leads (RowStep rules) Done pieces to → length pieces ≡ 0
-  few_done [] to leads = refl
-  few_done (x ∷ pieces) to leads = absurd leads.1
+  abbrev pub left : RowState → ℕ
+  left Begin = rules.cells + 2
+  left (Due n last) = n + 1
+  left Done = 0
 
-  few_due : (n : ℕ) (last : Option Run) (pieces : List (List ℕ)) (to : RowState) → Leads (RowStep rules) (Due n last) pieces to → length pieces ≤ n + 1
-  few_due n last [] to leads = omega arith
-  few_due zero last (x ∷ pieces) to leads =
-      let none = few_done pieces to (subst (λ (q : RowState). Leads (RowStep rules) q pieces to) leads.1.1 leads.2) in
-      omega (arith, none)
-  few_due (suc n) last (x ∷ pieces) to leads =
-      let less = few_due n (Some leads.1.0) pieces to (subst (λ (q : RowState). Leads (RowStep rules) q pieces to) leads.1.2 leads.2) in
-      omega (arith, less)
+  takes : (q m : RowState) (x : List ℕ) → RowStep rules q x m → left m < left q
+  takes Begin m x h = omega (arith, ap left h.3, h.1)
+  takes (Due zero last) m x h = omega (arith, ap left h.1)
+  takes (Due (suc n) last) m x h = omega (arith, ap left h.2)
+  takes Done m x h = absurd h
 
-  pub few_lines : (pieces : List (List ℕ)) (to : RowState) → Leads (RowStep rules) Begin pieces to → length pieces ≤ rules.cells + 2
-  few_lines [] to leads = omega arith
-  few_lines (x ∷ pieces) to leads =
-      let less = few_due leads.1.0 None pieces to (subst (λ (q : RowState). Leads (RowStep rules) q pieces to) leads.1.3 leads.2) in
-      let most = leads.1.1 in
-      omega (arith, less, most)
+  pub few_lines : (q : RowState) (pieces : List (List ℕ)) (to : RowState) → Leads (RowStep rules) q pieces to → length pieces + left to ≤ left q
+  few_lines q pieces to leads = few_pieces (RowStep rules) left takes q to pieces leads

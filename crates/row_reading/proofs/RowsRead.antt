@@ -1,5 +1,5 @@
 -- Rows that lines tell, and the way along these lines.
-use Rattle.std.proofs.Common.{inl, inr, ◌≡◌, ◌⊎◌, ℕ, zero, suc, ◌+◌, ◌<◌, ◌≤◌, List, [], ◌∷◌, ◌++◌, length, map, Option, Some, None, refl, sym, ap, subst, ◌∙◌, append_assoc, append-nil, arith}
+use Rattle.std.proofs.Common.{inl, inr, ◌≡◌, ℕ, suc, ◌+◌, ◌<◌, ◌≤◌, List, [], ◌∷◌, ◌++◌, length, map, Option, Some, None, refl, sym, ap, subst, ◌∙◌, append-nil, arith}
 use Rattle.std.specs.Prelude.{IfSome}
 use Rattle.std.specs.List.{AllByRecursion, concat}
 use Rattle.std.proofs.lemmas.Bool.{cases_lt}
@@ -9,15 +9,15 @@ use Rattle.game_core.specs.declared.game.Row.{Row}
 use Rattle.game_core.specs.Solution.{row_of}
 use Rattle.row_runs.specs.declared.run.Run.{Run}
 use Rattle.row_runs.specs.declared.run.TableVersion.{TableVersion}
-use Rattle.row_runs.specs.Runs.{MayLead, AreRuns, Gives, runs_from}
+use Rattle.row_runs.specs.Runs.{MayLead, AreRuns, Gives, EncodeRows, runs_from}
 use Rattle.row_runs.specs.RunText.{run_line, count_line, end_line}
 use Rattle.row_runs.proofs.RunLaws.{runs_encode, one_list, forward}
 use Rattle.row_runs.proofs.FewRuns.{few_runs}
 use Rattle.read_texts.specs.Steps.{joined, Leads, IsRead}
 use Rattle.read_texts.proofs.Laws.{joined_bytes, both_ways}
 use Rattle.row_reading.specs.declared.row_rules.RowRules.{RowRules}
-use Rattle.row_reading.specs.RowsTexts.{IsRowWithin, IsRunWithin, AreRowsWithin, row_lines, counted_lines, IsRowsText, AreRowsAt}
-use Rattle.row_reading.specs.RowSteps.{RowState, Begin, Due, Done, MayStandAfter, RunStep, RowStep}
+use Rattle.row_reading.specs.RowsTexts.{IsRowWithin, IsRunWithin, AreRowsWithin, row_lines, counted_lines, AreRowsAt}
+use Rattle.row_reading.specs.RowSteps.{Begin, Due, Done, MayStandAfter, RowStep}
 use Rattle.row_reading.specs.inside.ReadRows.{AreRunsWithin, AreRead}
 
 -- ---- the runs of rows that rules allow
@@ -103,12 +103,10 @@ module _ (rules : RowRules) where
 -- a row that runs give is allowed
 given_within : (rules : RowRules) (runs : List Run) (c : ℕ) (row : Row) → AllByRecursion (IsRunWithin rules) runs → Gives runs c row → IsRowWithin rules row
 given_within rules [] c row each given = absurd given
-given_within rules (r ∷ runs) c row each given = elim given [
-  | inl here ↦ subst (IsRowWithin rules) here.2 each.0.row
-  | inr rest ↦ given_within rules runs c row each.1 rest
-]
+given_within rules (r ∷ runs) c row each (inl here) = subst (IsRowWithin rules) here.2 each.0.row
+given_within rules (r ∷ runs) c row each (inr rest) = given_within rules runs c row each.1 rest
 
-pub rows_within : (rules : RowRules) (runs : List Run) (rows : List (Option Row)) → length rows ≡ rules.cells → AreRunsWithin rules runs → ((c : ℕ) (row : Row) → row_of rows c ≡ Some row → Gives runs c row) → AreRowsWithin rules rows
+rows_within : (rules : RowRules) (runs : List Run) (rows : List (Option Row)) → length rows ≡ rules.cells → AreRunsWithin rules runs → ((c : ℕ) (row : Row) → row_of rows c ≡ Some row → Gives runs c row) → AreRowsWithin rules rows
 rows_within rules runs rows size are given = record {
   one_each = size;
   each = All-from_get_or (λ row. IfSome row (IsRowWithin rules)) rows None (λ c lt. fits c (row_of rows c) refl);
@@ -118,15 +116,19 @@ rows_within rules runs rows size are given = record {
     fits c None e = tt
     fits c (Some row) e = given_within rules runs c row (recursion_from_All (IsRunWithin rules) runs are.each) (given c row e)
 
--- the runs that are read are those of the rows
-pub all_read : (rules : RowRules) (count : ℕ) (last : Option Run) (bytes rest : List ℕ) (rows : List (Option Row)) → AreRead rules count 0 last bytes rest rows → AreRowsAt rules count bytes rows rest
-all_read rules count last bytes rest rows read =
+-- runs that tell rows are the rows' own
+pub rows_at : (rules : RowRules) (count : ℕ) (runs : List Run) (rows : List (Option Row)) (bytes rest : List ℕ) → length rows ≡ rules.cells → AreRunsWithin rules runs → EncodeRows runs rows → length runs ≡ count
+    → bytes ≡ joined (map (run_line rules.version rules.format) runs) ++ rest → AreRowsAt rules count bytes rows rest
+rows_at rules count runs rows bytes rest size are tell counted text =
     let own = runs_encode rules.version rows in
-    let text : Run → List ℕ = run_line rules.version rules.format in
-    let same : read.runs ≡ runs_from rules.version 0 rows = one_list rules.version rows read.runs (runs_from rules.version 0 rows) read.are.order own.0 read.tell own.1 in
-    let lines : map text read.runs ≡ row_lines rules.version rules.format rows = ap (map text) same in
+    let line : Run → List ℕ = run_line rules.version rules.format in
+    let same : runs ≡ runs_from rules.version 0 rows = one_list rules.version rows runs (runs_from rules.version 0 rows) are.order own.0 tell own.1 in
+    let lines : map line runs ≡ row_lines rules.version rules.format rows = ap (map line) same in
     record {
-      within = rows_within rules read.runs rows read.one_each read.are (λ c row. (read.tell c row).0);
-      counted = ap length (sym lines) ∙ length-map read.runs text ∙ omega (arith, read.counted);
-      text = (read.read).are ∙ ap (λ (x : List (List ℕ)). joined x ++ rest) lines ∙ ap (λ (x : List ℕ). x ++ rest) (sym (joined_bytes (row_lines rules.version rules.format rows)));
+      within = rows_within rules runs rows size are (λ c row. (tell c row).0);
+      counted = ap length (sym lines) ∙ length-map runs line ∙ counted;
+      text = text ∙ ap (λ (x : List (List ℕ)). joined x ++ rest) lines ∙ ap (λ (x : List ℕ). x ++ rest) (sym (joined_bytes (row_lines rules.version rules.format rows)));
     }
+
+pub all_read : (rules : RowRules) (count : ℕ) (last : Option Run) (bytes rest : List ℕ) (rows : List (Option Row)) → AreRead rules count 0 last bytes rest rows → AreRowsAt rules count bytes rows rest
+all_read rules count last bytes rest rows read = rows_at rules count read.runs rows bytes rest read.one_each read.are read.tell (omega (arith, read.counted)) (read.read).are

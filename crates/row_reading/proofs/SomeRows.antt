@@ -1,49 +1,47 @@
 -- No bytes tell no rows and have no line that is refused.
-use Rattle.std.proofs.Common.{inl, inr, ◌≡◌, ◌⊎◌, ℕ, zero, suc, ◌+◌, ◌<◌, ◌≤◌, List, [], ◌∷◌, ◌++◌, length, map, get_or, Option, Some, None, refl, sym, ap, subst, ◌∙◌, append-nil, arith}
+use Rattle.std.proofs.Common.{inl, inr, ◌≡◌, ℕ, zero, suc, ◌<◌, ◌≤◌, List, [], ◌∷◌, ◌++◌, length, map, Option, Some, None, refl, sym, ap, subst, ◌∙◌, append-nil, append_assoc, arith}
 use Rattle.std.specs.Prelude.{◌↔◌}
-use Rattle.std.specs.List.{AllByRecursion, concat}
+use Rattle.std.specs.List.{AllByRecursion, range_with_len}
 use Rattle.std.proofs.lemmas.Bool.{cases_lt}
-use Rattle.std.proofs.lemmas.List.{length-map, get_or_past}
+use Rattle.std.proofs.lemmas.Option.{same_Some}
+use Rattle.std.proofs.lemmas.List.{get_or_past}
+use Rattle.std.proofs.lemmas.List.FromFn.{get_or-map-range_with_len, length-map-range_with_len}
 use Rattle.std.proofs.lemmas.List.Elements.{All-from_recursion}
 use Rattle.game_core.specs.declared.game.Row.{Row}
 use Rattle.game_core.specs.Solution.{row_of}
 use Rattle.row_runs.specs.declared.run.Run.{Run}
 use Rattle.row_runs.specs.declared.run.TableVersion.{TableVersion}
-use Rattle.row_runs.specs.Runs.{AreRuns, MayLead, Gives, EncodeRows, runs_from}
+use Rattle.row_runs.specs.Runs.{AreRuns, Gives, EncodeRows}
 use Rattle.row_runs.specs.RunText.{run_line, count_line, end_line}
-use Rattle.row_runs.proofs.RunLaws.{runs_encode, one_list}
 use Rattle.row_runs.proofs.Encoding.{begin_later, gives_above}
 use Rattle.read_texts.specs.Steps.{joined, Leads, IsRead, IsReading}
-use Rattle.read_texts.proofs.Laws.{Outcome, is_read, is_refused, joined_bytes, undeniable}
+use Rattle.read_texts.proofs.Laws.{undeniable}
 use Rattle.row_reading.specs.declared.row_rules.RowRules.{RowRules}
-use Rattle.row_reading.specs.RowsTexts.{IsRunWithin, row_lines, counted_lines, IsRowsText}
+use Rattle.row_reading.specs.RowsTexts.{IsRunWithin, IsRowsText}
 use Rattle.row_reading.specs.RowSteps.{RowState, Begin, Due, Done, MayStandAfter, RowStep, IsOver, IsRowRefused}
 use Rattle.row_reading.specs.inside.RunReading.{AreSmall}
 use Rattle.row_reading.specs.inside.ReadRows.{AreRunsWithin}
 use Rattle.row_reading.proofs.RowGrammar.{rows_are_grammar}
-use Rattle.row_reading.proofs.RowsRead.{FollowsOn, rows_within}
+use Rattle.row_reading.proofs.RowsRead.{FollowsOn, rows_at}
+use Rattle.row_reading.proofs.RefusedRows.{whole_text}
 
 -- ---- the rows that runs tell
 
+-- the cells of the runs after a run lie beyond it
+beyond : (v : TableVersion) (r : Run) (runs : List Run) (c : ℕ) (row : Row) → AreRuns v (r ∷ runs) → Gives runs c row → r.last < c
+beyond v r runs c row are given = gives_above v (suc r.last) runs c row are.2 (begin_later v r runs are.1) given
+
 one_row : (v : TableVersion) (runs : List Run) (c : ℕ) (row other : Row) → AreRuns v runs → Gives runs c row → Gives runs c other → row ≡ other
 one_row v [] c row other are first second = absurd first
-one_row v (r ∷ runs) c row other are first second = elim first [
-  | inl here ↦ elim second [
-    | inl also ↦ sym here.2 ∙ also.2
-    | inr rest ↦ absurd (let high = here.1 in let above = gives_above v (suc r.last) runs c other are.2 (begin_later v r runs are.1) rest in omega (arith, high, above))
-  ]
-  | inr rest ↦ elim second [
-    | inl also ↦ absurd (let high = also.1 in let above = gives_above v (suc r.last) runs c row are.2 (begin_later v r runs are.1) rest in omega (arith, high, above))
-    | inr more ↦ one_row v runs c row other are.2 rest more
-  ]
-]
+one_row v (r ∷ runs) c row other are (inl here) (inl also) = sym here.2 ∙ also.2
+one_row v (r ∷ runs) c row other are (inl here) (inr rest) = absurd (omega (arith, here.1, beyond v r runs c other are rest))
+one_row v (r ∷ runs) c row other are (inr rest) (inl also) = absurd (omega (arith, also.1, beyond v r runs c row are rest))
+one_row v (r ∷ runs) c row other are (inr rest) (inr more) = one_row v runs c row other are.2 rest more
 
 given_below : (rules : RowRules) (runs : List Run) (c : ℕ) (row : Row) → AllByRecursion (IsRunWithin rules) runs → Gives runs c row → c < rules.cells
 given_below rules [] c row each given = absurd given
-given_below rules (r ∷ runs) c row each given = elim given [
-  | inl here ↦ (let high = here.1 in let last = each.0.cells in omega (arith, high, last))
-  | inr rest ↦ given_below rules runs c row each.1 rest
-]
+given_below rules (r ∷ runs) c row each (inl here) = omega (arith, here.1, each.0.cells)
+given_below rules (r ∷ runs) c row each (inr rest) = given_below rules runs c row each.1 rest
 
 -- the runs give a cell this row, or none
 abbrev IsGiven : List Run → ℕ → Option Row → Type 0
@@ -70,22 +68,12 @@ given_row (r ∷ runs) c =
       ]
     ]
 
--- The rows of so many cells from this one on.
-record AreGiven (runs : List Run) (from n : ℕ) : Type 0 where
-  rows : List (Option Row)
-  size : length rows ≡ n
-  each : (c : ℕ) → c < n → IsGiven runs (from + c) (row_of rows c)
+-- the rows of so many cells
+abbrev rows_given : List Run → ℕ → List (Option Row)
+rows_given runs n = map (λ (c : ℕ). (given_row runs c).0) (range_with_len 0 n)
 
-given_rows : (runs : List Run) (from n : ℕ) → AreGiven runs from n
-given_rows runs from zero = record { rows = []; size = refl; each = λ c lt. absurd (omega (arith, lt)) }
-given_rows runs from (suc n) =
-    let first = given_row runs from in
-    let rest = given_rows runs (suc from) n in
-    record { rows = first.0 ∷ rest.rows; size = ap suc rest.size; each = each first.0 rest.rows first.1 rest.each }
-  where
-    each : (o : Option Row) (rows : List (Option Row)) → IsGiven runs from o → ((c : ℕ) → c < n → IsGiven runs (suc from + c) (row_of rows c)) → (c : ℕ) → c < suc n → IsGiven runs (from + c) (row_of (o ∷ rows) c)
-    each o rows here more zero lt = subst (λ (k : ℕ). IsGiven runs k o) (omega arith) here
-    each o rows here more (suc c) lt = subst (λ (k : ℕ). IsGiven runs k (row_of rows c)) (omega arith) (more c (omega (arith, lt)))
+each_given : (runs : List Run) (n c : ℕ) → c < n → IsGiven runs c (row_of (rows_given runs n) c)
+each_given runs n c lt = subst (IsGiven runs c) (sym (get_or-map-range_with_len (λ (k : ℕ). (given_row runs k).0) 0 n c c None lt (omega arith))) (given_row runs c).1
 
 none_some : (row : Row) → None ≡ Some row → ⊥
 none_some row e = cc
@@ -93,12 +81,9 @@ none_some row e = cc
 is_told : (v : TableVersion) (runs : List Run) (c : ℕ) (o : Option Row) (row : Row) → AreRuns v runs → IsGiven runs c o → (o ≡ Some row) ↔ Gives runs c row
 is_told v runs c None row are given = ((λ e. absurd (none_some row e)), (λ g. absurd (given row g)))
 is_told v runs c (Some other) row are given = (
-  (λ e. subst (Gives runs c) (some_row other row e) given),
+  (λ e. subst (Gives runs c) (same_Some other row e) given),
   (λ g. ap (λ (r : Row). Some r) (one_row v runs c other row are given g)),
 )
-  where
-    some_row : (a b : Row) → Some a ≡ Some b → a ≡ b
-    some_row a b e = cc
 
 all_told : (rules : RowRules) (runs : List Run) (rows : List (Option Row)) → AreRuns rules.version runs → AllByRecursion (IsRunWithin rules) runs → length rows ≡ rules.cells
     → ((c : ℕ) → c < rules.cells → IsGiven runs c (row_of rows c)) → EncodeRows runs rows
@@ -124,7 +109,7 @@ module _ (rules : RowRules) where
     follows : FollowsOn rules last runs
     each : AllByRecursion (IsRunWithin rules) runs
     counted : length runs ≡ n
-    are : lines ≡ map line_of runs ++ end_line ∷ []
+    are : joined lines ≡ joined (map line_of runs) ++ (end_line ++ [])
 
   none_follows : (last : Option Run) → FollowsOn rules last []
   none_follows None = tt
@@ -145,7 +130,7 @@ module _ (rules : RowRules) where
   due_told n last [] leads = absurd (not_done n last leads)
   due_told zero last (x ∷ lines) leads =
       let none = none_after lines (subst (λ (q : RowState). Leads (RowStep rules) q lines Done) leads.1.1 leads.2) in
-      record { runs = []; order = tt; follows = none_follows last; each = tt; counted = refl; are = ap (λ (y : List ℕ). y ∷ lines) leads.1.0 ∙ ap (λ (ys : List (List ℕ)). end_line ∷ ys) none }
+      record { runs = []; order = tt; follows = none_follows last; each = tt; counted = refl; are = ap (λ (y : List ℕ). y ++ joined lines) leads.1.0 ∙ ap (λ (ys : List (List ℕ)). end_line ++ joined ys) none }
   due_told (suc n) last (x ∷ lines) leads =
       let r : Run = leads.1.0 in
       let next = leads.1.1 in
@@ -156,28 +141,17 @@ module _ (rules : RowRules) where
         follows = follows_first last r more.runs next.follows;
         each = (next.within, more.each);
         counted = ap suc more.counted;
-        are = ap (λ (y : List ℕ). y ∷ lines) next.line_is ∙ ap (λ (ys : List (List ℕ)). line_of r ∷ ys) more.are;
+        are = ap (λ (y : List ℕ). y ++ joined lines) next.line_is ∙ ap (λ (y : List ℕ). line_of r ++ y) more.are ∙ sym (append_assoc (line_of r) (joined (map line_of more.runs)) (end_line ++ []));
       }
 
   -- the rows of runs whose lines the bytes have
-  rows_told : (n : ℕ) (bytes : List ℕ) (lines : List (List ℕ)) → bytes ≡ joined (count_line n ∷ lines) ++ [] → AreTold n None lines → (rows : List (Option Row)) × IsRowsText rules bytes rows
-  rows_told n bytes lines text told =
-      let given = given_rows told.runs 0 rules.cells in
-      let rows : List (Option Row) = given.rows in
-      let tell : EncodeRows told.runs rows = all_told rules told.runs rows told.order told.each given.size (λ c lt. subst (λ (k : ℕ). IsGiven told.runs k (row_of rows c)) (omega arith) (given.each c lt)) in
-      let own = runs_encode rules.version rows in
-      let same : told.runs ≡ runs_from rules.version 0 rows = one_list rules.version rows told.runs (runs_from rules.version 0 rows) told.order own.0 tell own.1 in
-      let own_lines : map line_of told.runs ≡ row_lines rules.version rules.format rows = ap (map line_of) same in
-      let number : n ≡ length (row_lines rules.version rules.format rows) = sym (sym (ap length own_lines) ∙ length-map told.runs line_of ∙ told.counted) in
-      let whole : count_line n ∷ lines ≡ counted_lines rules.version rules.format rows =
-      ap (λ (k : ℕ). count_line k ∷ lines) number
-      ∙ ap (λ (ys : List (List ℕ)). count_line (length (row_lines rules.version rules.format rows)) ∷ ys) (told.are ∙ ap (λ (ys : List (List ℕ)). ys ++ end_line ∷ []) own_lines) in (
-        rows,
-        record {
-          within = rows_within rules told.runs rows given.size (record { order = told.order; each = All-from_recursion (IsRunWithin rules) told.runs told.each }) (λ c row. (tell c row).0);
-          text = text ∙ append-nil (joined (count_line n ∷ lines)) ∙ ap joined whole ∙ sym (joined_bytes (counted_lines rules.version rules.format rows));
-        },
-      )
+  rows_told : (n : ℕ) (bytes : List ℕ) (lines : List (List ℕ)) → n ≤ rules.cells → bytes ≡ count_line n ++ joined lines → AreTold n None lines → (rows : List (Option Row)) × IsRowsText rules bytes rows
+  rows_told n bytes lines le text told =
+      let rows : List (Option Row) = rows_given told.runs rules.cells in
+      let size : length rows ≡ rules.cells = length-map-range_with_len (λ (c : ℕ). (given_row told.runs c).0) 0 rules.cells in
+      let tell : EncodeRows told.runs rows = all_told rules told.runs rows told.order told.each size (each_given told.runs rules.cells) in
+      let are : AreRunsWithin rules told.runs = record { order = told.order; each = All-from_recursion (IsRunWithin rules) told.runs told.each } in
+      (rows, whole_text rules bytes n le (joined lines) text rows (end_line ++ []) (rows_at rules n told.runs rows (joined lines) (end_line ++ []) size are tell told.counted told.are) refl)
 
   not_begin : Done ≡ Begin → ⊥
   not_begin e = cc
@@ -185,18 +159,16 @@ module _ (rules : RowRules) where
   lines_told : (bytes : List ℕ) (lines : List (List ℕ)) → IsRead (RowStep rules) Begin bytes lines Done [] → (rows : List (Option Row)) × IsRowsText rules bytes rows
   lines_told bytes [] read = absurd (not_begin read.leads)
   lines_told bytes (x ∷ lines) read =
-      let n : ℕ = (read.leads).1.0 in
-      let told = due_told n None lines (subst (λ (q : RowState). Leads (RowStep rules) q lines Done) (read.leads).1.3 (read.leads).2) in
-      rows_told n bytes lines (read.are ∙ ap (λ (y : List ℕ). joined (y ∷ lines) ++ []) (read.leads).1.2) told
+      let step = (read.leads).1 in
+      let told = due_told step.0 None lines (subst (λ (q : RowState). Leads (RowStep rules) q lines Done) step.3 (read.leads).2) in
+      rows_told step.0 bytes lines step.1 (read.are ∙ append-nil (joined (x ∷ lines)) ∙ ap (λ (y : List ℕ). y ++ joined lines) step.2) told
 
   text_told : (bytes : List ℕ) (to : RowState) (rest : List ℕ) (lines : List (List ℕ)) → IsOver to rest → IsRead (RowStep rules) Begin bytes lines to rest → (rows : List (Option Row)) × IsRowsText rules bytes rows
-  text_told bytes Begin rest lines over read = absurd over
-  text_told bytes (Due n last) rest lines over read = absurd over
   text_told bytes Done rest lines over read = lines_told bytes lines (subst (λ (x : List ℕ). IsRead (RowStep rules) Begin bytes lines Done x) over read)
+  text_told bytes to rest lines over read = absurd over
 
-  pub no_bytes_are_neither : AreSmall rules → (bytes : List ℕ) → (((rows : List (Option Row)) × IsRowsText rules bytes rows) ⊎ ((n : ℕ) × IsRowRefused rules bytes n) → ⊥) → ⊥
-  no_bytes_are_neither small bytes deny = undeniable (RowStep rules) IsOver (λ q. Unit {0}) (rows_are_grammar rules small) Begin bytes tt by
+  pub no_bytes_are_neither : AreSmall rules → (bytes : List ℕ) → ((rows : List (Option Row)) → IsRowsText rules bytes rows → ⊥) → ((n : ℕ) → IsRowRefused rules bytes n → ⊥) → ⊥
+  no_bytes_are_neither small bytes untold unrefused = undeniable (RowStep rules) IsOver (λ q. Unit {0}) (rows_are_grammar rules small) Begin bytes tt unread unrefused
     where
-      by : Outcome (RowStep rules) IsOver (λ q. Unit {0}) (rows_are_grammar rules small) Begin bytes → ⊥
-      by (is_read to rest reading) = deny (inl (text_told bytes to rest reading.pieces reading.closed reading.read))
-      by (is_refused n refused) = deny (inr (n, refused))
+      unread : (to : RowState) (rest : List ℕ) → IsReading (RowStep rules) IsOver Begin bytes to rest → ⊥
+      unread to rest reading = (let told = text_told bytes to rest reading.pieces reading.closed reading.read in untold told.0 told.1)

@@ -19,6 +19,7 @@ use Rattle.synth_run.specs.inside.SolvedGames.{IsToBeLeft}
 use Rattle.synth_run.specs.inside.Texts.{bytes_of}
 use Rattle.synth_run.specs.inside.Causes.{outcome_of}
 use Rattle.synth_run.specs.inside.Working.{IsWorkedOut, IsStopped, IsWrittenOut, IsLeftAfter}
+use Rattle.command_line.proofs.Shown.{shown_done, shown_cut_off, shown_refused, shown_unread, shown_without_memory}
 use Rattle.base.proofs.Options.{IfSome-weaker}
 
 solves_none : (command : Command) → SolvesNothing command None
@@ -44,14 +45,7 @@ ends_without_memory command source out within alone no_fault untouched = record 
   never_past = within;
   leaves_alone = alone;
   cause = λ texts. absurd texts;
-  shown = record {
-    nothing_written = λ _ _. untouched.nothing;
-    read_fault = λ e. absurd (let clash : Failed Memory ≡ Failed Read = e in cc);
-    no_read_fault = λ _. no_fault;
-    sound_source = λ _ e. cc;
-    write_fault = λ e. absurd (let clash : Failed Memory ≡ Failed Write = e in cc);
-    no_write_fault = λ _. untouched.no_fault;
-  };
+  shown = shown_without_memory source out no_fault untouched;
 }
 
 -- there is no answer, and nothing is written
@@ -68,14 +62,7 @@ ends_stopped command (stops.Refused refusal) source out h untouched = record {
   never_past = h.never_past;
   leaves_alone = h.leaves_alone;
   cause = λ _. h.cause refusal refl;
-  shown = record {
-    nothing_written = λ _ _. untouched.nothing;
-    read_fault = λ e. absurd (let clash : Refused refusal ≡ Failed Read = e in cc);
-    no_read_fault = λ _. h.no_fault (λ e. cc);
-    sound_source = λ _ e. cc;
-    write_fault = λ e. absurd (let clash : Refused refusal ≡ Failed Write = e in cc);
-    no_write_fault = λ _. untouched.no_fault;
-  };
+  shown = shown_refused refusal source out (h.no_fault (λ e. cc)) untouched;
 }
 ends_stopped command (stops.Failed Read) source out h untouched = record {
   can_end = h.can_end;
@@ -89,14 +76,7 @@ ends_stopped command (stops.Failed Read) source out h untouched = record {
   never_past = h.never_past;
   leaves_alone = h.leaves_alone;
   cause = λ texts. absurd texts;
-  shown = record {
-    nothing_written = λ _ _. untouched.nothing;
-    read_fault = λ _. h.fault refl;
-    no_read_fault = λ other. absurd (other refl);
-    sound_source = λ is_sound _. h.sound is_sound refl;
-    write_fault = λ e. absurd (let clash : Failed Read ≡ Failed Write = e in cc);
-    no_write_fault = λ _. untouched.no_fault;
-  };
+  shown = shown_unread source out (h.fault refl) (λ is_sound. h.sound is_sound refl) untouched;
 }
 ends_stopped command (stops.Failed Write) source out h untouched = absurd (h.not_write refl)
 ends_stopped command (stops.Failed Memory) source out h untouched =
@@ -116,14 +96,7 @@ ends_done command text source out played h left whole = record {
   never_past = h.never_past;
   leaves_alone = h.leaves_alone;
   cause = λ _. h.cause;
-  shown = record {
-    nothing_written = λ not_done _. absurd (not_done refl);
-    read_fault = λ e. absurd (let clash : Done ≡ Failed Read = e in cc);
-    no_read_fault = λ _. h.no_fault;
-    sound_source = λ _ e. cc;
-    write_fault = λ e. absurd (let clash : Done ≡ Failed Write = e in cc);
-    no_write_fault = λ _. whole.no_fault;
-  };
+  shown = shown_done source out (bytes_of text) h.no_fault whole;
 }
 
 -- a write fails within the answer
@@ -140,14 +113,7 @@ ends_cut_off command text source out h part = record {
   never_past = h.never_past;
   leaves_alone = h.leaves_alone;
   cause = λ texts. absurd texts;
-  shown = record {
-    nothing_written = λ _ other. absurd (other refl);
-    read_fault = λ e. absurd (let clash : Failed Write ≡ Failed Read = e in cc);
-    no_read_fault = λ _. h.no_fault;
-    sound_source = λ _ e. cc;
-    write_fault = λ _. part.fault;
-    no_write_fault = λ other. absurd (other refl);
-  };
+  shown = shown_cut_off source out (bytes_of text) h.no_fault part;
 }
 
 pub ends_written_out : (command : Command) (text : Text) (source : Reading) (out : Writing) (played left : Option (BoardModel × RootModel)) (outcome : Outcome) → IsWorkedOut command text source → IsToBeLeft command played source → IsWrittenOut text outcome out → IsLeftAfter outcome played left → IsRunOf command outcome source out left

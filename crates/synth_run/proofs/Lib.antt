@@ -17,5 +17,4 @@ pub mod Working
 pub mod Undeniable
 pub mod SomeGame
 pub mod SomePlant
-pub mod SomeTable
 pub mod SomeOutcome

@@ -16,11 +16,15 @@ use Rattle.plant_game.specs.Abstraction.{IsGameOf}
 use Rattle.plant_game.specs.PlantSolution.{Solves}
 use Rattle.table_check.specs.Verdicts.{HasItsKeepRow}
 use Rattle.loop_sim.specs.Trace.{row_at}
+use Rattle.controller_table.specs.declared.table_fault.TableFault.{TableFault}
+use Rattle.controller_table.specs.declared.table_fault.TableFault.TheVariants as tables
 use Rattle.controller_table.specs.Tables.{IsTable}
+use Rattle.controller_table.specs.TableRefusals.{IsTableRefusedFor}
+use Rattle.controller_table.proofs.OneRefusal.{no_text_is_neither}
 use Rattle.command_line.specs.declared.command.Command.TheVariants.{Synth, Check, Upgrade, Sim, Demo, Stay, Patrol}
 use Rattle.command_line.specs.declared.command.Command.{Command}
 use Rattle.command_line.specs.declared.outcome.Refusal.{Refusal}
-use Rattle.command_line.specs.declared.outcome.Refusal.TheVariants.{Invalid, NoRow, Overflow, Limit}
+use Rattle.command_line.specs.declared.outcome.Refusal.TheVariants.{Malformed, Invalid, NoRow, Overflow, Limit}
 use Rattle.command_line.specs.declared.outcome.Outcome.TheVariants.{Done, Refused}
 use Rattle.plant_record.specs.declared.limit_kind.LimitKind.TheVariants.{Edges}
 use Rattle.successor_box.specs.Deviations.{HasNoOverflow}
@@ -29,18 +33,16 @@ use Rattle.synth_run.specs.Traces.{HasRowFor, HasNoRowFor}
 use Rattle.synth_run.specs.Laws.{SomeOutcomePerText}
 use Rattle.synth_run.proofs.Undeniable.{first_without}
 use Rattle.synth_run.proofs.SomeGame.{some_game}
-use Rattle.synth_run.proofs.SomePlant.{some_overflow, PlantEnd, is_solvable, overflows, has_many_edges, plant_end, IsDecided, plant_decided, patrol_decided, TextEnd, is_refused, is_accepted, text_end}
-use Rattle.synth_run.proofs.SomeTable.{TableEnd, is_refused_table, is_table, table_end}
+use Rattle.synth_run.proofs.SomePlant.{some_overflow, PlantEnd, is_solvable, overflows, has_many_edges, plant_end, IsDecided, plant_decided, patrol_decided, text_end}
 
 -- ---- a plant text
 
 by_text : (bytes : List ℕ) (Passes : Description → Type 0) (Refuses : Description → Refusal → Type 0) → ((p : Description) → PlantEnd p → IsDecided (Passes p) (Refuses p))
-    → (IsDecided (SpellPlantWith Passes bytes) (IsTextRefusal Refuses bytes) → ⊥) → TextEnd bytes → ⊥
-by_text bytes Passes Refuses decided deny (is_refused r h) = deny (inr (r, inl h))
-by_text bytes Passes Refuses decided deny (is_accepted p h) = plant_end p h.limits (λ end. elim (decided p end) [
+    → (IsDecided (SpellPlantWith Passes bytes) (IsTextRefusal Refuses bytes) → ⊥) → ⊥
+by_text bytes Passes Refuses decided deny = text_end bytes (λ r h. deny (inr (r, inl h))) (λ p h. plant_end p h.limits (λ end. elim (decided p end) [
   | inl passes ↦ deny (inl (p, h, passes))
   | inr (r, refuses) ↦ deny (inr (r, inr (p, h, refuses)))
-])
+]))
 
 -- ---- a table
 
@@ -80,12 +82,19 @@ verdict bytes p rows table (is_solvable s) deny =
 
 by_table : (bytes : List ℕ) (Passes : Description → List (Option Row) → Type 0) (Refuses : Description → List (Option Row) → Refusal → Type 0)
     → ((p : Description) (rows : List (Option Row)) → IsTable bytes p rows → (IsDecided (Passes p rows) (Refuses p rows) → ⊥) → ⊥)
-    → (IsDecided (AreTableWith Passes bytes) (IsTableRefusal Refuses bytes) → ⊥) → TableEnd bytes → ⊥
-by_table bytes Passes Refuses decided deny (is_refused_table r h) = deny (inr (r, inl h))
-by_table bytes Passes Refuses decided deny (is_table p rows h) = decided p rows h (λ d. elim d [
-  | inl passes ↦ deny (inl (p, rows, h, passes))
-  | inr (r, refuses) ↦ deny (inr (r, inr (p, rows, h, refuses)))
-])
+    → (IsDecided (AreTableWith Passes bytes) (IsTableRefusal Refuses bytes) → ⊥) → ⊥
+by_table bytes Passes Refuses decided deny = no_text_is_neither bytes by_rows by_fault
+  where
+    by_rows : (p : Description) (rows : List (Option Row)) → IsTable bytes p rows → ⊥
+    by_rows p rows h = decided p rows h (λ d. elim d [
+      | inl passes ↦ deny (inl (p, rows, h, passes))
+      | inr (r, refuses) ↦ deny (inr (r, inr (p, rows, h, refuses)))
+    ])
+
+    by_fault : (f : TableFault) → IsTableRefusedFor bytes f → ⊥
+    by_fault (tables.Malformed line) h = deny (inr (Malformed line, inl (inl (line, refl, h))))
+    by_fault (tables.Limit what) h = deny (inr (Limit what, inl (inr (what, refl, h))))
+    by_fault tables.Memory h = h
 
 -- ---- a table that is written anew, or drives its plant
 
@@ -118,13 +127,13 @@ driven p rows start deny = some_overflow p (λ found. elim found [
 -- ---- commands
 
 decided : (command : Command) (bytes : List ℕ) → (IsDecided (IsAnswerable command bytes) (IsRefusalFor command bytes) → ⊥) → ⊥
-decided (Synth workers) bytes deny = text_end bytes (by_text bytes IsSolvable IsPlantRefusal plant_decided deny)
-decided Check bytes deny = table_end bytes (by_table bytes AreRight IsRowsRefusal (λ p rows table refute. plant_end p table.limits (λ end. verdict bytes p rows table end refute)) deny)
-decided Upgrade bytes deny = table_end bytes (by_table bytes (λ p rows. HasNoOverflow p) (λ p rows r. IsOverflow p r) (λ p rows table refute. range p refute) deny)
-decided (Sim samples seed start) bytes deny = table_end bytes (by_table bytes (λ p rows. HasNoOverflow p × HasRowFor p rows start) (IsStartRefusal start) (λ p rows table refute. driven p rows start refute) deny)
+decided (Synth workers) bytes deny = by_text bytes IsSolvable IsPlantRefusal plant_decided deny
+decided Check bytes deny = by_table bytes AreRight IsRowsRefusal (λ p rows table refute. plant_end p table.limits (λ end. verdict bytes p rows table end refute)) deny
+decided Upgrade bytes deny = by_table bytes (λ p rows. HasNoOverflow p) (λ p rows r. IsOverflow p r) (λ p rows table refute. range p refute) deny
+decided (Sim samples seed start) bytes deny = by_table bytes (λ p rows. HasNoOverflow p × HasRowFor p rows start) (IsStartRefusal start) (λ p rows table refute. driven p rows start refute) deny
 decided (Demo number workers) bytes deny = deny (inl tt)
-decided (Stay workers) bytes deny = text_end bytes (by_text bytes IsSolvable IsPlantRefusal plant_decided deny)
-decided (Patrol workers) bytes deny = text_end bytes (by_text bytes IsPatrollable IsPatrolRefusal patrol_decided deny)
+decided (Stay workers) bytes deny = by_text bytes IsSolvable IsPlantRefusal plant_decided deny
+decided (Patrol workers) bytes deny = by_text bytes IsPatrollable IsPatrolRefusal patrol_decided deny
 
 pub some_outcome : SomeOutcomePerText
 some_outcome command bytes deny = decided command bytes (λ d. elim d [

@@ -1,19 +1,17 @@
 -- No plant text is neither refused nor a plant's, and no plant demands nothing.
-use Rattle.std.proofs.Common.{inl, inr, ◌≡◌, ◌⊎◌, ℕ, ◌^◌, ◌<◌, ◌≤◌, List, [], length, refl, subst, arith}
+use Rattle.std.proofs.Common.{inl, inr, ◌⊎◌, ℕ, ◌^◌, ◌<◌, List, [], length, refl, subst, arith}
 use Rattle.std.specs.Prelude.{sum_by}
 use Rattle.std.proofs.lemmas.Bool.{cases_lt}
 use Rattle.plant_record.specs.declared.limit_kind.LimitKind.TheVariants.{Vectors, Cells, Pairs, PlantText, Edges}
 use Rattle.plant_record.specs.Description.{Description, vectors_of}
 use Rattle.plant_record.specs.Limits.{IsWithinLimits}
 use Rattle.plant_reading.specs.Lines.{lines_of}
-use Rattle.plant_reading.proofs.lemmas.StatementLaws.{one_statement, skipped}
 use Rattle.read_texts.specs.Steps.{IsReading}
 use Rattle.read_texts.proofs.Laws as texts
-use Rattle.read_texts.proofs.Laws.{undeniable}
 use Rattle.plant_text.specs.Grammar.{PartialPlant, nothing_yet, LineStep, IsEnded, Spells}
 use Rattle.plant_text.specs.inside.PartialPlantRules.{KeepsRules}
 use Rattle.plant_text.specs.PlantRefusals.{IsShort}
-use Rattle.plant_text.proofs.lemmas.RulesKept.{rules_of_nothing, rules_led}
+use Rattle.plant_text.proofs.lemmas.RulesKept.{rules_of_nothing}
 use Rattle.plant_text.proofs.lemmas.LineGrammar.{lines_are_grammar}
 use Rattle.plant_text.proofs.lemmas.LinesLead.{spelled_is_plant}
 use Rattle.successor_box.specs.Deviations.{HasNoOverflow, HasNoOverflowAt, IsFirstOverflow}
@@ -91,33 +89,24 @@ patrol_decided p (has_many_edges many) = inr (Limit Edges, inl (inr (refl, many)
 
 -- ---- a text
 
-pub data TextEnd (bytes : List ℕ) : Type 0 where
-  is_refused : (r : Refusal) → IsRefused bytes r → TextEnd bytes
-  is_accepted : (p : Description) → IsAccepted bytes p → TextEnd bytes
+module _ (bytes : List ℕ) (unrefused : (r : Refusal) → IsRefused bytes r → ⊥) (unaccepted : (p : Description) → IsAccepted bytes p → ⊥) where
+  spelled_end : (p : Description) → IsShort bytes → Spells bytes p → LimitsEnd p → ⊥
+  spelled_end p short spells (is_within limits) = unaccepted p (record { short = short; spells = spells; limits = limits })
+  spelled_end p short spells (has_many_vectors many) = unrefused (Limit Vectors) (inr (Vectors, refl, (short, (p, spells, many))))
+  spelled_end p short spells (has_many_cells many) = unrefused (Limit Cells) (inr (Cells, refl, (short, (p, spells, many))))
+  spelled_end p short spells (has_many_pairs many) = unrefused (Limit Pairs) (inr (Pairs, refl, (short, (p, spells, many))))
 
-spelled_end : (bytes : List ℕ) (p : Description) → IsShort bytes → Spells bytes p → LimitsEnd p → TextEnd bytes
-spelled_end bytes p short spells (is_within limits) = is_accepted p (record { short = short; spells = spells; limits = limits })
-spelled_end bytes p short spells (has_many_vectors many) = is_refused (Limit Vectors) (inr (Vectors, refl, (short, (p, spells, many))))
-spelled_end bytes p short spells (has_many_cells many) = is_refused (Limit Cells) (inr (Cells, refl, (short, (p, spells, many))))
-spelled_end bytes p short spells (has_many_pairs many) = is_refused (Limit Pairs) (inr (Pairs, refl, (short, (p, spells, many))))
+  read_end : (q : PartialPlant) (rest : List (List ℕ)) → IsShort bytes → IsReading LineStep IsEnded nothing_yet (lines_of bytes) q rest → ⊥
+  read_end q rest short reading =
+      let all : IsReading LineStep IsEnded nothing_yet (lines_of bytes) q [] = subst (λ (lines : List (List ℕ)). IsReading LineStep IsEnded nothing_yet (lines_of bytes) q lines) reading.closed.0 reading in
+      let held = whole q (texts.met LineStep IsEnded KeepsRules lines_are_grammar nothing_yet reading.pieces q rules_of_nothing (reading.read).leads) reading.closed.1 in
+      let spells : Spells bytes held.0 = (q, all, held.1) in
+      spelled_end held.0 short spells (limits_end held.0 (spelled_is_plant bytes held.0 spells))
 
-read_end : (bytes : List ℕ) (q : PartialPlant) (rest : List (List ℕ)) → IsShort bytes → IsReading LineStep IsEnded nothing_yet (lines_of bytes) q rest → TextEnd bytes
-read_end bytes q rest short reading =
-    let all : IsReading LineStep IsEnded nothing_yet (lines_of bytes) q [] = subst (λ (lines : List (List ℕ)). IsReading LineStep IsEnded nothing_yet (lines_of bytes) q lines) reading.closed.0 reading in
-    let held = whole q (rules_led nothing_yet reading.pieces q rules_of_nothing (reading.read).leads) reading.closed.1 in
-    let spells : Spells bytes held.0 = (q, all, held.1) in
-    spelled_end bytes held.0 short spells (limits_end held.0 (spelled_is_plant bytes held.0 spells))
-
-lines_end : (bytes : List ℕ) → IsShort bytes → (TextEnd bytes → ⊥) → ⊥
-lines_end bytes short deny = undeniable LineStep IsEnded KeepsRules (lines_are_grammar one_statement skipped) nothing_yet (lines_of bytes) rules_of_nothing by
-  where
-    by : texts.Outcome LineStep IsEnded KeepsRules (lines_are_grammar one_statement skipped) nothing_yet (lines_of bytes) → ⊥
-    by (texts.is_read q rest reading) = deny (read_end bytes q rest short reading)
-    by (texts.is_refused n refused) = deny (is_refused (Malformed n) (inl (n, refl, (short, refused))))
-
-pub text_end : (bytes : List ℕ) → (TextEnd bytes → ⊥) → ⊥
-text_end bytes deny =
-    elim (cases_lt 65536 (length bytes)) [
-      | inl long ↦ deny (is_refused (Limit PlantText) (inr (PlantText, refl, λ le. omega (arith, long, le))))
-      | inr short ↦ lines_end bytes short deny
-    ]
+  pub text_end : ⊥
+  text_end =
+      elim (cases_lt 65536 (length bytes)) [
+        | inl long ↦ unrefused (Limit PlantText) (inr (PlantText, refl, λ le. omega (arith, long, le)))
+        | inr short ↦ texts.undeniable LineStep IsEnded KeepsRules lines_are_grammar nothing_yet (lines_of bytes) rules_of_nothing
+            (λ q rest reading. read_end q rest short reading) (λ n refused. unrefused (Malformed n) (inl (n, refl, (short, refused))))
+      ]

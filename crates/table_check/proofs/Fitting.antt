@@ -6,7 +6,7 @@ use Rattle.grid_quantiser.specs.Axes.{cells_of}
 use Rattle.plant_record.specs.declared.aims.GoalKind.TheVariants.{Reach}
 use Rattle.plant_record.specs.Description.{Description, axes_of, vectors_of}
 use Rattle.controller_table.specs.Tables.{HasFittingRank, RowsFit}
-use Rattle.table_control.proofs.Fitting.{row_fits}
+use Rattle.controller_table.proofs.OneRow.{row_fits}
 
 pub input_fits : (p : Description) (rows : List (Option Row)) → RowsFit p rows → (c : ℕ) (row : Row) → row_of rows c ≡ Some row → row.input < vectors_of p.inputs
 input_fits p rows h c row e = (row_fits p rows h c row e).input

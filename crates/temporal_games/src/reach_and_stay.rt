@@ -28,12 +28,12 @@ pub fn stay<R: Threads + Sync, G: Graph + Sync, T: Gate>(
     let held_answer = keep(rt, alloc, &Remark::new(g, &marks), workers, gate)?.answer;
     let marks = marks_to_reach(alloc, g, &held_answer)?;
     let mut answer = solve(rt, alloc, &Remark::new(g, &marks), workers, gate)?.answer;
-    put_over(&held_answer, &mut answer);
+    overlay_rows(&held_answer, &mut answer);
     Ok(answer)
 }
 
 /// Puts the rows that there are over others.
-fn put_over(held_answer: &Answer, answer: &mut Answer)
+fn overlay_rows(held_answer: &Answer, answer: &mut Answer)
     requires { length held_answer.now ≡ length answer.old }
     ensures { answer.new ≡ rows_over (length held_answer.now) held_answer.now answer.old }
 {

@@ -11,7 +11,6 @@ use Rattle.grid_quantiser.specs.Axes.{cells_of}
 use Rattle.plant_record.specs.Description.{Description, axes_of}
 use Rattle.plant_record.specs.Limits.{IsWithinLimits}
 use Rattle.plant_writing.specs.CanonicalText.{text_of}
-use Rattle.plant_reading.proofs.lemmas.StatementLaws.{one_statement}
 use Rattle.plant_text.proofs.lemmas.CanonicalFronts.{one_plant_at_the_front}
 use Rattle.row_runs.specs.declared.row_format.RowFormat.TheVariants.{Both}
 use Rattle.row_runs.specs.declared.run.TableVersion.TheVariants.{Second}
@@ -115,7 +114,7 @@ one_patrol_text bytes p q rows others h k =
     let other : List ℕ = concat (turn_lines 0 others ++ end_line ∷ []) in
     let whole : patrol_line ++ (text_of p ++ after) ≡ patrol_line ++ (text_of q ++ other) =
     sym (append_assoc patrol_line (text_of p) after) ∙ sym h.text ∙ k.text ∙ append_assoc patrol_line (text_of q) other in
-    let plant = one_plant_at_the_front one_statement p q after other h.limits.plant k.limits.plant (ap (drop 9) whole) in
+    let plant = one_plant_at_the_front p q after other h.limits.plant k.limits.plant (ap (drop 9) whole) in
     let fit : PatrolRowsFit p others = subst (λ (d : Description). PatrolRowsFit d others) (sym plant.0) k.fitting in
     let lines = same_lines (turn_lines 0 rows ++ end_line ∷ []) (turn_lines 0 others ++ end_line ∷ []) (lines_are p rows h.limits h.fitting) (lines_are p others h.limits fit) plant.1 in
     let turns = same_front (turn_lines 0 rows) (turn_lines 0 others) end_line lines in

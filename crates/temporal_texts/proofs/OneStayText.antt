@@ -8,7 +8,6 @@ use Rattle.game_core.specs.declared.game.Row.{Row}
 use Rattle.plant_record.specs.Description.{Description}
 use Rattle.plant_record.specs.Limits.{IsWithinLimits}
 use Rattle.plant_writing.specs.CanonicalText.{text_of}
-use Rattle.plant_reading.proofs.lemmas.StatementLaws.{one_statement}
 use Rattle.plant_text.proofs.lemmas.CanonicalFronts.{one_plant_at_the_front}
 use Rattle.row_runs.specs.declared.row_format.RowFormat.TheVariants.{Both}
 use Rattle.row_runs.specs.declared.run.TableVersion.TheVariants.{Second}
@@ -51,6 +50,6 @@ pub one_stay_text : (bytes : List ℕ) (p q : Description) (rows others : List (
 one_stay_text bytes p q rows others h k =
     let whole : stay_line ++ (text_of p ++ concat (lines_after rows)) ≡ stay_line ++ (text_of q ++ concat (lines_after others)) =
     sym (append_assoc stay_line (text_of p) (concat (lines_after rows))) ∙ sym h.text ∙ k.text ∙ append_assoc stay_line (text_of q) (concat (lines_after others)) in
-    let plant = one_plant_at_the_front one_statement p q (concat (lines_after rows)) (concat (lines_after others)) h.limits.plant k.limits.plant (ap (drop 7) whole) in
+    let plant = one_plant_at_the_front p q (concat (lines_after rows)) (concat (lines_after others)) h.limits.plant k.limits.plant (ap (drop 7) whole) in
     let fit : StayRowsFit p others = subst (λ (d : Description). StayRowsFit d others) (sym plant.0) k.fitting in
     (plant.0, decoded_rows rows others (are_spelled_out p rows h.limits h.fitting) (are_spelled_out p others h.limits fit) (h.fitting.one_each ∙ sym fit.one_each) plant.1)

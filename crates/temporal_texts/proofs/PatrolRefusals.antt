@@ -1,5 +1,5 @@
 -- A text has one reason to be refused as a patrol text, none where it is one with few enough turns, and no text is neither.
-use Rattle.std.proofs.Common.{inl, inr, ◌≡◌, ◌⊎◌, ℕ, ◌*◌, ◌<◌, List, ◌∷◌, [], ◌++◌, length, Option, None, refl, sym, ap, subst, ◌∙◌, append_assoc, arith}
+use Rattle.std.proofs.Common.{inl, inr, ◌≡◌, ℕ, ◌*◌, ◌<◌, List, ◌∷◌, [], ◌++◌, length, Option, None, refl, sym, ap, subst, ◌∙◌, append_assoc, arith}
 use Rattle.std.specs.List.{concat}
 use Rattle.std.proofs.lemmas.Bool.{cases_lt}
 use Rattle.std.proofs.lemmas.List.{append_cancel_left}
@@ -9,14 +9,13 @@ use Rattle.plant_record.specs.declared.limit_kind.LimitKind.{LimitKind}
 use Rattle.plant_record.specs.Description.{Description, axes_of}
 use Rattle.plant_record.specs.Limits.{IsWithinLimits}
 use Rattle.plant_writing.specs.CanonicalText.{text_of}
-use Rattle.plant_reading.proofs.lemmas.StatementLaws.{one_statement}
-use Rattle.plant_text.proofs.lemmas.CanonicalFronts.{one_plant_at_the_front, one_front_refusal, front_read_or_refused}
+use Rattle.plant_text.proofs.lemmas.CanonicalFronts.{one_plant_at_the_front}
 use Rattle.row_runs.specs.RunText.{end_line}
 use Rattle.read_texts.proofs.Laws as texts
 use Rattle.controller_table.specs.declared.table_fault.TableFault.{TableFault}
 use Rattle.controller_table.specs.declared.table_fault.TableFault.TheVariants as tables
 use Rattle.controller_table.specs.HeadedTexts.{alone, IsTextRefusedFor}
-use Rattle.controller_table.proofs.HeadedLaws.{AreHeaded, one_refusal, told_or_refused, TextEnd, is_refused_text, is_told_text, text_end}
+use Rattle.controller_table.proofs.HeadedLaws.{AreHeaded, one_refusal, told_or_refused, some_end}
 use Rattle.temporal_texts.specs.declared.patrol_fault.PatrolFault.TheVariants as faults
 use Rattle.temporal_texts.specs.declared.patrol_reader.TheConstants.{PATROL_LIMIT}
 use Rattle.temporal_texts.specs.PatrolText.{patrol_line, turn_lines, IsPatrolText}
@@ -46,13 +45,12 @@ patrol_told bytes rest p rows within are told = record {
 
 one_text_refusal : (bytes : List ℕ) (f g : TableFault) → IsTextRefusedFor (alone patrol_line) ArePatrolRowsRefusedAt PATROL_LIMIT bytes f → IsTextRefusedFor (alone patrol_line) ArePatrolRowsRefusedAt PATROL_LIMIT bytes g → f ≡ g
 one_text_refusal bytes f g h k =
-    one_refusal (alone patrol_line) ArePatrolRowsRefusedAt patrol_texts_are_headed (one_plant_at_the_front one_statement) (one_front_refusal one_statement) (front_read_or_refused one_statement) PATROL_LIMIT bytes f g h k
+    one_refusal (alone patrol_line) ArePatrolRowsRefusedAt patrol_texts_are_headed PATROL_LIMIT bytes f g h k
 
 -- a text with too many turns is refused for nothing else
 many_or_refused : (bytes : List ℕ) (f : TableFault) → IsShortPatrol bytes → HasManyTurns bytes → IsTextRefusedFor (alone patrol_line) ArePatrolRowsRefusedAt PATROL_LIMIT bytes f → ⊥
 many_or_refused bytes f short m refused =
-    told_or_refused (alone patrol_line) ArePatrolRowsRefusedAt patrol_texts_are_headed (one_plant_at_the_front one_statement) (one_front_refusal one_statement) (front_read_or_refused one_statement)
-    PATROL_LIMIT bytes tt m.plant m.rest f short m.limits m.are (λ n r. m.many r.0) refused
+    told_or_refused (alone patrol_line) ArePatrolRowsRefusedAt patrol_texts_are_headed bytes tt m.plant m.rest m.limits m.are (λ n r. m.many r.0) PATROL_LIMIT f short refused
 
 same_line : (m n : ℕ) → tables.Malformed m ≡ tables.Malformed n → m ≡ n
 same_line m n e = cc
@@ -91,14 +89,13 @@ module _ (bytes : List ℕ) (p : Description) (rows : List (List (Option Row))) 
 
   text_or_refused : (f : TableFault) → IsTextRefusedFor (alone patrol_line) ArePatrolRowsRefusedAt PATROL_LIMIT bytes f → ⊥
   text_or_refused f refused =
-      told_or_refused (alone patrol_line) ArePatrolRowsRefusedAt patrol_texts_are_headed (one_plant_at_the_front one_statement) (one_front_refusal one_statement) (front_read_or_refused one_statement)
-      PATROL_LIMIT bytes tt p after f (patrol_texts_are_short bytes p rows t few) t.limits t.text (λ n r. rows_or_refused n r.1) refused
+      told_or_refused (alone patrol_line) ArePatrolRowsRefusedAt patrol_texts_are_headed bytes tt p after t.limits t.text (λ n r. rows_or_refused n r.1) PATROL_LIMIT f (patrol_texts_are_short bytes p rows t few) refused
 
   few_or_many : HasManyTurns bytes → ⊥
   few_or_many m =
       let behind : patrol_line ++ (text_of p ++ after) ≡ patrol_line ++ (text_of m.plant ++ m.rest) =
       sym (append_assoc patrol_line (text_of p) after) ∙ sym t.text ∙ m.are ∙ append_assoc patrol_line (text_of m.plant) m.rest in
-      let same = one_plant_at_the_front one_statement p m.plant after m.rest t.limits.plant m.limits.plant (append_cancel_left patrol_line (text_of p ++ after) (text_of m.plant ++ m.rest) behind) in
+      let same = one_plant_at_the_front p m.plant after m.rest t.limits.plant m.limits.plant (append_cancel_left patrol_line (text_of p ++ after) (text_of m.plant ++ m.rest) behind) in
       m.many (subst HasFewTurns same.0 few)
 
 pub patrol_text_or_refused : PatrolTextOrRefused
@@ -109,34 +106,19 @@ patrol_text_or_refused bytes p rows faults.Memory t few refused = refused
 
 -- ---- never neither
 
--- a plant has too many turns, or the bytes after it tell rows
-abbrev AreTold : Unit {0} → Description → List ℕ → Type 0
-AreTold k p rest = (HasFewTurns p → ⊥) ⊎ (HasFewTurns p × ((rows : List (List (Option Row))) × EncodeTurns p rest rows))
-
 too_many : (p : Description) → 4194304 < cells_of (axes_of p) * length p.targets → HasFewTurns p → ⊥
 too_many p many few = omega (arith, many, few)
 
-some_rows : (k : Unit {0}) (p : Description) (rest : List ℕ) → IsWithinLimits p → (AreTold k p rest ⊎ ((n : ℕ) × ArePatrolRowsRefusedAt k p rest n) → ⊥) → ⊥
-some_rows k p rest within deny =
-    elim (cases_lt 4194304 (cells_of (axes_of p) * length p.targets)) [
-      | inl many ↦ deny (inl (inl (too_many p many)))
-      | inr few ↦ no_turns_are_neither p within rest (λ end. elim end [
-        | inl told ↦ deny (inl (inr (few, told)))
-        | inr refused ↦ deny (inr (refused.0, (few, refused.1)))
-      ])
-    ]
-
 pub no_patrol_text_is_neither : NoPatrolTextIsNeither
-no_patrol_text_is_neither bytes no_text no_refusal = text_end (alone patrol_line) ArePatrolRowsRefusedAt AreTold PATROL_LIMIT some_rows bytes by_end
+no_patrol_text_is_neither bytes no_text no_refusal = some_end (alone patrol_line) ArePatrolRowsRefusedAt PATROL_LIMIT bytes by_fault by_plant
   where
     by_fault : (f : TableFault) → IsTextRefusedFor (alone patrol_line) ArePatrolRowsRefusedAt PATROL_LIMIT bytes f → ⊥
     by_fault (tables.Malformed n) refused = no_refusal (faults.Malformed n) refused
     by_fault (tables.Limit what) refused = no_refusal (faults.Limit what) refused
     by_fault tables.Memory refused = refused
 
-    by_end : TextEnd (alone patrol_line) ArePatrolRowsRefusedAt AreTold PATROL_LIMIT bytes → ⊥
-    by_end (is_refused_text f refused) = by_fault f refused
-    by_end (is_told_text k p rest short limits are told) = elim told [
-      | inl many ↦ no_refusal faults.Turns (short, record { plant = p; limits = limits; rest = rest; are = are; many = many })
-      | inr rows ↦ no_text p rows.1.0 (patrol_told bytes rest p rows.1.0 limits are rows.1.1) rows.0
+    by_plant : (k : Unit {0}) (p : Description) (rest : List ℕ) → IsShortPatrol bytes → IsWithinLimits p → bytes ≡ patrol_line ++ text_of p ++ rest → ((n : ℕ) → ArePatrolRowsRefusedAt k p rest n → ⊥) → ⊥
+    by_plant k p rest short limits are no_row = elim (cases_lt 4194304 (cells_of (axes_of p) * length p.targets)) [
+      | inl many ↦ no_refusal faults.Turns (short, record { plant = p; limits = limits; rest = rest; are = are; many = too_many p many })
+      | inr few ↦ no_turns_are_neither p limits rest (λ rows told. no_text p rows (patrol_told bytes rest p rows limits are told) few) (λ n refused. no_row n (few, refused))
     ]

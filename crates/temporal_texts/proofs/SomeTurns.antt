@@ -1,5 +1,5 @@
 -- No bytes tell no rows of turns and have no line that is refused.
-use Rattle.std.proofs.Common.{inl, inr, ◌≡◌, ◌⊎◌, ℕ, zero, suc, ◌+◌, ◌^◌, ◌<◌, ◌≤◌, List, [], ◌∷◌, ◌++◌, length, Option, Some, None, refl, sym, ap, subst, ◌∙◌, append_assoc, append-nil, arith}
+use Rattle.std.proofs.Common.{inl, inr, ◌≡◌, ℕ, zero, suc, ◌+◌, ◌^◌, ◌<◌, ◌≤◌, List, [], ◌∷◌, ◌++◌, length, Option, Some, None, refl, sym, ap, subst, ◌∙◌, append_assoc, append-nil, arith}
 use Rattle.std.specs.List.{AllByRecursion}
 use Rattle.game_core.specs.declared.game.Row.{Row}
 use Rattle.grid_quantiser.specs.Axes.{cells_of}
@@ -11,7 +11,7 @@ use Rattle.row_runs.specs.RunText.{run_lines, count_line, end_line}
 use Rattle.row_runs.proofs.Lines.{same_front}
 use Rattle.base.proofs.Lists.{same_tail, same_head}
 use Rattle.read_texts.specs.Steps.{joined, Leads, IsRead, IsStuck}
-use Rattle.read_texts.proofs.Laws.{Outcome, is_read, is_refused, joined_bytes, both_ways, read_or_refused, one_end, undeniable}
+use Rattle.read_texts.proofs.Laws.{joined_bytes, both_ways, read_or_refused, one_end, undeniable}
 use Rattle.row_reading.specs.RowsTexts.{AreRowsWithin, counted_lines, IsRowsText}
 use Rattle.row_reading.specs.RowSteps.{RowState, Begin, Due, Done, RowStep, IsOver, IsRowRefused}
 use Rattle.row_reading.specs.inside.RunReading.{AreSmall}
@@ -50,7 +50,7 @@ module _ (p : Description) (within : IsWithinLimits p) where
   stops piece behind r cut step = step
 
   rows_of : (n : ℕ) (lines : List (List ℕ)) (before : Option Run) → n ≤ cells → Leads (RowStep (patrol_rules p)) (Due n None) lines (Due 0 before) → (AreRowsOf n lines → ⊥) → ⊥
-  rows_of n lines before le leads deny = no_bytes_are_neither (patrol_rules p) small (joined all) by
+  rows_of n lines before le leads deny = no_bytes_are_neither (patrol_rules p) small (joined all) (λ rows text. deny (told rows text)) unrefused
     where
       all : List (List ℕ)
       all = count_line n ∷ lines ++ end_line ∷ []
@@ -73,11 +73,9 @@ module _ (p : Description) (within : IsWithinLimits p) where
           number : (rows : List (Option Row)) → AreRowsWithin (patrol_rules p) rows → count_line n ≡ count_line (length (run_lines Both rows)) → n ≡ length (run_lines Both rows)
           number rows are e = count_same n (length (run_lines Both rows)) (few n le) (few (length (run_lines Both rows)) (few_lines (patrol_rules p) rows are)) e
 
-      by : ((rows : List (Option Row)) × IsRowsText (patrol_rules p) (joined all) rows) ⊎ ((k : ℕ) × IsRowRefused (patrol_rules p) (joined all) k) → ⊥
-      by end = elim end [
-        | inl (rows, text) ↦ deny (told rows text)
-        | inr (k, refused) ↦ read_or_refused (RowStep (patrol_rules p)) IsOver Anywhere (rows_are_grammar (patrol_rules p) small) Begin (joined all) Done [] k tt (record { pieces = all; read = read; closed = refl }) refused
-      ]
+      unrefused : (k : ℕ) → IsRowRefused (patrol_rules p) (joined all) k → ⊥
+      unrefused k refused =
+          read_or_refused (RowStep (patrol_rules p)) IsOver Anywhere (rows_are_grammar (patrol_rules p) small) Begin (joined all) Done [] k tt (record { pieces = all; read = read; closed = refl }) refused
 
   -- ---- the lines of one turn, and those after them
 
@@ -162,9 +160,6 @@ module _ (p : Description) (within : IsWithinLimits p) where
         },
       ))
 
-  pub no_turns_are_neither : (bytes : List ℕ) → (((rows : List (List (Option Row))) × EncodeTurns p bytes rows) ⊎ ((n : ℕ) × AreTurnsRefusedAt p bytes n) → ⊥) → ⊥
-  no_turns_are_neither bytes deny = undeniable (TurnStep p) AreOver Met (turns_are_grammar p within) (AfterTurns 0 0 None) bytes tt by
-    where
-      by : Outcome (TurnStep p) AreOver Met (turns_are_grammar p within) (AfterTurns 0 0 None) bytes → ⊥
-      by (is_read to rest reading) = text_told bytes to rest reading.pieces reading.closed reading.read (λ told. deny (inl told))
-      by (is_refused n refused) = deny (inr (n, refused))
+  pub no_turns_are_neither : (bytes : List ℕ) → ((rows : List (List (Option Row))) → EncodeTurns p bytes rows → ⊥) → ((n : ℕ) → AreTurnsRefusedAt p bytes n → ⊥) → ⊥
+  no_turns_are_neither bytes untold unrefused =
+      undeniable (TurnStep p) AreOver Met (turns_are_grammar p within) (AfterTurns 0 0 None) bytes tt (λ to rest reading. text_told bytes to rest reading.pieces reading.closed reading.read (λ told. untold told.0 told.1)) unrefused

@@ -1,20 +1,18 @@
 -- A text has one reason to be refused as a stay text, none where it is one, and no text is neither.
-use Rattle.std.proofs.Common.{◌≡◌, ◌⊎◌, ℕ, List, ◌++◌, Option, refl, ap, ◌∙◌}
+use Rattle.std.proofs.Common.{◌≡◌, ℕ, List, ◌++◌, Option, refl, ap, ◌∙◌}
 use Rattle.std.specs.List.{concat}
 use Rattle.std.proofs.lemmas.List.{append_cancel_left}
 use Rattle.game_core.specs.declared.game.Row.{Row}
 use Rattle.plant_record.specs.Description.{Description}
 use Rattle.plant_record.specs.Limits.{IsWithinLimits}
 use Rattle.plant_writing.specs.CanonicalText.{text_of}
-use Rattle.plant_reading.proofs.lemmas.StatementLaws.{one_statement}
-use Rattle.plant_text.proofs.lemmas.CanonicalFronts.{one_plant_at_the_front, one_front_refusal, front_read_or_refused}
 use Rattle.row_runs.specs.declared.row_format.RowFormat.TheVariants.{Both}
 use Rattle.row_runs.specs.declared.run.TableVersion.TheVariants.{Second}
 use Rattle.row_reading.specs.RowsTexts.{counted_lines, IsRowsText}
 use Rattle.row_reading.proofs.Laws.{one_row_refused, rows_or_refused}
 use Rattle.row_reading.proofs.SomeRows.{no_bytes_are_neither}
 use Rattle.controller_table.specs.HeadedTexts.{alone}
-use Rattle.controller_table.proofs.HeadedLaws.{AreHeaded, one_refusal, told_or_refused, TextEnd, is_refused_text, is_told_text, text_end}
+use Rattle.controller_table.proofs.HeadedLaws.{AreHeaded, one_refusal, told_or_refused, some_end}
 use Rattle.temporal_texts.specs.StayText.{stay_line, IsStayText}
 use Rattle.temporal_texts.specs.StayRefusals.{stay_rules, AreStayRowsRefusedAt}
 use Rattle.temporal_texts.specs.Laws.{OneStayRefusal, StayTextOrRefused, NoStayTextIsNeither}
@@ -38,24 +36,15 @@ stay_told bytes rest p rows within are told = record {
 
 pub one_stay_refusal : OneStayRefusal
 one_stay_refusal bytes f g h k =
-    one_refusal (alone stay_line) AreStayRowsRefusedAt stay_texts_are_headed (one_plant_at_the_front one_statement) (one_front_refusal one_statement) (front_read_or_refused one_statement) TABLE_LIMIT bytes f g h k
+    one_refusal (alone stay_line) AreStayRowsRefusedAt stay_texts_are_headed TABLE_LIMIT bytes f g h k
 
 pub stay_text_or_refused : StayTextOrRefused
 stay_text_or_refused bytes p rows f t refused =
-    told_or_refused (alone stay_line) AreStayRowsRefusedAt stay_texts_are_headed (one_plant_at_the_front one_statement) (one_front_refusal one_statement) (front_read_or_refused one_statement)
-    TABLE_LIMIT bytes tt p (concat (counted_lines Second Both rows)) f (stay_texts_are_short bytes p rows t) t.limits t.text
-    (λ n r. rows_or_refused (stay_rules p) (small_rules p t.limits) (concat (counted_lines Second Both rows)) rows n (record { within = rows_within p rows t.fitting; text = refl }) r) refused
-
--- the rows that the bytes after a plant tell
-abbrev AreTold : Unit {0} → Description → List ℕ → Type 0
-AreTold k p rest = (rows : List (Option Row)) × IsRowsText (stay_rules p) rest rows
-
-some_rows : (k : Unit {0}) (p : Description) (rest : List ℕ) → IsWithinLimits p → (AreTold k p rest ⊎ ((n : ℕ) × AreStayRowsRefusedAt k p rest n) → ⊥) → ⊥
-some_rows k p rest within deny = no_bytes_are_neither (stay_rules p) (small_rules p within) rest deny
+    told_or_refused (alone stay_line) AreStayRowsRefusedAt stay_texts_are_headed bytes tt p (concat (counted_lines Second Both rows)) t.limits t.text
+    (λ n r. rows_or_refused (stay_rules p) (small_rules p t.limits) (concat (counted_lines Second Both rows)) rows n (record { within = rows_within p rows t.fitting; text = refl }) r)
+    TABLE_LIMIT f (stay_texts_are_short bytes p rows t) refused
 
 pub no_stay_text_is_neither : NoStayTextIsNeither
-no_stay_text_is_neither bytes no_text no_refusal = text_end (alone stay_line) AreStayRowsRefusedAt AreTold TABLE_LIMIT some_rows bytes by_end
-  where
-    by_end : TextEnd (alone stay_line) AreStayRowsRefusedAt AreTold TABLE_LIMIT bytes → ⊥
-    by_end (is_refused_text f refused) = no_refusal f refused
-    by_end (is_told_text k p rest short limits are told) = no_text p told.0 (stay_told bytes rest p told.0 limits are told.1)
+no_stay_text_is_neither bytes no_text no_refusal =
+    some_end (alone stay_line) AreStayRowsRefusedAt TABLE_LIMIT bytes no_refusal (λ k p rest short limits are no_row.
+    no_bytes_are_neither (stay_rules p) (small_rules p limits) rest (λ rows told. no_text p rows (stay_told bytes rest p rows limits are told)) no_row)

@@ -29,7 +29,7 @@ pub data TurnState : Type 0 where
   AfterTurns : (turns rows : ℕ) (last : Option Run) → TurnState
   AfterAll : TurnState
 
--- a line leads from one place to the next: while rows are due, a row line; then the next turn's line, or after all turns the end
+-- a line leads from one state to the next: while rows are due, a row line; then the next turn's line, or after all turns the end
 abbrev pub TurnStep : Description → TurnState → List ℕ → TurnState → Type 0
 TurnStep p (AfterTurns j zero last) line to =
     ((j < length p.targets) × (n : ℕ) × (n ≤ cells_of (axes_of p)) × (line ≡ turn_line j n) × (to ≡ AfterTurns (suc j) n None))

@@ -57,7 +57,7 @@ fn take_turn(
     ensures read { IfOk result (λ r. IsTurnRead rules turn r.1 bytes.now r.0 r.2.now) }
     ensures refused { IfErr result (λ fault. IsRefusedAt (IsTurnRefused rules turn bytes.now) fault) }
 {
-    let Some((count, rest)) = turn_in(bytes, turn, rules.cells) else {
+    let Some((count, rest)) = take_turn_line(bytes, turn, rules.cells) else {
         return Err(RowFault::Malformed { line: 1 });
     };
     match take_rows(alloc, rules, count, rest) {
@@ -68,7 +68,7 @@ fn take_turn(
 }
 
 /// The number of row lines of a turn, which is at most this, and what stands after the turn's line.
-fn turn_in(bytes: &[u8], turn: u32, most: u32) -> Option<(u32, &[u8])>
+fn take_turn_line(bytes: &[u8], turn: u32, most: u32) -> Option<(u32, &[u8])>
     ensures { Finds (λ r. (r.0, r.1.now)) (IsTurnAt turn most bytes.now) result }
 {
     let words = after_prefix(bytes, b"turn ")?;

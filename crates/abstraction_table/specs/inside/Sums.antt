@@ -1,5 +1,5 @@
 -- Boxes as sums.
-use Rattle.std.specs.Prelude.{◌≡◌, ℕ, ◌+◌, ◌*◌, ◌<◌, List, length, slice_index, slice_index_or, Option, None, Some}
+use Rattle.std.specs.Prelude.{◌≡◌, ℕ, ◌+◌, ◌-◌, ◌*◌, ◌^◌, ◌<◌, List, length, slice_index, slice_index_or, Option, None, Some}
 use Rattle.grid_quantiser.specs.declared.boxes.CellBox.{CellBox}
 use Rattle.grid_quantiser.specs.declared.extents.Extent.{Extent}
 
@@ -13,6 +13,11 @@ abbrev pub plus : Option CellBox → Option CellBox → Option CellBox
 plus None b = None
 plus (Some a) None = None
 plus (Some a) (Some b) = Some (record { first = a.first + b.first; last = a.last + b.last })
+
+-- the ends of a box in one word of 64 bits, and the greatest where there is no box
+abbrev pub word_of : Option CellBox → ℕ
+word_of None = 2 ^ 64 - 1
+word_of (Some b) = b.last * 2 ^ 32 + b.first
 
 -- the term at an input's slot
 abbrev pub term_under : List (Option CellBox) → List ℕ → ℕ → Option CellBox

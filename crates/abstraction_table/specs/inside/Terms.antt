@@ -1,5 +1,5 @@
 -- Boxes as sums of terms, and the terms of all boxes in one table for each state.
-use Rattle.std.specs.Prelude.{◌≡◌, ℕ, ◌+◌, ◌*◌, ◌^◌, ◌<◌, ◌≤◌, List, drop, length, slice_index, slice_index_or, sum_by, Option, None, IfSome, IsTrue, if◌then◌else◌}
+use Rattle.std.specs.Prelude.{◌≡◌, ℕ, ◌+◌, ◌*◌, ◌<◌, ◌≤◌, List, drop, length, slice_index, slice_index_or, sum_by, Option, None, IfSome, IsTrue, if◌then◌else◌}
 use Rattle.std.specs.List.{All}
 use Rattle.grid_quantiser.specs.declared.boxes.CellBox.{CellBox}
 use Rattle.grid_quantiser.specs.declared.extents.Extent.{Extent}

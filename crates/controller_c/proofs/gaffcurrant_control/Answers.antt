@@ -1,8 +1,8 @@
 use Rattle.std.proofs.Common.{Option, Some, sym, subst, w32, rules}
 use Rattle.std.specs.Prelude.{FitsSigned}
 use Rattle.std.proofs.lemmas.Int.{to_z-of_z}
-use Rattle.controller_table.specs.Tables.{TableModel}
-use Rattle.table_control.specs.Control.{EncodesReply}
+use Rattle.text_control.specs.Texts.{TextModel}
+use Rattle.text_control.specs.Control.{EncodesReply}
 use Rattle.controller_c.specs.Exports.{IsReplied}
 use Rattle.controller_c.proofs.gaffcurrant_control.Goals as goal
 
@@ -14,5 +14,5 @@ returns-in-Some-clause-reply c =
     let fits : FitsSigned w32 c.number.result = search rules in
     let told : EncodesReply c.deref.result.now x before after c.number.result = (c.control-reply.result, c.number.ensures, c.control-reply.ensures.reply, c.control-reply.ensures.text) in
     rw (to_z-of_z w32 c.number.result fits)
-    (subst (λ (o : Option TableModel). IsReplied o x before after c.number.result) (sym c.in-Some.ensures.taken)
-    (subst (λ (t : TableModel). IsReplied (Some t) x before after c.number.result) c.deref.ensures told))
+    (subst (λ (o : Option TextModel). IsReplied o x before after c.number.result) (sym c.in-Some.ensures.taken)
+    (subst (λ (t : TextModel). IsReplied (Some t) x before after c.number.result) c.deref.ensures told))

@@ -1,7 +1,7 @@
 use Rattle.std.proofs.Common.{Option, Some, sym, subst, w32, rules}
 use Rattle.std.specs.Prelude.{FitsSigned}
 use Rattle.std.proofs.lemmas.Int.{to_z-of_z}
-use Rattle.controller_table.specs.Tables.{TableModel}
+use Rattle.text_control.specs.Texts.{TextModel}
 use Rattle.controller_c.specs.Exports.{IsRanked}
 use Rattle.controller_c.proofs.gaffcurrant_rank.Goals as goal
 
@@ -12,5 +12,5 @@ returns-in-Some-clause-rank c =
     let status = c.copy_rank-status.result in
     let fits : FitsSigned w32 status = search rules in
     rw (to_z-of_z w32 status fits)
-    (subst (λ (o : Option TableModel). IsRanked o x rank status) (sym c.in-Some.ensures.taken)
-    (subst (λ (t : TableModel). IsRanked (Some t) x rank status) c.deref.ensures c.copy_rank-status.ensures))
+    (subst (λ (o : Option TextModel). IsRanked o x rank status) (sym c.in-Some.ensures.taken)
+    (subst (λ (t : TextModel). IsRanked (Some t) x rank status) c.deref.ensures c.copy_rank-status.ensures))

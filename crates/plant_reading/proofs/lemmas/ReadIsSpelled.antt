@@ -1,11 +1,12 @@
 -- What is read is spelled by a grammatical tree of that meaning.
 use Rattle.std.proofs.Common.{◌≡◌, ℕ, zero, suc, ◌-◌, ◌^◌, ◌<◌, ◌≤◌, cond, eqb, leb, ltb, List, [], ◌∷◌, ◌++◌, length, Some, None, refl, sym, ap, subst, ◌∙◌, append_assoc, arith, ◌&&◌}
-use Rattle.std.specs.Prelude.{pos}
+use Rattle.std.specs.Prelude.{ℤ, pos}
 use Rattle.std.specs.List.{flat_map}
 use Rattle.std.proofs.lemmas.List.{append-nil, nil_from_length}
 use Rattle.std.proofs.lemmas.Bool.{and_parts, leb-true, ltb-true, eqb-true}
 use Rattle.plant_reading.specs.declared.token_kind.TokenKind.{TokenKind}
 use Rattle.plant_reading.specs.declared.token_kind.TokenKind.TheVariants as kind
+use Rattle.fixed_expr.specs.Curves.{IsCurve}
 use Rattle.fixed_expr.specs.Expression.{Expression, NumExpr, VarExpr, NegExpr, AddExpr, SubExpr, MulExpr, DivExpr, MinExpr, MaxExpr, AbsExpr, LutExpr}
 use Rattle.plant_record.specs.Equations.{nodes_of, depth_of}
 use Rattle.plant_reading.specs.SyntaxTrees.{Syntax, NumTree, VarTree, NegTree, AddTree, SubTree, MulTree, DivTree, MinTree, MaxTree, AbsTree, LutTree, ParenTree, level_of, IsGrammatical, meaning_of, brackets_of}
@@ -102,11 +103,11 @@ record Closed (m b : ℕ) (ts : List TokenKind) (y : Expression × List TokenKin
 closed_sound : (m b : ℕ) (r : Ask → Read) (ts : List TokenKind) (y : Expression × List TokenKind) → IsSound m r → bracketed r b ts ≡ Some y → Closed m b ts y
 unfolding bracketed
 closed_sound m b r ts y s e =
-    let a = then_some (r (Inside b ts)) (λ a. after_close a.1 >>= λ rest. Some (a.0, rest)) y e in
-    let c = then_some (after_close a.0.1) (λ rest. Some (a.0.0, rest)) y a.2 in
-    let q : ◌≡◌ {A = Expression × List TokenKind} (a.0.0, c.0) y = cc c.2 in
-    let i = s (Inside b ts) a.0 a.1 in
-    subst (Closed m b ts) q (record { some = i.some; after = a.0.1; close = close_takes a.0.1 c.0 c.1; sum = i.sum })
+    then_some (Closed m b ts y) (r (Inside b ts)) (λ a. after_close a.1 >>= λ rest. Some (a.0, rest)) y e (λ a inside behind.
+    then_some (Closed m b ts y) (after_close a.1) (λ rest. Some (a.0, rest)) y behind (λ rest close all.
+    (let q : ◌≡◌ {A = Expression × List TokenKind} (a.0, rest) y = cc all in
+    let i = s (Inside b ts) a inside in
+    subst (Closed m b ts) q (record { some = i.some; after = a.1; close = close_takes a.1 rest close; sum = i.sum }))))
 
 -- the tokens of a sum and the bracket that closes
 with_close : (u rest after ts : List TokenKind) → u ++ after ≡ ts → after ≡ kind.Close ∷ rest → (u ++ kind.Close ∷ []) ++ rest ≡ ts
@@ -124,15 +125,14 @@ record Pair (m b : ℕ) (ts : List TokenKind) (y : Expression × Expression × L
 pair_sound : (m b : ℕ) (r : Ask → Read) (ts : List TokenKind) (y : Expression × Expression × List TokenKind) → IsSound m r → pair_of r b ts ≡ Some y → Pair m b ts y
 unfolding pair_of
 pair_sound m b r ts y s e =
-    let o = then_some (after_open ts) (λ o. r (Inside b o) >>= λ a. after_comma a.1 >>= λ rest. bracketed r b rest >>= λ c. Some (a.0, c.0, c.1)) y e in
-    let a = then_some (r (Inside b o.0)) (λ a. after_comma a.1 >>= λ rest. bracketed r b rest >>= λ c. Some (a.0, c.0, c.1)) y o.2 in
-    let k = then_some (after_comma a.0.1) (λ rest. bracketed r b rest >>= λ c. Some (a.0.0, c.0, c.1)) y a.2 in
-    let c = then_some (bracketed r b k.0) (λ c. Some (a.0.0, c.0, c.1)) y k.2 in
-    let q : ◌≡◌ {A = Expression × Expression × List TokenKind} (a.0.0, c.0.0, c.0.1) y = cc c.2 in
-    let i = s (Inside b o.0) a.0 a.1 in
-    let comma : a.0.1 ≡ kind.Comma ∷ k.0 = comma_takes a.0.1 k.0 k.1 in
-    let first : Spells m 1 (b - 1) o.0 (a.0.0, kind.Comma ∷ k.0) = subst (λ (us : List TokenKind). Spells m 1 (b - 1) o.0 (a.0.0, us)) comma i.sum in
-    subst (Pair m b ts) q (record { some = i.some; rest = k.0; inner = o.0; opened = open_takes ts o.0 o.1; first = first; second = closed_sound m b r k.0 c.0 s c.1 })
+    then_some (Pair m b ts y) (after_open ts) (λ o. r (Inside b o) >>= λ a. after_comma a.1 >>= λ rest. bracketed r b rest >>= λ c. Some (a.0, c.0, c.1)) y e (λ o opened e1.
+    then_some (Pair m b ts y) (r (Inside b o)) (λ a. after_comma a.1 >>= λ rest. bracketed r b rest >>= λ c. Some (a.0, c.0, c.1)) y e1 (λ a inside e2.
+    then_some (Pair m b ts y) (after_comma a.1) (λ rest. bracketed r b rest >>= λ c. Some (a.0, c.0, c.1)) y e2 (λ rest comma e3.
+    then_some (Pair m b ts y) (bracketed r b rest) (λ c. Some (a.0, c.0, c.1)) y e3 (λ c closed all.
+    (let q : ◌≡◌ {A = Expression × Expression × List TokenKind} (a.0, c.0, c.1) y = cc all in
+    let i = s (Inside b o) a inside in
+    let first : Spells m 1 (b - 1) o (a.0, kind.Comma ∷ rest) = subst (λ (us : List TokenKind). Spells m 1 (b - 1) o (a.0, us)) (comma_takes a.1 rest comma) i.sum in
+    subst (Pair m b ts) q (record { some = i.some; rest = rest; inner = o; opened = open_takes ts o opened; first = first; second = closed_sound m b r rest c s closed }))))))
 
 -- the tokens of two sums in brackets
 pair_spelled : (u v rest ts inner after mid : List TokenKind) → ts ≡ kind.Open ∷ inner → u ++ kind.Comma ∷ mid ≡ inner → v ++ after ≡ mid → after ≡ kind.Close ∷ rest → (kind.Open ∷ (u ++ kind.Comma ∷ (v ++ kind.Close ∷ []))) ++ rest ≡ ts
@@ -160,59 +160,63 @@ table_spelled : (u v rest inner after ts : List TokenKind) → v ++ kind.Close �
 table_spelled u v rest inner after ts points sum opened =
     ap (λ (us : List TokenKind). kind.Lut ∷ us) (ap (λ (us : List TokenKind). kind.Open ∷ us) (append_assoc u (v ++ kind.Close ∷ []) rest ∙ ap (λ (us : List TokenKind). u ++ us) (append_assoc v (kind.Close ∷ []) rest ∙ points) ∙ sum) ∙ sym opened)
 
+negated : (m b : ℕ) (ts rest : List TokenKind) (a e : Expression) → Spells m 3 b ts (a, rest) → kept (NegExpr a) ≡ Some e → Spells m 3 b (kind.Minus ∷ ts) (e, rest)
+negated m b ts rest a e f h =
+    let k = kept_is (NegExpr a) e h in
+    record { tree = NegTree f.tree; grammatical = (f.grammatical, f.level); level = omega arith; means = cc (f.means, k.0); yields = ap (λ (us : List TokenKind). kind.Minus ∷ us) f.yields; brackets = f.brackets; small = k.1 }
+
+size : (m b : ℕ) (ts inner : List TokenKind) (y : Expression × List TokenKind) (e : Expression) → ts ≡ kind.Open ∷ inner → Closed m b inner y → kept (AbsExpr y.0) ≡ Some e → Spells m 3 b (kind.Abs ∷ ts) (e, y.1)
+size m b ts inner y e opened c h =
+    let k = kept_is (AbsExpr y.0) e h in
+    let f = c.sum in
+    record { tree = AbsTree f.tree; grammatical = f.grammatical; level = omega arith; means = cc (f.means, k.0); yields = ap (λ (us : List TokenKind). kind.Abs ∷ us) (ap (λ (us : List TokenKind). kind.Open ∷ us) (with_close (kinds_of f.tree) y.1 c.after inner f.yields c.close) ∙ sym opened); brackets = omega (arith, c.some, f.brackets); small = k.1 }
+
+table : (m b : ℕ) (ts inner after rest : List TokenKind) (a e : Expression) (points : List (ℤ × ℤ)) → ts ≡ kind.Open ∷ inner → Within m b inner (a, after) → (flat_map point_kinds points ++ kind.Close ∷ rest ≡ after) × IsCurve points → kept (LutExpr a points) ≡ Some e
+    → Spells m 3 b (kind.Lut ∷ ts) (e, rest)
+table m b ts inner after rest a e points opened i t h =
+    let k = kept_is (LutExpr a points) e h in
+    let f = i.sum in
+    record { tree = LutTree f.tree points; grammatical = (f.grammatical, t.1); level = omega arith; means = cc (f.means, k.0); yields = table_spelled (kinds_of f.tree) (flat_map point_kinds points) rest inner after ts t.0 f.yields opened; brackets = omega (arith, i.some, f.brackets); small = k.1 }
+
+-- an expression that is kept, with the tokens after it
+kept_with : (m b : ℕ) (ts rest : List TokenKind) (a : Expression) (y : Expression × List TokenKind) → (kept a >>= λ c. Some (c, rest)) ≡ Some y → ((c : Expression) → kept a ≡ Some c → Spells m 3 b ts (c, rest)) → Spells m 3 b ts y
+kept_with m b ts rest a y e spells =
+    then_some (Spells m 3 b ts y) (kept a) (λ c. Some (c, rest)) y e (λ c h all.
+    (let q : ◌≡◌ {A = Expression × List TokenKind} (c, rest) y = cc all in
+    subst (Spells m 3 b ts) q (spells c h)))
+
 factor_sound : (m b : ℕ) (r : Ask → Read) (ts : List TokenKind) (y : Expression × List TokenKind) → IsSound m r → factor_of m r b ts ≡ Some y → Spells m 3 b ts y
 unfolding factor_of
 factor_sound m b r (kind.Number k ∷ ts) y s e =
-    let l = then_some (literal_at (kind.Number k ∷ ts)) (λ x. Some (NumExpr (pos x.0), x.1)) y e in
-    let q : ◌≡◌ {A = Expression × List TokenKind} (NumExpr (pos l.0.0), l.0.1) y = cc l.2 in
-    let t = literal_takes (kind.Number k ∷ ts) l.0 l.1 in
-    subst (Spells m 3 b (kind.Number k ∷ ts)) q (record { tree = NumTree l.0.0; grammatical = t.1; level = omega arith; means = refl; yields = sym t.0; brackets = omega arith; small = leaf_small (NumExpr (pos l.0.0)) refl refl })
+    then_some (Spells m 3 b (kind.Number k ∷ ts) y) (literal_at (kind.Number k ∷ ts)) (λ x. Some (NumExpr (pos x.0), x.1)) y e (λ x number all.
+    (let q : ◌≡◌ {A = Expression × List TokenKind} (NumExpr (pos x.0), x.1) y = cc all in
+    let t = literal_takes (kind.Number k ∷ ts) x number in
+    subst (Spells m 3 b (kind.Number k ∷ ts)) q (record { tree = NumTree x.0; grammatical = t.1; level = omega arith; means = refl; yields = sym t.0; brackets = omega arith; small = leaf_small (NumExpr (pos x.0)) refl refl })))
 factor_sound m b r (kind.Variable i ∷ ts) y s e =
     let p = when_some (ltb i m) (VarExpr i, ts) y e in
     subst (Spells m 3 b (kind.Variable i ∷ ts)) p.1 (record { tree = VarTree i; grammatical = ltb-true _ _ p.0; level = omega arith; means = refl; yields = refl; brackets = omega arith; small = leaf_small (VarExpr i) refl refl })
 factor_sound m b r (kind.Minus ∷ ts) y s e =
-    let a = then_some (r (Signed b ts)) (λ a. kept (NegExpr a.0) >>= λ c. Some (c, a.1)) y e in
-    let h = then_some (kept (NegExpr a.0.0)) (λ c. Some (c, a.0.1)) y a.2 in
-    let q : ◌≡◌ {A = Expression × List TokenKind} (h.0, a.0.1) y = cc h.2 in
-    let k = kept_is (NegExpr a.0.0) h.0 h.1 in
-    let f = s (Signed b ts) a.0 a.1 in
-    subst (Spells m 3 b (kind.Minus ∷ ts)) q (record { tree = NegTree f.tree; grammatical = (f.grammatical, f.level); level = omega arith; means = cc (f.means, k.0); yields = ap (λ (us : List TokenKind). kind.Minus ∷ us) f.yields; brackets = f.brackets; small = k.1 })
+    then_some (Spells m 3 b (kind.Minus ∷ ts) y) (r (Signed b ts)) (λ a. kept (NegExpr a.0) >>= λ c. Some (c, a.1)) y e (λ a signed rest.
+    kept_with m b (kind.Minus ∷ ts) a.1 (NegExpr a.0) y rest (λ c h. negated m b ts a.1 a.0 c (s (Signed b ts) a signed) h))
 factor_sound m b r (kind.Open ∷ ts) y s e =
     let c = closed_sound m b r ts y s e in
     let f = c.sum in
     record { tree = ParenTree f.tree; grammatical = f.grammatical; level = omega arith; means = f.means; yields = ap (λ (us : List TokenKind). kind.Open ∷ us) (with_close (kinds_of f.tree) y.1 c.after ts f.yields c.close); brackets = omega (arith, c.some, f.brackets); small = f.small }
 factor_sound m b r (kind.Min ∷ ts) y s e =
-    let x = then_some (pair_of r b ts) (λ x. kept (MinExpr x.0 x.1) >>= λ c. Some (c, x.2)) y e in
-    let h = then_some (kept (MinExpr x.0.0 x.0.1)) (λ c. Some (c, x.0.2)) y x.2 in
-    let q : ◌≡◌ {A = Expression × List TokenKind} (h.0, x.0.2) y = cc h.2 in
-    subst (Spells m 3 b (kind.Min ∷ ts)) q (least m b ts x.0 h.0 (pair_sound m b r ts x.0 s x.1) h.1)
+    then_some (Spells m 3 b (kind.Min ∷ ts) y) (pair_of r b ts) (λ x. kept (MinExpr x.0 x.1) >>= λ c. Some (c, x.2)) y e (λ x pair rest.
+    kept_with m b (kind.Min ∷ ts) x.2 (MinExpr x.0 x.1) y rest (λ c h. least m b ts x c (pair_sound m b r ts x s pair) h))
 factor_sound m b r (kind.Max ∷ ts) y s e =
-    let x = then_some (pair_of r b ts) (λ x. kept (MaxExpr x.0 x.1) >>= λ c. Some (c, x.2)) y e in
-    let h = then_some (kept (MaxExpr x.0.0 x.0.1)) (λ c. Some (c, x.0.2)) y x.2 in
-    let q : ◌≡◌ {A = Expression × List TokenKind} (h.0, x.0.2) y = cc h.2 in
-    subst (Spells m 3 b (kind.Max ∷ ts)) q (greatest m b ts x.0 h.0 (pair_sound m b r ts x.0 s x.1) h.1)
+    then_some (Spells m 3 b (kind.Max ∷ ts) y) (pair_of r b ts) (λ x. kept (MaxExpr x.0 x.1) >>= λ c. Some (c, x.2)) y e (λ x pair rest.
+    kept_with m b (kind.Max ∷ ts) x.2 (MaxExpr x.0 x.1) y rest (λ c h. greatest m b ts x c (pair_sound m b r ts x s pair) h))
 factor_sound m b r (kind.Abs ∷ ts) y s e =
-    let o = then_some (after_open ts) (λ o. bracketed r b o >>= λ a. kept (AbsExpr a.0) >>= λ c. Some (c, a.1)) y e in
-    let a = then_some (bracketed r b o.0) (λ a. kept (AbsExpr a.0) >>= λ c. Some (c, a.1)) y o.2 in
-    let h = then_some (kept (AbsExpr a.0.0)) (λ c. Some (c, a.0.1)) y a.2 in
-    let q : ◌≡◌ {A = Expression × List TokenKind} (h.0, a.0.1) y = cc h.2 in
-    let k = kept_is (AbsExpr a.0.0) h.0 h.1 in
-    let c = closed_sound m b r o.0 a.0 s a.1 in
-    let f = c.sum in
-    let opened = open_takes ts o.0 o.1 in
-    subst (Spells m 3 b (kind.Abs ∷ ts)) q (record { tree = AbsTree f.tree; grammatical = f.grammatical; level = omega arith; means = cc (f.means, k.0); yields = ap (λ (us : List TokenKind). kind.Abs ∷ us) (ap (λ (us : List TokenKind). kind.Open ∷ us) (with_close (kinds_of f.tree) a.0.1 c.after o.0 f.yields c.close) ∙ sym opened); brackets = omega (arith, c.some, f.brackets); small = k.1 })
+    then_some (Spells m 3 b (kind.Abs ∷ ts) y) (after_open ts) (λ o. bracketed r b o >>= λ a. kept (AbsExpr a.0) >>= λ c. Some (c, a.1)) y e (λ o opened behind.
+    then_some (Spells m 3 b (kind.Abs ∷ ts) y) (bracketed r b o) (λ a. kept (AbsExpr a.0) >>= λ c. Some (c, a.1)) y behind (λ a closed rest.
+    kept_with m b (kind.Abs ∷ ts) a.1 (AbsExpr a.0) y rest (λ c h. size m b ts o a c (open_takes ts o opened) (closed_sound m b r o a s closed) h)))
 factor_sound m b r (kind.Lut ∷ ts) y s e =
-    let o = then_some (after_open ts) (λ o. r (Inside b o) >>= λ a. curve_at a.1 >>= λ p. kept (LutExpr a.0 p.0) >>= λ c. Some (c, p.1)) y e in
-    let a = then_some (r (Inside b o.0)) (λ a. curve_at a.1 >>= λ p. kept (LutExpr a.0 p.0) >>= λ c. Some (c, p.1)) y o.2 in
-    let p = then_some (curve_at a.0.1) (λ p. kept (LutExpr a.0.0 p.0) >>= λ c. Some (c, p.1)) y a.2 in
-    let h = then_some (kept (LutExpr a.0.0 p.0.0)) (λ c. Some (c, p.0.1)) y p.2 in
-    let q : ◌≡◌ {A = Expression × List TokenKind} (h.0, p.0.1) y = cc h.2 in
-    let k = kept_is (LutExpr a.0.0 p.0.0) h.0 h.1 in
-    let i = s (Inside b o.0) a.0 a.1 in
-    let f = i.sum in
-    let t = curve_takes a.0.1 p.0 p.1 in
-    let opened = open_takes ts o.0 o.1 in
-    subst (Spells m 3 b (kind.Lut ∷ ts)) q (record { tree = LutTree f.tree p.0.0; grammatical = (f.grammatical, t.1); level = omega arith; means = cc (f.means, k.0); yields = table_spelled (kinds_of f.tree) (flat_map point_kinds p.0.0) p.0.1 o.0 a.0.1 ts t.0 f.yields opened; brackets = omega (arith, i.some, f.brackets); small = k.1 })
+    then_some (Spells m 3 b (kind.Lut ∷ ts) y) (after_open ts) (λ o. r (Inside b o) >>= λ a. curve_at a.1 >>= λ p. kept (LutExpr a.0 p.0) >>= λ c. Some (c, p.1)) y e (λ o opened e1.
+    then_some (Spells m 3 b (kind.Lut ∷ ts) y) (r (Inside b o)) (λ a. curve_at a.1 >>= λ p. kept (LutExpr a.0 p.0) >>= λ c. Some (c, p.1)) y e1 (λ a inside e2.
+    then_some (Spells m 3 b (kind.Lut ∷ ts) y) (curve_at a.1) (λ p. kept (LutExpr a.0 p.0) >>= λ c. Some (c, p.1)) y e2 (λ p points rest.
+    kept_with m b (kind.Lut ∷ ts) p.1 (LutExpr a.0 p.0) y rest (λ c h. table m b ts o a.1 p.1 a.0 c p.0 (open_takes ts o opened) (s (Inside b o) a inside) (curve_takes a.1 p points) h))))
 factor_sound m b r ts y s e = absurd cc
 
 -- ---- terms and sums
@@ -220,38 +224,38 @@ factor_sound m b r ts y s e = absurd cc
 after_term_sound : (m b : ℕ) (r : Ask → Read) (a : Expression) (ts : List TokenKind) (y : Expression × List TokenKind) → IsSound m r → after_term m r b a ts ≡ Some y → (start : List TokenKind) → Spells m 2 b start (a, ts) → Spells m 2 b start y
 unfolding after_term
 after_term_sound m b r a (kind.Star ∷ ts) y s e start p =
-    let x = then_some (factor_of m r b ts) (λ x. kept (MulExpr a x.0) >>= λ c. r (RestOfTerm b c x.1)) y e in
-    let k = then_some (kept (MulExpr a x.0.0)) (λ c. r (RestOfTerm b c x.0.1)) y x.2 in
-    s (RestOfTerm b k.0 x.0.1) y k.2 start (times m b start ts x.0.1 a x.0.0 k.0 p (factor_sound m b r ts x.0 s x.1) k.1)
+    then_some (Spells m 2 b start y) (factor_of m r b ts) (λ x. kept (MulExpr a x.0) >>= λ c. r (RestOfTerm b c x.1)) y e (λ x factor behind.
+    then_some (Spells m 2 b start y) (kept (MulExpr a x.0)) (λ c. r (RestOfTerm b c x.1)) y behind (λ c h rest.
+    s (RestOfTerm b c x.1) y rest start (times m b start ts x.1 a x.0 c p (factor_sound m b r ts x s factor) h)))
 after_term_sound m b r a (kind.Slash ∷ ts) y s e start p =
-    let x = then_some (divisor_at ts) (λ x. kept (DivExpr a (pos x.0)) >>= λ c. r (RestOfTerm b c x.1)) y e in
-    let k = then_some (kept (DivExpr a (pos x.0.0))) (λ c. r (RestOfTerm b c x.0.1)) y x.2 in
-    s (RestOfTerm b k.0 x.0.1) y k.2 start (over m b x.0.0 start ts x.0.1 a k.0 p (divisor_takes ts x.0 x.1) k.1)
+    then_some (Spells m 2 b start y) (divisor_at ts) (λ x. kept (DivExpr a (pos x.0)) >>= λ c. r (RestOfTerm b c x.1)) y e (λ x divisor behind.
+    then_some (Spells m 2 b start y) (kept (DivExpr a (pos x.0))) (λ c. r (RestOfTerm b c x.1)) y behind (λ c h rest.
+    s (RestOfTerm b c x.1) y rest start (over m b x.0 start ts x.1 a c p (divisor_takes ts x divisor) h)))
 after_term_sound m b r a ts y s e start p = let q : ◌≡◌ {A = Expression × List TokenKind} (a, ts) y = cc in subst (Spells m 2 b start) q p
 
 term_sound : (m b : ℕ) (r : Ask → Read) (ts : List TokenKind) (y : Expression × List TokenKind) → IsSound m r → term_of m r b ts ≡ Some y → Spells m 2 b ts y
 unfolding term_of
 term_sound m b r ts y s e =
-    let a = then_some (factor_of m r b ts) (λ a. after_term m r b a.0 a.1) y e in
-    after_term_sound m b r a.0.0 a.0.1 y s a.2 ts (lowered m 2 3 b ts a.0 (omega arith) (factor_sound m b r ts a.0 s a.1))
+    then_some (Spells m 2 b ts y) (factor_of m r b ts) (λ a. after_term m r b a.0 a.1) y e (λ a factor behind.
+    after_term_sound m b r a.0 a.1 y s behind ts (lowered m 2 3 b ts a (omega arith) (factor_sound m b r ts a s factor)))
 
 after_sum_sound : (m b : ℕ) (r : Ask → Read) (a : Expression) (ts : List TokenKind) (y : Expression × List TokenKind) → IsSound m r → after_sum m r b a ts ≡ Some y → (start : List TokenKind) → Spells m 1 b start (a, ts) → Spells m 1 b start y
 unfolding after_sum
 after_sum_sound m b r a (kind.Plus ∷ ts) y s e start p =
-    let x = then_some (term_of m r b ts) (λ x. kept (AddExpr a x.0) >>= λ c. r (RestOfSum b c x.1)) y e in
-    let k = then_some (kept (AddExpr a x.0.0)) (λ c. r (RestOfSum b c x.0.1)) y x.2 in
-    s (RestOfSum b k.0 x.0.1) y k.2 start (plus m b start ts x.0.1 a x.0.0 k.0 p (term_sound m b r ts x.0 s x.1) k.1)
+    then_some (Spells m 1 b start y) (term_of m r b ts) (λ x. kept (AddExpr a x.0) >>= λ c. r (RestOfSum b c x.1)) y e (λ x term behind.
+    then_some (Spells m 1 b start y) (kept (AddExpr a x.0)) (λ c. r (RestOfSum b c x.1)) y behind (λ c h rest.
+    s (RestOfSum b c x.1) y rest start (plus m b start ts x.1 a x.0 c p (term_sound m b r ts x s term) h)))
 after_sum_sound m b r a (kind.Minus ∷ ts) y s e start p =
-    let x = then_some (term_of m r b ts) (λ x. kept (SubExpr a x.0) >>= λ c. r (RestOfSum b c x.1)) y e in
-    let k = then_some (kept (SubExpr a x.0.0)) (λ c. r (RestOfSum b c x.0.1)) y x.2 in
-    s (RestOfSum b k.0 x.0.1) y k.2 start (less m b start ts x.0.1 a x.0.0 k.0 p (term_sound m b r ts x.0 s x.1) k.1)
+    then_some (Spells m 1 b start y) (term_of m r b ts) (λ x. kept (SubExpr a x.0) >>= λ c. r (RestOfSum b c x.1)) y e (λ x term behind.
+    then_some (Spells m 1 b start y) (kept (SubExpr a x.0)) (λ c. r (RestOfSum b c x.1)) y behind (λ c h rest.
+    s (RestOfSum b c x.1) y rest start (less m b start ts x.1 a x.0 c p (term_sound m b r ts x s term) h)))
 after_sum_sound m b r a ts y s e start p = let q : ◌≡◌ {A = Expression × List TokenKind} (a, ts) y = cc in subst (Spells m 1 b start) q p
 
 sum_sound : (m b : ℕ) (r : Ask → Read) (ts : List TokenKind) (y : Expression × List TokenKind) → IsSound m r → sum_of m r b ts ≡ Some y → Spells m 1 b ts y
 unfolding sum_of
 sum_sound m b r ts y s e =
-    let a = then_some (term_of m r b ts) (λ a. after_sum m r b a.0 a.1) y e in
-    after_sum_sound m b r a.0.0 a.0.1 y s a.2 ts (lowered m 1 2 b ts a.0 (omega arith) (term_sound m b r ts a.0 s a.1))
+    then_some (Spells m 1 b ts y) (term_of m r b ts) (λ a. after_sum m r b a.0 a.1) y e (λ a term behind.
+    after_sum_sound m b r a.0 a.1 y s behind ts (lowered m 1 2 b ts a (omega arith) (term_sound m b r ts a s term)))
 
 -- ---- all
 
@@ -273,9 +277,9 @@ read_sound m (suc n) q y e = step_sound m (read_at m n) (read_sound m n) q y e
 pub whole_takes : (m : ℕ) (ts : List TokenKind) (e : Expression) → whole m ts ≡ Some e → AreKindsOf m ts e
 unfolding whole
 whole_takes m ts e h =
-    let x = then_some (sum_of m (read_at m 320) 64 ts) (λ x. cond (eqb (length x.1) 0) (Some x.0) None) e h in
-    let p = when_some (eqb (length x.0.1) 0) x.0.0 e x.2 in
-    let f = sum_sound m 64 (read_at m 320) ts x.0 (read_sound m 320) x.1 in
-    let nothing : x.0.1 ≡ [] = nil_from_length x.0.1 (eqb-true _ _ p.0) in
+    then_some (AreKindsOf m ts e) (sum_of m (read_at m 320) 64 ts) (λ x. cond (eqb (length x.1) 0) (Some x.0) None) e h (λ x sum test.
+    (let p = when_some (eqb (length x.1) 0) x.0 e test in
+    let f = sum_sound m 64 (read_at m 320) ts x (read_sound m 320) sum in
+    let nothing : x.1 ≡ [] = nil_from_length x.1 (eqb-true _ _ p.0) in
     let all : kinds_of f.tree ≡ ts = sym (append-nil (kinds_of f.tree)) ∙ ap (λ (us : List TokenKind). kinds_of f.tree ++ us) (sym nothing) ∙ f.yields in
-    subst (AreKindsOf m ts) p.1 (record { syntax_tree = f.tree; grammatical = f.grammatical; yields = all; means = f.means; nodes = (f.small).nodes; depth = (f.small).depth; brackets = f.brackets })
+    subst (AreKindsOf m ts) p.1 (record { syntax_tree = f.tree; grammatical = f.grammatical; yields = all; means = f.means; nodes = (f.small).nodes; depth = (f.small).depth; brackets = f.brackets })))

@@ -2,10 +2,10 @@
 use Rattle.std.proofs.Common.{◌≡◌, ℕ, zero, suc, ◌≤◌, Bool, true, false, cond, eqb, Option, Some, None, refl, arith}
 use Rattle.plant_reading.specs.inside.ExpressionReading.{◌>>=◌}
 
--- both parts of what was read were
-pub then_some : {A B : Type 0} → (o : Option A) (f : A → Option B) (y : B) → (o >>= f) ≡ Some y → (a : A) × (o ≡ Some a) × (f a ≡ Some y)
-then_some None f y e = absurd cc
-then_some (Some a) f y e = (a, refl, e)
+-- both parts of what was read were; what follows of them is proved of variables, since a name that a `let` binds is written out
+pub then_some : {A B : Type 0} (Goal : Type 0) (o : Option A) (f : A → Option B) (y : B) → (o >>= f) ≡ Some y → ((a : A) → o ≡ Some a → f a ≡ Some y → Goal) → Goal
+then_some Goal None f y e then = absurd cc
+then_some Goal (Some a) f y e then = then a refl e
 
 -- a test that did not fail, and one that did not succeed
 pub when_some : {A : Type 0} → (b : Bool) (x y : A) → cond b (Some x) None ≡ Some y → (b ≡ true) × (x ≡ y)

@@ -18,11 +18,11 @@ use Rattle.plant_reading.specs.Statements.{Statement, Version, State, Input, Noi
 use Rattle.plant_text.specs.Grammar.{PartialPlant, names_in, FitsAfter, with_statement}
 use Rattle.plant_text.specs.CanonicalFronts.{statement_line, ExtendsCanonically}
 use Rattle.plant_text.specs.inside.PartialPlantRules.{KeepsRules}
-use Rattle.plant_reading.specs.inside.StatementLaws.{OneStatement}
 use Rattle.plant_text.specs.inside.FormedEquations.{HasFormedEquation}
 use Rattle.plant_text.specs.inside.CanonicalNext.{IsCanonicalNext}
 use Rattle.plant_record.proofs.lemmas.SoundPlants.{well_formed}
 use Rattle.plant_text.proofs.lemmas.RulesKept.{equation_spelled}
+use Rattle.plant_text.proofs.lemmas.LineGrammar.{stated_once}
 use Rattle.plant_reading.proofs.lemmas.PutTogether.{is_printable, IsDarkWord, printable_joined}
 use Rattle.plant_text.proofs.lemmas.CanonicalWords.{name_dark, number_dark, numbers_dark, box_dark, version_dark, goal_dark, expression_printable, equation_printable}
 
@@ -80,9 +80,8 @@ pub extends_canonically : (q : PartialPlant) (line : List ℕ) (s : Statement) (
 extends_canonically q line s r says next is = record { stated = record { statement = s; states = says; fits = next.fits; leads_to = is }; spelling = next.spelling; order = next.order }
 
 -- a line that states something in another position, spelling or order leads nowhere
-pub leads_nowhere : OneStatement → (q : PartialPlant) (line : List ℕ) (s : Statement) → KeepsRules q → States (names_in q) (length q.states) (words_of line) s → (IsCanonicalNext q line s → ⊥) → (r : PartialPlant) → ExtendsCanonically q line r → ⊥
-leads_nowhere one q line s k says unfit r e =
+pub leads_nowhere : (q : PartialPlant) (line : List ℕ) (s : Statement) → KeepsRules q → States (names_in q) (length q.states) (words_of line) s → (IsCanonicalNext q line s → ⊥) → (r : PartialPlant) → ExtendsCanonically q line r → ⊥
+leads_nowhere q line s k says unfit r e =
     let t = e.stated.statement in
-    let same : t ≡ s = one (names_in q) (length q.states) (words_of line) t s k.names_differ k.names e.stated.states says in
     let next : IsCanonicalNext q line t = record { fits = e.stated.fits; order = e.order; spelling = e.spelling } in
-    unfit (subst (λ (x : Statement). IsCanonicalNext q line x) same next)
+    unfit (subst (λ (x : Statement). IsCanonicalNext q line x) (stated_once q line t s k e.stated.states says) next)

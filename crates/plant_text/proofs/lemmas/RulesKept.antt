@@ -21,8 +21,7 @@ use Rattle.plant_reading.specs.Words.{words_of}
 use Rattle.plant_reading.specs.Tokens.{tokens_of}
 use Rattle.plant_reading.specs.SyntaxTrees.{AreTokensOf}
 use Rattle.plant_reading.specs.Statements.{Statement, Version, State, Input, Noise, Next, Target, Obstacle, Goal, End, States}
-use Rattle.read_texts.specs.Steps.{Leads}
-use Rattle.plant_text.specs.Grammar.{PartialPlant, nothing_yet, names_in, HasEquations, FitsAfter, with_statement, Extends, LineStep}
+use Rattle.plant_text.specs.Grammar.{PartialPlant, nothing_yet, names_in, HasEquations, FitsAfter, with_statement, Extends}
 use Rattle.plant_text.specs.inside.PartialPlantRules.{KeepsRules, IsAimless}
 use Rattle.plant_reading.proofs.lemmas.TreeLiterals.{tree_literals}
 use Rattle.plant_text.proofs.lemmas.Lists.{differ}
@@ -247,10 +246,6 @@ rules_after q line r k e =
       | inl over ↦ subst KeepsRules (sym over.1) k
       | inr stated ↦ subst KeepsRules (sym stated.leads_to) (rules_extended q (words_of line) stated.statement k stated.states stated.fits)
     ]
-
-pub rules_led : (q : PartialPlant) (pieces : List (List (List ℕ))) (r : PartialPlant) → KeepsRules q → Leads LineStep q pieces r → KeepsRules r
-rules_led q [] r k leads = subst KeepsRules (sym leads) k
-rules_led q (piece ∷ pieces) r k leads = rules_led leads.0 pieces r (rules_after q leads.1.0 leads.0 k leads.1.2) leads.2
 
 pub rules_stated : (q : PartialPlant) (words : List (List ℕ)) (s : Statement) (r : PartialPlant) → KeepsRules q → States (names_in q) (length q.states) words s → FitsAfter q s → r ≡ with_statement q s → KeepsRules r
 rules_stated q words s r k says fits is = subst KeepsRules (sym is) (rules_extended q words s k says fits)

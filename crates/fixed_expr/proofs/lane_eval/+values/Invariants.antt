@@ -5,5 +5,5 @@ use Rattle.fixed_expr.proofs.lane_eval.+values.Given as goal
 abbrev pub decreases-eval_values : goal.decreases-eval_values
 decreases-eval_values l = 2 * nodes_of (expression_of l.e.now)
 
-abbrev pub decreases-eval_combined : goal.decreases-eval_combined
-decreases-eval_combined l = 2 * (nodes_of (expression_of l.a.now) + nodes_of (expression_of l.b.now)) + 1
+abbrev pub decreases-eval_values_binary : goal.decreases-eval_values_binary
+decreases-eval_values_binary l = 2 * (nodes_of (expression_of l.a.now) + nodes_of (expression_of l.b.now)) + 1

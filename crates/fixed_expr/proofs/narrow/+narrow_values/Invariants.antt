@@ -5,5 +5,5 @@ use Rattle.fixed_expr.proofs.narrow.+narrow_values.Given as goal
 abbrev pub decreases-eval_narrow : goal.decreases-eval_narrow
 decreases-eval_narrow l = 2 * nodes_of (expression_of l.e.now)
 
-abbrev pub decreases-eval_combined : goal.decreases-eval_combined
-decreases-eval_combined l = 2 * (nodes_of (expression_of l.a.now) + nodes_of (expression_of l.b.now)) + 1
+abbrev pub decreases-eval_narrow_binary : goal.decreases-eval_narrow_binary
+decreases-eval_narrow_binary l = 2 * (nodes_of (expression_of l.a.now) + nodes_of (expression_of l.b.now)) + 1

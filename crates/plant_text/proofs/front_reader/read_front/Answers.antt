@@ -1,5 +1,5 @@
 use Rattle.plant_text.specs.inside.DraftsInMemory.{partial_of}
-use Rattle.plant_text.proofs.lemmas.FrontLineByLine.{at_front}
+use Rattle.plant_text.proofs.lemmas.FrontGrammar.{at_front}
 use Rattle.plant_text.proofs.front_reader.read_front.Goals as goal
 
 pub returns-in-Ok-clause-read : goal.returns-in-Ok-clause-read

@@ -1,7 +1,7 @@
 use Rattle.std.proofs.Common.{Err, ap, sym, ◌∙◌}
 use Rattle.plant_text.specs.CanonicalFronts.{IsFrontRefusedFor}
 use Rattle.plant_text.specs.inside.DraftsInMemory.{partial_of}
-use Rattle.plant_text.proofs.lemmas.FrontLineByLine.{at_first_line, at_next_line, refused_here, no_line_left, read_text, read_way}
+use Rattle.plant_text.proofs.lemmas.FrontGrammar.{at_first_line, at_next_line, refused_here, no_line_left, read_text, read_way}
 use Rattle.plant_text.proofs.lemmas.LineFaults.{told_reason}
 use Rattle.plant_text.proofs.front_reader.read_lines.Goals as goal
 

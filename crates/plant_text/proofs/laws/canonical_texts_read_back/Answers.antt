@@ -1,4 +1,3 @@
-use Rattle.plant_reading.proofs.lemmas.StatementLaws.{one_statement, skipped}
 use Rattle.plant_writing.specs.CanonicalText.{text_of}
 use Rattle.plant_text.proofs.lemmas.LinesLead as leading
 use Rattle.plant_text.proofs.lemmas.SpelledCanonically as spelled
@@ -7,4 +6,4 @@ use Rattle.plant_text.proofs.laws.canonical_texts_read_back.Goals as goal
 pub returns : goal.returns
 returns c = λ p within short.
     let spells = spelled.canonical_texts_spell p within.plant in
-    ((λ q other. leading.one_plant one_statement skipped (text_of p) q p other spells), (λ f refused. leading.read_or_refused one_statement skipped (text_of p) p f spells short within refused))
+    ((λ q other. leading.one_plant (text_of p) q p other spells), (λ f refused. leading.read_or_refused (text_of p) p f spells short within refused))

@@ -1,6 +1,5 @@
-use Rattle.plant_reading.proofs.lemmas.StatementLaws.{one_statement}
 use Rattle.plant_text.proofs.lemmas.CanonicalFronts as fronts
 use Rattle.plant_text.proofs.laws.one_front_refusal.Goals as goal
 
 pub returns : goal.returns
-returns c = fronts.one_front_refusal one_statement
+returns c = fronts.one_front_refusal

@@ -2,7 +2,7 @@ use Rattle.std.proofs.Common.{arith, Err, ap}
 use Rattle.plant_reading.specs.Lines.{lines_of}
 use Rattle.plant_text.specs.PlantRefusals.{IsRefusedFor}
 use Rattle.plant_text.specs.inside.DraftsInMemory.{partial_of}
-use Rattle.plant_text.proofs.lemmas.LineByLine.{at_first_line, at_next_line, refused_here, all_read, ends_early}
+use Rattle.plant_text.proofs.lemmas.LineGrammar.{at_first_line, at_next_line, refused_here, all_read, ends_early}
 use Rattle.plant_text.proofs.lemmas.LineFaults.{told_reason}
 use Rattle.plant_text.proofs.plant_reader.read_lines.Goals as goal
 

@@ -27,5 +27,5 @@ returns g c =
     let reaches : IsReachSolution (with_marks game (marks_to_reach game held)) others =
     subst (λ (m : Game). IsReachSolution m others) (c.new-2.ensures ∙ ap (with_marks game) (c.deref-2.ensures.value ∙ c.in_ok-marks-2.ensures)) c.in_ok-answer.ensures.solution
     in
-    subst (IsStaySolution game) (sym (c.put_over.ensures ∙ ap (λ (n : ℕ). rows_over n held others) keeps.one_each))
+    subst (IsStaySolution game) (sym (c.overlay_rows.ensures ∙ ap (λ (n : ℕ). rows_over n held others) keeps.one_each))
     (stays game lawful.game held others keeps reaches)

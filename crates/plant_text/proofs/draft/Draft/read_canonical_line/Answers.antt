@@ -4,7 +4,6 @@ use Rattle.plant_reading.specs.Words.{words_of}
 use Rattle.plant_text.specs.inside.DraftsInMemory.{partial_of}
 use Rattle.plant_reading.specs.StatementsRead.{statement_of}
 use Rattle.plant_text.proofs.lemmas.RulesKept.{rules_stated}
-use Rattle.plant_reading.proofs.lemmas.StatementLaws.{one_statement}
 use Rattle.plant_text.proofs.lemmas.CanonicalLines.{formed, extends_canonically, leads_nowhere}
 use Rattle.plant_text.proofs.draft.Draft.read_canonical_line.Goals as goal
 
@@ -13,7 +12,7 @@ check_canonical-requires-clause-formed c = formed (names_in (partial_of c.args.s
 
 pub returns-in_err-check_canonical-clause-refused : goal.returns-in_err-check_canonical-clause-refused
 returns-in_err-check_canonical-clause-refused c = λ malformed.
-    leads_nowhere one_statement (partial_of c.args.self.now) c.args.line.now (statement_of c.in_ok-statement.statement) c.requires c.in_ok-statement.ensures.found (c.in_err-check_canonical.ensures.refused (let same = rw malformed at c.from_residual-in_err-check_canonical.ensures.1 in cc))
+    leads_nowhere (partial_of c.args.self.now) c.args.line.now (statement_of c.in_ok-statement.statement) c.requires c.in_ok-statement.ensures.found (c.in_err-check_canonical.ensures.refused (let same = rw malformed at c.from_residual-in_err-check_canonical.ensures.1 in cc))
 
 pub returns-clause-read : goal.returns-clause-read
 returns-clause-read c =

@@ -3,14 +3,13 @@ use Rattle.plant_reading.specs.Words.{words_of}
 use Rattle.plant_text.specs.inside.DraftsInMemory.{partial_of}
 use Rattle.plant_reading.specs.StatementsRead.{statement_of}
 use Rattle.plant_text.proofs.lemmas.RulesKept.{rules_stated}
-use Rattle.plant_text.proofs.lemmas.LinesLead.{nowhere}
-use Rattle.plant_reading.proofs.lemmas.StatementLaws.{one_statement, skipped}
+use Rattle.plant_text.proofs.lemmas.LineGrammar.{nowhere}
 use Rattle.std.proofs.lemmas.Result.{on_ok_weaker}
 use Rattle.plant_text.proofs.draft.Draft.read_line.Goals as goal
 
 pub returns-then-not-fits-clause-refused : goal.returns-then-not-fits-clause-refused
 returns-then-not-fits-clause-refused c = λ _.
-    nowhere one_statement skipped (partial_of c.args.self.now) c.args.line.now (statement_of c.in_ok-statement.statement) c.requires c.in_ok-statement.ensures.found (λ fits. (let no_fit = c.if-not-fits.ensures.1 fits in cc))
+    nowhere (partial_of c.args.self.now) c.args.line.now (statement_of c.in_ok-statement.statement) c.requires c.in_ok-statement.ensures.found (λ fits. (let no_fit = c.if-not-fits.ensures.1 fits in cc))
 
 pub returns-clause-rules : goal.returns-clause-rules
 returns-clause-rules c =

@@ -1,8 +1,0 @@
-use Rattle.std.proofs.Common.{take}
-use Rattle.abstraction_table.specs.inside.Shapes.{cells_from}
-use Rattle.abstraction_table.specs.inside.Tallies.{indices_in, ArePut}
-use Rattle.abstraction_table.proofs.band_filling.put_segments.Given as goal
-
--- the pair is put at the cells of the segments so far
-abbrev pub invariant-loop-segment : goal.invariant-loop-segment
-invariant-loop-segment l = ArePut l.pair l.fn.fill l.fill (indices_in l.band.from l.band.len (cells_from l.first (take l.segment-index l.segments)))

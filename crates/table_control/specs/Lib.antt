@@ -1,2 +1,0 @@
-pub mod Control
-pub mod Each

@@ -1,0 +1,146 @@
+-- Loops of the answers of tables that drive or keep their plants.
+use Rattle.std.proofs.Common.{inl, inr, ◌≡◌, ◌⊎◌, ℕ, zero, suc, ◌<◌, List, [], ◌∷◌, length, refl, sym, ap, subst, ◌∙◌, arith}
+use Rattle.std.specs.Prelude.{ℤ}
+use Rattle.std.specs.Int.Signed.{≤ℤ_refl}
+use Rattle.std.specs.List.{All, AllByRecursion}
+use Rattle.std.proofs.lemmas.List.Elements.{All-head, All-tail, All-from_recursion}
+use Rattle.plant_record.specs.declared.variables.NoiseVariable.{NoiseVariable}
+use Rattle.plant_record.specs.Description.{Description, vector_of}
+use Rattle.plant_record.specs.Variables.{IsNoiseVariable}
+use Rattle.plant_record.specs.States.{LiesInSome, IsClear}
+use Rattle.plant_record.specs.Steps.{step_of, IsNoise}
+use Rattle.row_runs.specs.declared.run.TableVersion.{TableVersion}
+use Rattle.controller_table.specs.Choice.{IsChoice, HasRank}
+use Rattle.controller_table.specs.Tables.{IsTable}
+use Rattle.controller_table.proofs.OneTable.{one_choice}
+use Rattle.plant_refine.specs.Drives.{Comes}
+use Rattle.plant_refine.specs.Stays.{HasSomeRow, Stays}
+use Rattle.text_control.specs.declared.text_kind.TextKind.{TextKind}
+use Rattle.text_control.specs.declared.text_kind.TextKind.TheVariants.{Table}
+use Rattle.text_control.specs.Texts.{TextModel, due_rows, Tells, TellsAs}
+use Rattle.text_control.specs.Control.{AppliesAs, HasTextRank, AreTextValues, IsRank}
+use Rattle.text_control.specs.Loops.{LoopSample, moved_by, Answers, AlwaysAnswers, IsLoop}
+use Rattle.text_control.specs.Laws.{ReachLoopsArrive, KeepLoopsGoOn}
+use Rattle.text_control.proofs.Answering.{chosen, always_answers, moves}
+
+-- ---- noises for samples that aren't there
+
+low_noise : List NoiseVariable → List ℤ
+low_noise [] = []
+low_noise (v ∷ noises) = v.low ∷ low_noise noises
+
+low_is_noise : (noises : List NoiseVariable) → All IsNoiseVariable noises → IsNoise noises (low_noise noises)
+unfolding low_noise
+low_is_noise [] each = tt
+low_is_noise (v ∷ noises) each =
+    let one = All-head IsNoiseVariable v noises each in
+    (≤ℤ_refl v.low, one.ordered, low_is_noise noises (All-tail IsNoiseVariable v noises each))
+
+low_noises : List NoiseVariable → ℕ → List (List ℤ)
+low_noises noises zero = []
+low_noises noises (suc n) = low_noise noises ∷ low_noises noises n
+
+so_many : (noises : List NoiseVariable) (n : ℕ) → length (low_noises noises n) ≡ n
+unfolding low_noises
+so_many noises zero = refl
+so_many noises (suc n) = ap suc (so_many noises n)
+
+each_is_noise : (noises : List NoiseVariable) (n : ℕ) → All IsNoiseVariable noises → AllByRecursion (IsNoise noises) (low_noises noises n)
+unfolding low_noises
+each_is_noise noises zero each = tt
+each_is_noise noises (suc n) each = (low_is_noise noises each, each_is_noise noises n each)
+
+module _ (bytes : List ℕ) (t : TextModel) (version : TableVersion) (tells : Tells bytes t) (kind : t.kind ≡ Table version) where
+  abbrev p : Description
+  p = t.plant
+
+  table : IsTable bytes p (due_rows t)
+  table = subst (λ (k : TextKind). TellsAs k bytes t) kind tells
+
+  noises : All IsNoiseVariable p.noises
+  noises = table.limits.plant.noises
+
+  rank_told : (x : List ℤ) (k : ℕ) → IsRank t x k → HasRank bytes x k
+  rank_told x k rank = subst (λ (kd : TextKind). HasTextRank kd t.turn bytes x k) kind (rank.1 bytes tells)
+
+  -- what is answered is what the table chooses
+  choice : (x values : List ℤ) → Answers t x values → (u : ℕ) × IsChoice bytes x u × (values ≡ vector_of p.inputs u)
+  choice x values answers =
+      let c = chosen t x values answers in
+      let applies = subst (λ (kd : TextKind). AppliesAs kd p.goal c.row c.input) kind c.applies in
+      (c.input, record { plant = p; rows = due_rows t; table = table; chosen = (c.row, c.has, applies) }, c.are)
+
+  chooses : (x : List ℤ) (u : ℕ) → IsChoice bytes x u → AlwaysAnswers t x
+  chooses x u c = always_answers t x bytes tells (vector_of c.plant.inputs u) (subst (λ (kd : TextKind). AreTextValues kd t.turn bytes x (vector_of c.plant.inputs u)) (sym kind) (u, c, refl))
+
+  -- the plant moves by the input that a choice names
+  moves_on : (s : LoopSample) (x : List ℤ) (u : ℕ) → s.state ≡ x → Answers t x s.values → IsChoice bytes x u → step_of p x u s.noise ≡ moved_by p s
+  moves_on s x u at answers is =
+      let c = choice x s.values answers in
+      let same : u ≡ c.0 = one_choice bytes x u c.0 is c.1 in
+      ap (λ (n : ℕ). step_of p x n s.noise) same ∙ ap (λ (z : List ℤ). step_of p z c.0 s.noise) (sym at) ∙ sym (moves p s c.0 c.2)
+
+  -- ---- tables that drive
+
+  -- under every so many noises the table brings the plant into a target
+  abbrev ComesIn : ℕ → List ℤ → Type 0
+  ComesIn n x = (ws : List (List ℤ)) → length ws ≡ n → AllByRecursion (IsNoise p.noises) ws → Comes p bytes x ws
+
+  abbrev LiesThere : List ℤ → Type 0
+  LiesThere x = LiesInSome p p.targets x
+
+  at_end : (y : List ℤ) (n : ℕ) → ComesIn n y → IsClear p y × (LiesThere y ⊎ ((0 < n) × AlwaysAnswers t y))
+  unfolding low_noises
+  at_end y zero comes =
+      let c = comes [] refl tt in
+      (c.0, inl c.1)
+  at_end y (suc n) comes =
+      let c = comes (low_noises p.noises (suc n)) (so_many p.noises (suc n)) (each_is_noise p.noises (suc n) noises) in (
+        c.0,
+        elim c.1 [
+          | inl there ↦ inl there
+          | inr on ↦ inr (omega arith, chooses y on.0 on.1)
+        ],
+      )
+
+  next : (s : LoopSample) (x : List ℤ) (n : ℕ) → s.state ≡ x → Answers t x s.values → IsNoise p.noises s.noise → (LiesThere x → ⊥) → ComesIn (suc n) x → ComesIn n (moved_by p s)
+  next s x n at answers noise out comes ws many each =
+      let c = comes (s.noise ∷ ws) (ap suc many) (noise, each) in
+      elim c.1 [
+        | inl there ↦ absurd (out there)
+        | inr on ↦ subst (λ (z : List ℤ). Comes p bytes z ws) (moves_on s x on.0 at answers on.1) on.2
+      ]
+
+  driven : (samples : List LoopSample) (x y : List ℤ) (n : ℕ) → ComesIn n x → IsLoop t x samples y → All (λ (s : LoopSample). LiesThere s.state → ⊥) samples
+      → IsClear p y × (LiesThere y ⊎ ((length samples < n) × AlwaysAnswers t y))
+  driven [] x y n comes loop out = at_end y n (subst (ComesIn n) (sym loop) comes)
+  driven (s ∷ samples) x y zero comes loop out =
+      let here : LiesThere x = (comes [] refl tt).1 in
+      absurd (All-head (λ (a : LoopSample). LiesThere a.state → ⊥) s samples out (subst LiesThere (sym loop.0) here))
+  driven (s ∷ samples) x y (suc n) comes loop out =
+      let not_here : LiesThere x → ⊥ = λ there. All-head (λ (a : LoopSample). LiesThere a.state → ⊥) s samples out (subst LiesThere (sym loop.0) there) in
+      let rest = driven samples (moved_by p s) y n (next s x n loop.0 loop.1 loop.2 not_here comes) loop.3 (All-tail (λ (a : LoopSample). LiesThere a.state → ⊥) s samples out) in (
+        rest.0,
+        elim rest.1 [
+          | inl there ↦ inl there
+          | inr on ↦ inr (omega (arith, on.0), on.1)
+        ],
+      )
+
+  -- ---- tables that keep
+
+  kept : Stays p bytes → (samples : List LoopSample) (x y : List ℤ) → HasSomeRow bytes x → IsLoop t x samples y → IsClear p y × AlwaysAnswers t y
+  kept stays [] x y row loop =
+      let r = stays x (low_noise p.noises ∷ []) row (All-from_recursion (IsNoise p.noises) (low_noise p.noises ∷ []) (low_is_noise p.noises noises, tt)) in
+      subst (λ (z : List ℤ). IsClear p z × AlwaysAnswers t z) (sym loop) (r.0, chooses x r.2.0 r.2.1)
+  kept stays (s ∷ samples) x y row loop =
+      let r = stays x (s.noise ∷ []) row (All-from_recursion (IsNoise p.noises) (s.noise ∷ []) (loop.2, tt)) in
+      let there : HasSomeRow bytes (moved_by p s) = subst (HasSomeRow bytes) (moves_on s x r.2.0 loop.0 loop.1 r.2.1) r.2.2.1 in
+      kept stays samples (moved_by p s) y there loop.3
+
+pub reach_loops_arrive : ReachLoopsArrive
+reach_loops_arrive bytes t version tells kind drives x y k samples rank loop out =
+    driven bytes t version tells kind samples x y k (λ ws many each. drives x k ws (rank_told bytes t version tells kind x k rank) many (All-from_recursion (IsNoise t.plant.noises) ws each)) loop out
+
+pub keep_loops_go_on : KeepLoopsGoOn
+keep_loops_go_on bytes t version tells kind stays x y k samples rank loop = kept bytes t version tells kind stays samples x y (k, rank_told bytes t version tells kind x k rank) loop

@@ -1,0 +1,6 @@
+pub mod Texts
+pub mod Control
+pub mod Each
+pub mod Visits
+pub mod Loops
+pub mod Laws

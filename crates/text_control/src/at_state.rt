@@ -1,0 +1,66 @@
+//! The inputs at a state.
+
+ghost use Rattle.std.specs.Prelude.{◌≡◌, ℕ, ◌<◌, ◌↔◌, length, IsTrue, IsFalse};
+ghost use Rattle.plant_record.specs.declared.aims.GoalKind.TheVariants.{Reach};
+ghost use Rattle.plant_record.specs.Description.{vector_of, vectors_of};
+ghost use Rattle.plant_record.specs.Limits.{IsWithinLimits};
+ghost use Rattle.text_control.specs.Control.{AreSized, AppliesAs, IsReply, IsReplyByText};
+
+use crate::packed_text::PackedText;
+use crate::reply::Reply;
+use crate::rows::row_at;
+use crate::text_kind::TextKind;
+use game_core::Row;
+use plant_record::{GoalKind, Plant};
+
+/// Puts what is to be applied at the state into the inputs.
+pub fn control(text: &PackedText, state: &[i64], input: &mut [i64]) -> Reply
+    ensures reply { IsReply text.now state.now input.old input.new result }
+    ensures text { IsReplyByText text.now state.now input.new result }
+{
+    if !are_sized(text, state, input) {
+        return Reply::WrongSizes;
+    }
+    let Some(row) = row_at(text, state) else {
+        return Reply::NoRow;
+    };
+    if !applies(text, row) {
+        return Reply::Arrived;
+    }
+    apply(text.plant(), row.input, input);
+    Reply::Apply
+}
+
+fn are_sized(text: &PackedText, state: &[i64], input: &[i64]) -> bool
+    ensures { IsTrue result ↔ AreSized text.now state.now input.now }
+{
+    let plant = text.plant();
+    state.len() == plant.states() as usize && input.len() == plant.input_variables() as usize
+}
+
+/// Whether a row's input is applied: it is, but for rank 0 of a table that brings a plant to its targets.
+fn applies(text: &PackedText, row: Row) -> bool
+    ensures some { IsTrue result → AppliesAs text.now.kind text.now.plant.goal row row.input }
+    ensures none { IsFalse result → (row.rank ≡ 0) × ((u : ℕ) → AppliesAs text.now.kind text.now.plant.goal row u → ⊥) }
+{
+    match (text.kind(), text.plant().goal()) {
+        (TextKind::Table(_), GoalKind::Reach) => row.rank > 0,
+        _ => true,
+    }
+}
+
+/// Puts the values of an input vector into the inputs, the last one first.
+fn apply(plant: &Plant, vector: u32, input: &mut [i64])
+    requires limits { IsWithinLimits plant.now }
+    requires vector { vector < vectors_of plant.now.inputs }
+    requires sizes { length input.old ≡ length plant.now.inputs }
+    ensures { input.new ≡ vector_of plant.now.inputs vector }
+{
+    let inputs = plant.input_list();
+    let mut rest = vector as usize;
+    for j in (0..inputs.len()).rev() {
+        let values = inputs[j].values.as_slice();
+        input[j] = values[rest % values.len()] as i64;
+        rest /= values.len();
+    }
+}

@@ -1,0 +1,32 @@
+//! What a text says to do at a state.
+//!
+//! The layer above gives the bytes of a table, of a stay text or of a patrol text, and gets what they tell as a `PackedText`
+//! in little memory, or why they are none of the three. At each sample it gives a state's numbers. It gets the values of the
+//! input vector that the text applies there, or learns that there are none; for one state or for many. Of a patrol it is
+//! told when the next turn begins. By its contracts these are the answers of each text that tells the same.
+#![tactic(auto)]
+
+mod at_state;
+mod at_states;
+pub mod laws;
+mod packed_text;
+mod reading;
+mod reply;
+mod rows;
+mod state_cell;
+mod text_fault;
+mod text_kind;
+mod turns;
+mod visits;
+
+pub use at_state::control;
+pub use at_states::control_each;
+pub use packed_text::PackedText;
+pub use reading::read_text;
+pub use reply::Reply;
+pub use rows::{rank_at, row_at};
+pub use state_cell::cell_at;
+pub use text_fault::TextFault;
+pub use text_kind::TextKind;
+pub use turns::{begin_turn, visit};
+pub use visits::Visit;

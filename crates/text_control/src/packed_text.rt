@@ -1,0 +1,148 @@
+ghost use Rattle.std.specs.Prelude.{◌≡◌, ◌<◌, ◌≤◌, [], ◌∷◌, length, IfOk, IfSome};
+ghost use Rattle.std.specs.List.{All};
+ghost use Rattle.grid_quantiser.specs.Axes.{cells_of};
+ghost use Rattle.game_core.specs.Solution.{row_of};
+ghost use Rattle.packed_rows.specs.RowWords.{FitsWord};
+ghost use Rattle.plant_record.specs.Description.{axes_of, vectors_of};
+ghost use Rattle.plant_record.specs.Limits.{IsWithinLimits};
+ghost use Rattle.temporal_texts.specs.PatrolText.{rows_for};
+ghost use Rattle.base.specs.declared.limits.TheConstants.{CELLS_LIMIT};
+ghost use Rattle.text_control.specs.Texts.{TurnsFit, of_table, of_stay, of_patrol};
+
+use crate::text_kind::TextKind;
+use base::NoMemory;
+use controller_table::Table;
+use game_core::{Answer, Row};
+use packed_rows::PackedRows;
+use plant_record::Plant;
+use std::alloc::Global;
+use std::marker::Model;
+use temporal_texts::{PatrolTable, StayTable};
+
+/// What a table, a stay text or a patrol text tells, in little memory: its rows take 8 bytes for each stretch of cells with
+/// one row or with none. Of a patrol it keeps which turn is due.
+#[derive(Drop)]
+pub struct PackedText {
+    kind: TextKind,
+    plant: Plant,
+    turns: Vec<PackedRows>,
+    turn: u32,
+}
+
+impl Model for PackedText {
+    ghost use Rattle.std.specs.Coded.{codes};
+    ghost use Rattle.fixed_expr.specs.inside.Postfix.{expression_code};
+    ghost use Rattle.text_control.specs.Texts.{TextModel, TurnsFit};
+
+    ghost Value = { TextModel };
+
+    ghost coded = { Prim.hlevel (codes, expression_code) };
+
+    ghost view = { λ t. record { kind = t.kind; plant = t.plant; turns = t.turns.items; turn = t.turn } };
+
+    ghost invariant = { λ t. TurnsFit t.plant t.turns.items };
+}
+
+impl PackedText {
+    /// What a table tells.
+    pub fn from_table(alloc: Global, table: Table) -> Result<PackedText, NoMemory>
+        ensures { IfOk result (λ text. text ≡ of_table table) }
+    {
+        let (version, plant, answer) = table.into_parts();
+        one_turn(alloc, TextKind::Table(version), plant, &answer)
+    }
+
+    /// What a stay text tells.
+    pub fn from_stay(alloc: Global, table: StayTable) -> Result<PackedText, NoMemory>
+        ensures { IfOk result (λ text. text ≡ of_stay table) }
+    {
+        let (plant, answer) = table.into_parts();
+        one_turn(alloc, TextKind::Stay, plant, &answer)
+    }
+
+    /// What a patrol text tells; the first turn is due.
+    pub fn from_patrol(alloc: Global, table: PatrolTable) -> Result<PackedText, NoMemory>
+        ensures { IfOk result (λ text. text ≡ of_patrol table) }
+    {
+        let (plant, rows) = table.into_parts();
+        let mut turns = Vec::with_capacity(alloc, rows.turns() as usize)?;
+        for turn in 0..rows.turns() {
+            let rows = PackedRows::new(alloc, rows.turn(turn))?;
+            turns.push(rows).map_err(|_| NoMemory)?;
+        }
+        Ok(PackedText {
+            kind: TextKind::Patrol,
+            plant,
+            turns,
+            turn: 0,
+        })
+    }
+
+    /// Which text it is.
+    pub fn kind(&self) -> TextKind
+        ensures { result ≡ self.now.kind }
+    {
+        self.kind
+    }
+
+    /// The plant whose cells have the rows.
+    pub fn plant(&self) -> &Plant
+        ensures plant { result.now ≡ self.now.plant }
+        ensures limits { IsWithinLimits result.now }
+    {
+        &self.plant
+    }
+
+    /// The turn that is due, from 0.
+    pub fn turn(&self) -> u32
+        ensures { result ≡ self.now.turn }
+    {
+        self.turn
+    }
+
+    /// How many turns there are.
+    pub fn turns(&self) -> usize
+        ensures { result ≡ length self.now.turns }
+    {
+        self.turns.len()
+    }
+
+    /// None where the cell has no row for the turn, or there is no such turn.
+    pub(crate) fn row(&self, turn: u32, cell: u32) -> Option<Row>
+        requires { cell < cells_of (axes_of self.now.plant) }
+        ensures row { result ≡ row_of (rows_for self.now.turns turn) cell }
+        ensures fits { IfSome result (λ row. row.input < vectors_of self.now.plant.inputs) }
+    {
+        self.turns.get(turn as usize)?.row(cell)
+    }
+
+    /// Begins another turn.
+    pub(crate) fn set_turn(&mut self, turn: u32)
+        ensures { self.new ≡ record { kind = self.old.kind; plant = self.old.plant; turns = self.old.turns; turn = turn } }
+    {
+        self.turn = turn;
+    }
+}
+
+/// A text with the rows of one turn.
+fn one_turn(
+    alloc: Global,
+    kind: TextKind,
+    plant: Plant,
+    answer: &Answer,
+) -> Result<PackedText, NoMemory>
+    requires fit { TurnsFit plant (answer.now ∷ []) }
+    requires cells { length answer.now ≤ CELLS_LIMIT }
+    requires rows { All (λ row. IfSome row FitsWord) answer.now }
+    ensures { IfOk result (λ text. text ≡ record { kind = kind; plant = plant; turns = answer.now ∷ []; turn = 0 }) }
+{
+    let mut turns = Vec::new(alloc);
+    let rows = PackedRows::new(alloc, answer)?;
+    turns.push(rows).map_err(|_| NoMemory)?;
+    Ok(PackedText {
+        kind,
+        plant,
+        turns,
+        turn: 0,
+    })
+}

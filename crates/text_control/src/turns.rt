@@ -1,0 +1,84 @@
+//! The turns of a patrol.
+
+ghost use Rattle.std.specs.Prelude.{◌≡◌, ◌<◌, ◌≤◌, ◌↔◌, length, IsTrue, IsFalse, MatchOption};
+ghost use Rattle.grid_quantiser.specs.Axes.{cells_of};
+ghost use Rattle.plant_record.specs.Description.{axes_of};
+ghost use Rattle.plant_record.specs.Limits.{IsWithinLimits};
+ghost use Rattle.temporal_texts.specs.Targets.{IsInTarget};
+ghost use Rattle.text_control.specs.declared.text_kind.TextKind.TheVariants.{Patrol};
+ghost use Rattle.text_control.specs.Visits.{turn_after, with_turn, HasArrivedInTurn, IsVisit, IsVisitByText};
+
+use crate::packed_text::PackedText;
+use crate::state_cell::cell_at;
+use crate::text_kind::TextKind;
+use crate::visits::Visit;
+use plant_record::Plant;
+
+/// Begins the next turn where the state is an arrival of a patrol.
+pub fn visit(text: &mut PackedText, state: &[i64]) -> Visit
+    ensures visit { IsVisit text.old state.now text.new result }
+    ensures text { IsVisitByText text.old state.now text.new result }
+{
+    if state.len() != text.plant().states() as usize {
+        return Visit::WrongSize;
+    }
+    match turn_from(text, state) {
+        Some(turn) => {
+            text.set_turn(turn);
+            Visit::Next
+        }
+        None => Visit::Same,
+    }
+}
+
+/// Makes a turn due, as after a restart of the loop. False where there is no such turn.
+pub fn begin_turn(text: &mut PackedText, turn: u32) -> bool
+    ensures begun { IsTrue result → (turn < length text.old.turns) × (text.new ≡ with_turn text.old turn) }
+    ensures unknown { IsFalse result → (length text.old.turns ≤ turn) × (text.new ≡ text.old) }
+{
+    if turn as usize >= text.turns() {
+        return false;
+    }
+    text.set_turn(turn);
+    true
+}
+
+/// The turn that begins at a state, if the state is an arrival.
+fn turn_from(text: &PackedText, state: &[i64]) -> Option<u32>
+    requires { length state.now ≡ length text.now.plant.states }
+    ensures { MatchOption result (HasArrivedInTurn text.now state.now → ⊥) (λ turn. HasArrivedInTurn text.now state.now × (turn ≡ turn_after text.now)) }
+{
+    if !is_patrol(text.kind()) {
+        return None;
+    }
+    let plant = text.plant();
+    let cell = cell_at(plant, state)?;
+    if !is_in_target(plant, text.turn(), cell) {
+        return None;
+    }
+    let next = (text.turn() + 1) % plant.targets();
+    text.row(next, cell)?;
+    Some(next)
+}
+
+fn is_patrol(kind: TextKind) -> bool
+    ensures { IsTrue result ↔ (kind ≡ Patrol) }
+{
+    match kind {
+        TextKind::Patrol => true,
+        TextKind::Table(_) | TextKind::Stay => false,
+    }
+}
+
+/// Whether a cell counts for the target of a turn: all its points lie in the target, and none in an obstacle.
+fn is_in_target(plant: &Plant, turn: u32, cell: u32) -> bool
+    requires limits { IsWithinLimits plant.now }
+    requires cell { cell < cells_of (axes_of plant.now) }
+    ensures { IsTrue result ↔ IsInTarget plant.now turn cell }
+{
+    if turn >= plant.targets() || plant.obstacle_cell(cell) {
+        return false;
+    }
+    let (low, high) = plant.target(turn);
+    plant.grid().inside(cell, &low, &high)
+}
