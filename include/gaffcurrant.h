@@ -2,9 +2,8 @@
 
    Link libgaffcurrant.a or libgaffcurrant.so, which tools/library makes. The library is proved (crates/controller_c): for
    any bytes that tell what a controller holds, the answer 1 of gaffcurrant_control says that the values are those of the
-   input vector that the text applies at the state. Each answer below is proved in both directions,
-   but for want of memory, which is never excluded. This header is
-   written by hand, and nothing proves that it fits the library.
+   input vector that the text applies at the state. Each answer below is proved in both directions, but for want of
+   memory, which is never excluded. This header is written by hand, and nothing proves that it fits the library.
 
    Units. A state is one whole number for each state variable of the text's plant, in the order of its `state` lines:
    floor(measured value / unit). An input is one whole number for each `input` line: the value to apply is the number times

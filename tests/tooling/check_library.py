@@ -193,6 +193,9 @@ def check_turns(report, room, libraries):
             report.expect(f"library: {name} by {backend}", (0, wanted, ""), split(ran(program, path, data=lines_of(states))))
         with Controller(text, str(libraries["llvm"] / "libgaffcurrant.so")) as by_library, Controller(text, "") as by_module:
             report.expect(f"library: {name} by Python", [told_by(by_library, states), True], [told_by(by_module, states), by_library.is_proved])
+            count = len(model.turns) if model.kind == "patrol" else 1
+            begun = [(None, turn) for turn in range(count)] + [("ValueError", max(count - 1, 0))] * 2
+            report.expect(f"library: turns of {name} by Python", [begun, begun], [begun_turns(by_library, count), begun_turns(by_module, count)])
     for text, old, new, line, _ in DAMAGED:
         path = room / "damaged.text"
         path.write_text(text.replace(old, new, 1))
@@ -238,6 +241,11 @@ def told_by(controller, states):
         has_come = sample > 0 and controller.visit(state)
         said.append((has_come, controller.turn, answer_of(controller.choice, state), answer_of(controller.rank, state)))
     return said
+
+
+def begun_turns(controller, count):
+    """What `begin_turn` answers to each turn, to one past the last and to -1, and the turn that is due then."""
+    return [(answer_of(controller.begin_turn, turn), controller.turn) for turn in (*range(count), count, -1)]
 
 
 def check_uses(report, room, libraries):

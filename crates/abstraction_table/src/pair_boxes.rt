@@ -23,6 +23,9 @@ use successor_box::Sampled;
 /// About how many pairs one call finds the boxes of: to start a thread takes as long as some thousands of them.
 const BOXES_PER_TASK: usize = 4096;
 
+/// So many cells share a call at least: what the earlier states bring to a box is added once for those of a row.
+const CELLS_PER_TASK: usize = 8;
+
 /// The box of each pair of a cell and an input. What the extents along each axis add to it is found first, once for
 /// all pairs that share one.
 pub(crate) fn build_boxes<R: Threads + Sync>(
@@ -67,7 +70,7 @@ fn cells_in_chunk(inputs: usize) -> usize
     ensures some { 1 ≤ result }
     ensures few { result ≤ BOXES_PER_TASK }
 {
-    (BOXES_PER_TASK / inputs).max(1)
+    (BOXES_PER_TASK / inputs).max(CELLS_PER_TASK)
 }
 
 /// The boxes of cells from one on, row by row.

@@ -46,5 +46,6 @@ IsFresh board m = m.hand ≡ fresh_hand board
 abbrev pub accounts_of : List (Member HandModel) → List Account
 accounts_of members = map (λ (m : Member HandModel). m.hand.account) members
 
+-- the notes in the accounts of some members
 abbrev pub notes_of : List (Member HandModel) → List ℕ
 notes_of members = flat_map (λ (m : Member HandModel). m.hand.account.notes) members

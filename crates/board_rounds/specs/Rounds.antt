@@ -6,6 +6,7 @@ use Rattle.game_core.specs.declared.tally.Tally.{Tally}
 use Rattle.board_rounds.specs.declared.rounds.Rounds.{Rounds}
 use Rattle.board_rounds.specs.Crew.{IsTalliedBy}
 
+-- the tally before anything is counted
 abbrev pub no_tally : Tally
 no_tally = record { cuts = 0; offers = 0; rounds = 0 }
 

@@ -1,8 +1,8 @@
 //! What workers logged, as a list.
-ghost use Rattle.std.specs.Prelude.{◌≡◌, ◌-◌, ◌^◌, ◌<◌, ◌≤◌, map};
+ghost use Rattle.std.specs.Prelude.{◌≡◌, ◌^◌, ◌<◌, ◌≤◌};
 ghost use Rattle.std.specs.Vec.{vec_capacity};
-ghost use Rattle.std.specs.List.{range_with_len};
-ghost use Rattle.cell_counters.specs.Accounts.{all_logs, log_count, cell_at};
+ghost use Rattle.cell_counters.specs.Accounts.{log_count};
+ghost use Rattle.board_rounds.specs.inside.RoundInvariant.{cells_logged_from};
 
 use cell_counters::{Board, Root};
 
@@ -14,7 +14,7 @@ pub(crate) fn read_log(board: &Board, root: &mut Root, list: &mut Vec<u32>, list
     requires listed { listed ≤ log_count root.old.accounts }
     ensures root { root.new ≡ root.old }
     ensures listed { result ≡ log_count root.old.accounts }
-    ensures list { list.new.items ≡ map (λ slot. cell_at slot (all_logs root.old.accounts)) (range_with_len listed (log_count root.old.accounts - listed)) }
+    ensures list { list.new.items ≡ cells_logged_from listed root.old.accounts }
     ensures capacity { vec_capacity list.new ≡ vec_capacity list.old }
 {
     let filled = board.log_len(root);

@@ -1,6 +1,7 @@
 //! All memory of a solver, taken before it solves.
-ghost use Rattle.std.specs.Prelude.{◌≡◌, ◌≤◌, ◌++◌, IfOk};
-ghost use Rattle.board_rounds.specs.Boards.{IsBegunWith, fans_of, for_each_cell};
+ghost use Rattle.std.specs.Prelude.{◌≡◌, ◌≤◌, IfOk};
+ghost use Rattle.board_rounds.specs.Boards.{IsBegunWith};
+ghost use Rattle.board_rounds.specs.inside.RoundInvariant.{first_numbers};
 ghost use Rattle.base.specs.declared.limits.TheConstants.{WORKERS_LIMIT};
 
 use crate::fan_list::initial_counters;
@@ -74,7 +75,7 @@ impl<S: Start> Scratch<S> {
         alloc: Global,
         g: &G,
     ) -> Result<Vec<u64>, NoMemory>
-        ensures { IfOk result (λ v. v.items ≡ fans_of (G.game g.now) ++ for_each_cell (G.game g.now) (S.number (G.game g.now))) }
+        ensures { IfOk result (λ v. v.items ≡ first_numbers (G.game g.now) (S.number (G.game g.now))) }
     {
         let mut numbers = initial_counters(rt, alloc, g)?;
         let cells = g.cells();

@@ -1,8 +1,8 @@
 //! The workers of a round: how they are made, do the items, and are taken in.
-ghost use Rattle.std.specs.Prelude.{◌≡◌, ◌+◌, ◌<◌, ◌≤◌, [], ◌++◌, length, map, reverse, All, vec_len};
+ghost use Rattle.std.specs.Prelude.{◌≡◌, ◌+◌, ◌<◌, ◌≤◌, [], ◌++◌, length, reverse, All, vec_len};
 ghost use Rattle.std.specs.Vec.{vec_capacity};
 ghost use Rattle.cell_counters.specs.BoardModels.{IsLawful};
-ghost use Rattle.frontier_pool.specs.Sweeps.{Sweeps, IsIdle};
+ghost use Rattle.frontier_pool.specs.Sweeps.{HaveSwept, IsIdle};
 ghost use Rattle.board_rounds.specs.Crew.{IsFresh, accounts_of, IsTalliedBy};
 ghost use Rattle.base.specs.declared.limits.TheConstants.{WORKERS_LIMIT};
 
@@ -47,7 +47,7 @@ pub(crate) fn work<R: Threads + Sync, T: Toil, G: Gate>(
 )
     requires members { (0 < length members.old) × (length members.old ≤ WORKERS_LIMIT) }
     requires sound { All (λ m. T.sound job.now m.hand) members.old }
-    ensures swept { Sweeps (map (λ m. T.done m.hand) members.old) (map (λ m. T.done m.hand) members.new) (T.count job.now) }
+    ensures swept { HaveSwept T.done members.old members.new (T.count job.now) }
     ensures sound { All (λ m. T.sound job.now m.hand) members.new }
     ensures idle { All IsIdle members.old → All IsIdle members.new }
 {

@@ -1,32 +1,21 @@
 -- Words that spell the numbers of a state.
 use Rattle.std.proofs.Common.{Bor, ◌≡◌, ℕ, ◌^◌, ◌<◌, List, [], ◌∷◌, length, map, get_or, Some, refl, sym, ap, ◌∙◌, arith}
-use Rattle.std.specs.Prelude.{ℤ, pos, negsuc, Result}
-use Rattle.std.specs.Int.{w64}
-use Rattle.std.specs.Int.Signed.{mag}
+use Rattle.std.specs.Prelude.{ℤ, pos, Result}
 use Rattle.std.specs.Result.{result_ok}
-use Rattle.std.specs.Str.Parse.{ParsesUnsigned, ParsesSigned}
+use Rattle.std.specs.Str.Parse.{ParsesUnsigned}
 use Rattle.std.specs.List.{All}
 use Rattle.std.specs.Fmt.{decimal, signed_decimal}
-use Rattle.std.proofs.lemmas.Fmt.{signed_decimal_injective, parse-decimal, parse-signed_decimal}
-use Rattle.std.proofs.lemmas.Int.{fits_signed_from_abs}
+use Rattle.std.proofs.lemmas.Fmt.{signed_decimal_injective, parse-decimal}
 use Rattle.std.proofs.lemmas.List.{length-map, get_or-map}
 use Rattle.std.proofs.lemmas.List.Elements.{All-head, All-tail, All-get_or}
 use Rattle.plant_record.specs.Numbers.{IsLiteral}
+use Rattle.plant_record.proofs.lemmas.Spelling.{short_number}
 use Rattle.command_line.specs.inside.ArgumentSpelling.{Spell}
 
 -- ---- a number's own spelling is read
 
 pub parsed_number : {E : Type 0} (word : List ℕ) (n : ℕ) (r : Result ℕ E) → ParsesUnsigned 64 10 word r → n < 2 ^ 64 → word ≡ decimal n → result_ok r ≡ Some n
 parsed_number word n r parses lt is = ap result_ok (parse-decimal 64 n word r lt lt is parses)
-
--- a number of 18 digits is one of 64 bits
-short_number : (z : ℤ) → IsLiteral z → mag z < 2 ^ 63
-short_number (pos n) h = omega (arith, h)
-short_number (negsuc n) h = omega (arith, h)
-
-pub parsed_signed : {E : Type 0} (word : List ℕ) (z : ℤ) (r : Result ℤ E) → ParsesSigned w64 10 word r → IsLiteral z → word ≡ signed_decimal z → result_ok r ≡ Some z
-parsed_signed word z r parses few is =
-    ap result_ok (parse-signed_decimal w64 z word r (fits_signed_from_abs w64 z (omega (arith, few))) (short_number z few) is parses)
 
 -- ---- numbers have one spelling
 

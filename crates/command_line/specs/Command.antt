@@ -1,6 +1,7 @@
 -- The commands of the command line. Each word is a case of `Command`, and a case of each definition here.
 use Rattle.std.specs.Prelude.{◌≡◌, ℕ, ◌^◌, ◌<◌, ◌≤◌, ℤ, List, [], ◌∷◌, length, map, codes}
 use Rattle.std.specs.List.{All}
+use Rattle.std.specs.Borrow.{Bor}
 use Rattle.std.specs.Fmt.{decimal, signed_decimal}
 use Rattle.plant_record.specs.Numbers.{IsLiteral}
 use Rattle.command_line.specs.declared.command.Command.{Command}
@@ -20,6 +21,10 @@ IsDemoNumber n = (1 ≤ n) × (n ≤ DEMO_LIMIT)
 -- how many workers may resolve a game
 abbrev pub AreWorkers : ℕ → Type 0
 AreWorkers workers = (1 ≤ workers) × (workers ≤ WORKERS_LIMIT)
+
+-- the words of a command line, as the bytes of each
+abbrev pub as_words : List (Bor (List ℕ)) → List (List ℕ)
+as_words arguments = map (λ (word : Bor (List ℕ)). word.now) arguments
 
 -- the words are of a command
 abbrev pub IsOfCommand : List (List ℕ) → Command → Type 0

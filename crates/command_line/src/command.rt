@@ -1,9 +1,8 @@
-ghost use Rattle.std.specs.Prelude.{◌≡◌, ◌↔◌, ◌^◌, ◌<◌, ◌≤◌, ℕ, ℤ, List, Some, [], ◌∷◌, length, map, codes, IfSome, IfNone, IsTrue};
+ghost use Rattle.std.specs.Prelude.{◌≡◌, ◌↔◌, ◌^◌, ◌<◌, ◌≤◌, ℕ, ℤ, List, Some, [], ◌∷◌, length, codes, IfSome, IfNone, IsTrue};
 ghost use Rattle.std.specs.Fmt.{decimal, signed_decimal};
 ghost use Rattle.plant_record.specs.Numbers.{IsLiteral};
-ghost use Rattle.command_line.specs.Command.{IsDemoNumber, AreWorkers, IsOfCommand};
+ghost use Rattle.command_line.specs.Command.{IsDemoNumber, AreWorkers, as_words, IsOfCommand, AreOfNoCommand};
 ghost use Rattle.command_line.specs.inside.ArgumentSpelling.{Spell};
-ghost use Rattle.command_line.specs.declared.command.Command.{Command};
 ghost use Rattle.base.specs.declared.limits.TheConstants.{STATES_LIMIT};
 
 use crate::state_numbers::StateNumbers;
@@ -44,8 +43,8 @@ pub enum Command {
 
 /// The command that the words are of.
 pub fn parse_command(arguments: &[&str]) -> Option<Command>
-    ensures found { IfSome result (IsOfCommand (map (λ w. w.now) arguments.now)) }
-    ensures none { IfNone result ((f : Command) → IsOfCommand (map (λ w. w.now) arguments.now) f → ⊥) }
+    ensures found { IfSome result (IsOfCommand (as_words arguments.now)) }
+    ensures none { IfNone result (AreOfNoCommand (as_words arguments.now)) }
 {
     match arguments.len() {
         1 => parse_one(arguments[0]),
@@ -58,7 +57,7 @@ pub fn parse_command(arguments: &[&str]) -> Option<Command>
 
 fn parse_one(name: &str) -> Option<Command>
     ensures found { IfSome result (IsOfCommand (name.now ∷ [])) }
-    ensures none { IfNone result ((f : Command) → IsOfCommand (name.now ∷ []) f → ⊥) }
+    ensures none { IfNone result (AreOfNoCommand (name.now ∷ [])) }
 {
     if is_check(name) {
         Some(Command::Check)
@@ -71,7 +70,7 @@ fn parse_one(name: &str) -> Option<Command>
 
 fn parse_two(name: &str, workers: &str) -> Option<Command>
     ensures found { IfSome result (IsOfCommand (name.now ∷ workers.now ∷ [])) }
-    ensures none { IfNone result ((f : Command) → IsOfCommand (name.now ∷ workers.now ∷ []) f → ⊥) }
+    ensures none { IfNone result (AreOfNoCommand (name.now ∷ workers.now ∷ [])) }
 {
     let workers = parse_workers(workers)?;
     if is_synth(name) {
@@ -87,7 +86,7 @@ fn parse_two(name: &str, workers: &str) -> Option<Command>
 
 fn parse_three(name: &str, number: &str, workers: &str) -> Option<Command>
     ensures found { IfSome result (IsOfCommand (name.now ∷ number.now ∷ workers.now ∷ [])) }
-    ensures none { IfNone result ((f : Command) → IsOfCommand (name.now ∷ number.now ∷ workers.now ∷ []) f → ⊥) }
+    ensures none { IfNone result (AreOfNoCommand (name.now ∷ number.now ∷ workers.now ∷ [])) }
 {
     let number = parse_demo_number(number)?;
     let workers = parse_workers(workers)?;
@@ -101,8 +100,8 @@ fn parse_three(name: &str, number: &str, workers: &str) -> Option<Command>
 fn parse_more(name: &str, samples: &str, seed: &str, numbers: &[&str]) -> Option<Command>
     requires some { 1 ≤ length numbers.now }
     requires most { length numbers.now ≤ STATES_LIMIT }
-    ensures found { IfSome result (IsOfCommand (name.now ∷ samples.now ∷ seed.now ∷ map (λ w. w.now) numbers.now)) }
-    ensures none { IfNone result ((f : Command) → IsOfCommand (name.now ∷ samples.now ∷ seed.now ∷ map (λ w. w.now) numbers.now) f → ⊥) }
+    ensures found { IfSome result (IsOfCommand (name.now ∷ samples.now ∷ seed.now ∷ as_words numbers.now)) }
+    ensures none { IfNone result (AreOfNoCommand (name.now ∷ samples.now ∷ seed.now ∷ as_words numbers.now)) }
 {
     let samples = parse_number(samples, SAMPLES_LIMIT)? as u32;
     let seed = parse_number(seed, u64::MAX)?;
@@ -143,8 +142,8 @@ fn parse_demo_number(word: &str) -> Option<u32>
 /// The start whose numbers the words spell.
 fn parse_start(arguments: &[&str]) -> Option<StateNumbers>
     requires { length arguments.now ≤ STATES_LIMIT }
-    ensures found { IfSome result (Spell (map (λ w. w.now) arguments.now)) }
-    ensures none { IfNone result ((numbers : List ℤ) → Spell (map (λ w. w.now) arguments.now) numbers → ⊥) }
+    ensures found { IfSome result (Spell (as_words arguments.now)) }
+    ensures none { IfNone result ((numbers : List ℤ) → Spell (as_words arguments.now) numbers → ⊥) }
 {
     let mut start = StateNumbers::empty();
     for word in arguments {

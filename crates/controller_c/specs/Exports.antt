@@ -7,11 +7,13 @@ use Rattle.text_control.specs.Control.{EncodesReply, IsRank, IsUnranked}
 use Rattle.text_control.specs.Each.{IsReplyEach}
 use Rattle.text_control.specs.Visits.{with_turn, EncodesVisit}
 
+-- the status for a fault of a text
 abbrev pub fault_number : TextFault → ℤ
 fault_number (faults.Malformed line) = pos 1
 fault_number faults.Limit = pos 2
 fault_number faults.Memory = pos 3
 
+-- the line that a fault names, 0 where it names none
 abbrev pub fault_line : TextFault → ℕ
 fault_line (faults.Malformed line) = line
 fault_line faults.Limit = 0

@@ -79,7 +79,7 @@ pub extern "C" fn gaffcurrant_control_each(
     replies: &mut [i32],
 ) -> i32
     ensures kept { controller.new.held.text ≡ controller.old.held.text }
-    ensures replies { AreReplied controller.old.held.text states.now inputs.old inputs.new replies.old replies.new result }
+    ensures told { AreReplied controller.old.held.text states.now inputs.old inputs.new replies.old replies.new result }
 {
     match controller.take(alloc) {
         Some(text) => {

@@ -5,8 +5,9 @@ use Rattle.game_core.specs.declared.game.Row.{Row}
 use Rattle.grid_quantiser.specs.Axes.{cells_of}
 use Rattle.plant_record.specs.declared.aims.GoalKind.{GoalKind}
 use Rattle.plant_record.specs.declared.aims.GoalKind.TheVariants.{Reach, Keep}
-use Rattle.plant_record.specs.Description.{Description, axes_of, vectors_of}
+use Rattle.plant_record.specs.Description.{Description, axes_of}
 use Rattle.plant_record.specs.Limits.{IsWithinLimits}
+use Rattle.plant_record.proofs.lemmas.Limits.{small_cells, small_vectors}
 use Rattle.row_runs.specs.declared.run.TableVersion.{TableVersion}
 use Rattle.row_reading.specs.RowsTexts.{Determines, IsRowWithin, AreRowsWithin}
 use Rattle.row_reading.specs.inside.RunReading.{AreSmall}
@@ -18,13 +19,10 @@ few_ranks : (goal : GoalKind) (cells : ℕ) → cells ≤ 2 ^ 20 → most_rank_o
 few_ranks Reach cells le = omega (arith, le)
 few_ranks Keep cells le = omega arith
 
-below : (n : ℕ) → n ≤ 2 ^ 20 → n < 2 ^ 32
-below n le = omega (arith, le)
-
 pub small_rules : (v : TableVersion) (p : Description) → IsWithinLimits p → AreSmall (rules_of v p)
 small_rules v p within = record {
-  cells = below (cells_of (axes_of p)) within.cells;
-  vectors = below (vectors_of p.inputs) (let few = within.vectors in omega (arith, few));
+  cells = small_cells p within;
+  vectors = small_vectors p within;
   most_rank = few_ranks p.goal (cells_of (axes_of p)) within.cells;
 }
 

@@ -1,7 +1,5 @@
 -- How a heading is read: a first line, and the front after it.
-use Rattle.std.proofs.Common.{◌≡◌, ℕ, ◌+◌, ◌≤◌, List, ◌++◌, length, length-append, take, Result, Ok, Err, subst, sym, ap, ◌∙◌, arith}
-use Rattle.std.specs.Prelude.{IfErr}
-use Rattle.std.specs.Result.{IsErrAnd}
+use Rattle.std.proofs.Common.{◌≡◌, ℕ, ◌+◌, ◌≤◌, List, ◌++◌, length, length-append, take, ap, ◌∙◌, arith}
 use Rattle.std.proofs.Math.Seq.{take-append-add}
 use Rattle.plant_record.specs.Description.{Description}
 use Rattle.plant_record.specs.Limits.{IsWithinLimits}
@@ -20,8 +18,3 @@ module _ (first_line bytes rest : List ℕ) (are : bytes ≡ first_line ++ rest)
   heading p count lines f limits counted =
       let text = taken p count f ∙ ap (λ (x : List ℕ). first_line ++ x) f.text in
       record { limits = limits; within = long_enough p count f; text = text; counted = counted ∙ ap line_count text }
-
--- what holds of a fault holds of what is returned with it
-pub passed_on : {A E : Type 0} (r : Result A E) (e : E) (P : E → Type 0) → IsErrAnd r (λ x. x ≡ e) → P e → IfErr r P
-passed_on (Ok x) e P is h = absurd is
-passed_on (Err x) e P is h = subst P (sym is) h

@@ -16,7 +16,7 @@ use Rattle.row_runs.specs.declared.run.TableVersion.TheVariants.{First, Second}
 use Rattle.row_reading.proofs.Laws.{one_rows}
 use Rattle.controller_table.specs.TableText.{version_line, lines_after}
 use Rattle.controller_table.specs.Tables.{RowsFit, IsTable}
-use Rattle.controller_table.specs.Choice.{HasRowAt, Applies}
+use Rattle.controller_table.specs.Choice.{HasRowAt, Applies, Chooses}
 use Rattle.controller_table.specs.RowLines.{rules_of}
 use Rattle.controller_table.specs.Laws.{OneTablePerText, OneChoice, OneRank}
 use Rattle.controller_table.proofs.Fitting.{small_rules, rows_within}
@@ -57,9 +57,15 @@ one_row bytes p q rows others x a b h k r s =
     ap (λ (r : List (Option Row)). row_of r (cell_of (axes_of p) x)) same.1 ∙ ap (λ (d : Description). row_of others (cell_of (axes_of d) x)) same.0 in
     (same.0, same_Some a b (sym r.is ∙ at ∙ s.is))
 
-pub applied : (goal : GoalKind) (row : Row) (u : ℕ) → Applies goal row u → row.input ≡ u
+applied : (goal : GoalKind) (row : Row) (u : ℕ) → Applies goal row u → row.input ≡ u
 applied Reach row u h = h.1
 applied Keep row u h = h
+
+-- rows choose one input at a state
+pub one_choice_at : (p : Description) (rows : List (Option Row)) (x : List ℤ) (u v : ℕ) → Chooses p rows x u → Chooses p rows x v → u ≡ v
+one_choice_at p rows x u v h k =
+    let same = same_Some h.0 k.0 (sym h.1.is ∙ k.1.is) in
+    sym (applied p.goal h.0 u h.2) ∙ ap (λ (r : Row). r.input) same ∙ applied p.goal k.0 v k.2
 
 pub one_choice : OneChoice
 one_choice bytes x u v a b =

@@ -1,5 +1,5 @@
 -- Rows of numbers, and a filling of them slot by slot.
-use Rattle.std.specs.Prelude.{ℕ, ◌+◌, ◌-◌, ◌<◌, ◌≤◌, List, [], ◌∷◌, ◌++◌, map, take, drop, length, sum, replicate, slice_index, slice_index_or, slice_set}
+use Rattle.std.specs.Prelude.{◌≡◌, ℕ, ◌+◌, ◌-◌, ◌<◌, ◌≤◌, List, [], ◌∷◌, ◌++◌, map, take, drop, length, sum, replicate, slice_index, slice_index_or, slice_set}
 
 -- the rows as filled so far, and how many slots each row has
 pub record Filling : Type 0 where
@@ -33,6 +33,10 @@ HasFreeSlot f r = (r < length f.rows) × (length (row_at f.rows r) < slice_index
 -- each of `count` rows from the first on is there, and has a slot that is not written
 abbrev pub EachHasFreeSlot : Filling → ℕ → ℕ → Type 0
 EachHasFreeSlot f first count = (r : ℕ) → first ≤ r → r < first + count → HasFreeSlot f r
+
+-- each row has as many values as slots
+abbrev pub EachIsFull : Filling → Type 0
+EachIsFull f = (r : ℕ) → r < length f.lengths → length (row_at f.rows r) ≡ slice_index f.lengths r
 
 -- how many slots are not written
 abbrev pub slots_left : Filling → ℕ

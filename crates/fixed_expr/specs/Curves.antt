@@ -12,6 +12,7 @@ abbrev pub RiseFrom : CurvePoint → List CurvePoint → Type 0
 RiseFrom p [] = Unit {0}
 RiseFrom p (q ∷ points) = (p.0 <ℤ q.0) × RiseFrom q points
 
+-- each point has a greater argument than the point before it
 abbrev pub Rise : List CurvePoint → Type 0
 Rise [] = Unit {0}
 Rise (p ∷ points) = RiseFrom p points
@@ -36,6 +37,7 @@ abbrev pub value_from : CurvePoint → List CurvePoint → ℤ → ℤ
 value_from p [] x = p.1
 value_from p (q ∷ points) x = if int_le x p.0 then p.1 else (if int_lt x q.0 then value_along p q x else value_from q points x)
 
+-- the value of a curve at a number, 0 where the curve has no points
 abbrev pub curve_value : List CurvePoint → ℤ → ℤ
 curve_value [] x = pos 0
 curve_value (p ∷ points) x = value_from p points x

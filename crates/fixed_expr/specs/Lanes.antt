@@ -22,3 +22,7 @@ IsNarrowColumnOf found wanted = AreNarrow wanted × IsColumnOf found wanted
 -- an answer is given exactly where each number lies in 64 bits, and then the list holds them
 abbrev pub AnswersLanes : {T : Type 0} → Option T → List ℤ → (ℕ → ℤ) → Type 0
 AnswersLanes answer found wanted = MatchOption answer (¬ (AreNarrow wanted)) (λ _. IsNarrowColumnOf found wanted)
+
+-- a list is given exactly where each number lies in 64 bits, and then it holds them in their lanes
+abbrev pub AnswersColumn : Option (List ℤ) → (ℕ → ℤ) → Type 0
+AnswersColumn answer wanted = MatchOption answer (¬ (AreNarrow wanted)) (λ found. IsNarrowColumnOf found wanted)

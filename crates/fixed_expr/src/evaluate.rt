@@ -1,6 +1,6 @@
-ghost use Rattle.std.specs.Prelude.{length, SomeIff};
+ghost use Rattle.std.specs.Prelude.{length};
 ghost use Rattle.fixed_expr.specs.Expression.{expression_of};
-ghost use Rattle.fixed_expr.specs.Value.{IsWellFormed, StaysInRange, value_of};
+ghost use Rattle.fixed_expr.specs.Value.{IsWellFormed, Evaluates};
 
 use crate::expr::Expr;
 use crate::narrow::eval_narrow;
@@ -11,7 +11,7 @@ use crate::wide::eval_wide;
 #[tactic(auto, using(crate::proofs::Narrowness::narrow_stays))]
 pub fn eval(e: &Expr, values: &[i128]) -> Option<i128>
     requires { IsWellFormed (expression_of e.now) (length values.now) }
-    ensures { SomeIff result (StaysInRange (expression_of e.now) values.now) (value_of (expression_of e.now) values.now) }
+    ensures { Evaluates result (expression_of e.now) values.now }
 {
     match eval_narrow(e, values) {
         Some(z) => Some(i128::from(z)),

@@ -8,8 +8,8 @@ ghost use Rattle.fixed_expr.specs.Lanes.{at, IsColumnOf, AnswersLanes};
 ghost use Rattle.fixed_expr.specs.DivExpr.{floor_div};
 ghost use Rattle.fixed_expr.specs.Value.{IsWellFormed};
 ghost use Rattle.fixed_expr.specs.LaneEval.{EvaluatesLanes};
-ghost use Rattle.fixed_expr.specs.inside.Listing.{combined, combined_number};
-ghost use Rattle.fixed_expr.specs.inside.LaneValues.{value_in, AreNumbers, AnswersNumbers, AnswersValues};
+ghost use Rattle.fixed_expr.specs.inside.Listing.{combined_number, combination};
+ghost use Rattle.fixed_expr.specs.inside.LaneValues.{combined_numbers, value_in, AreNumbers, AnswersNumbers, AnswersValues};
 
 use crate::curve::Curve;
 use crate::expr::Expr;
@@ -109,7 +109,7 @@ fn eval_values_binary(
 ) -> Option<LaneValues>
     requires first { IsWellFormed (expression_of a.now) (length columns.now) }
     requires second { IsWellFormed (expression_of b.now) (length columns.now) }
-    ensures { AnswersValues result (combined binary (expression_of a.now) (expression_of b.now)) columns.now found.new }
+    ensures { AnswersValues result (combination binary a.now b.now) columns.now found.new }
 {
     let mut other = [0; LANES];
     let left = eval_values(a, columns, found)?;
@@ -124,7 +124,7 @@ fn combine_values(
     found: &mut [i64; LANES],
     other: &mut [i64; LANES],
 ) -> Option<LaneValues>
-    ensures { AnswersNumbers result found.new (λ k. combined_number binary (value_in left found.old k) (value_in right other.old k)) }
+    ensures { AnswersNumbers result found.new (combined_numbers binary left found.old right other.old) }
 {
     if let (LaneValues::Alike(x), LaneValues::Alike(y)) = (left, right) {
         return Some(LaneValues::Alike(combine(binary, x, y)?));

@@ -1,9 +1,9 @@
 //! What the caller of a sweep does before its members work, and after.
-ghost use Rattle.std.specs.Prelude.{◌≡◌, ℕ, ◌+◌, ◌<◌, [], ◌∷◌, length, All, IfOk};
+ghost use Rattle.std.specs.Prelude.{◌≡◌, ℕ, ◌<◌, [], ◌∷◌, length, All, IfOk};
 ghost use Rattle.frontier_pool.specs.Sweeps.{IsIdle};
-ghost use Rattle.frontier_pool.specs.inside.ClaimProtocol.{no_items, times_in};
+ghost use Rattle.frontier_pool.specs.inside.ClaimProtocol.{no_items, claims};
 ghost use Rattle.frontier_pool.specs.inside.Gains.{Gained};
-ghost use Rattle.frontier_pool.specs.inside.Members.{IsCaller, HasAddedWorkers, HasAll, IsReady, IsSeated, claim_lists_of, hands};
+ghost use Rattle.frontier_pool.specs.inside.Members.{IsCaller, IsCallerOf, HasJoined, HasAddedWorkers, HasAll, IsReady, IsSeated, claim_lists_of, hands};
 
 use crate::gate::Gate;
 use crate::job::Toil;
@@ -37,7 +37,7 @@ pub(crate) fn equip<H>(
 ) -> Result<Vec<Stealer<u32>>, AllocError>
     requires caller { IsCaller claimed.now.table_id 1 (no_items ∷ []) caller.old }
     requires some { 0 < claimed.now.table_id.words }
-    ensures caller { IfOk result (λ s. IsCaller claimed.now.table_id (1 + length members.old) (no_items ∷ []) caller.new) }
+    ensures caller { IfOk result (λ s. IsCallerOf claimed.now.table_id (length members.old) caller.new) }
     ensures ready { IfOk result (λ s. All (IsReady claimed.now.table_id) members.new) }
     ensures hands { hands members.new ≡ hands members.old }
 {
@@ -79,7 +79,7 @@ pub(crate) fn join_seats<H>(
     requires caller { IsCaller claimed.now.table_id caller.old.me.0.made (no_items ∷ []) caller.old }
     requires some { 0 < claimed.now.table_id.words }
     requires seated { All (IsSeated claimed.now.table_id) members.old }
-    ensures caller { IsCaller claimed.now.table_id caller.old.me.0.made (no_items ∷ claim_lists_of members.old) caller.new }
+    ensures caller { HasJoined claimed.now.table_id (claim_lists_of members.old) caller.old caller.new }
     ensures hands { hands members.new ≡ hands members.old }
     ensures idle { All IsIdle members.new }
 {
@@ -107,7 +107,7 @@ impl<T: Toil, G: Gate> SweepContext<'_, T, G> {
         requires caller { HasAll self.now.claimed.now.table_id caller.old }
         requires sound { T.sound self.now.job.now hand.old }
         ensures gained { Gained self.now.items caller.old caller.new (T.done hand.old) (T.done hand.new) }
-        ensures once { (n : ℕ) → n < self.now.items → times_in n caller.new.me.0.claim_lists ≡ 1 }
+        ensures once { (n : ℕ) → n < self.now.items → claims n caller.new.me.0 ≡ 1 }
         ensures sound { T.sound self.now.job.now hand.new }
     {
         for item in 0..self.items {
@@ -120,8 +120,8 @@ impl<T: Toil, G: Gate> SweepContext<'_, T, G> {
         requires caller { HasAll self.now.claimed.now.table_id caller.old }
         requires sound { T.sound self.now.job.now hand.old }
         ensures gained { Gained self.now.items caller.old caller.new (T.done hand.old) (T.done hand.new) }
-        ensures once { times_in item caller.new.me.0.claim_lists ≡ 1 }
-        ensures others { (n : ℕ) → n < item → times_in n caller.new.me.0.claim_lists ≡ times_in n caller.old.me.0.claim_lists }
+        ensures once { claims item caller.new.me.0 ≡ 1 }
+        ensures others { (n : ℕ) → n < item → claims n caller.new.me.0 ≡ claims n caller.old.me.0 }
         ensures sound { T.sound self.now.job.now hand.new }
     {
         let found = self

@@ -1,8 +1,7 @@
 //! A sweep, and how many hands a round is worth.
-ghost use Rattle.std.specs.Prelude.{◌≡◌, ◌+◌, ◌/◌, ◌<◌, ◌≤◌, [], ◌∷◌, length, map, min, max, All, OnOk, OnErr};
-ghost use Rattle.frontier_pool.specs.Sweeps.{Sweeps, IsIdle};
-ghost use Rattle.frontier_pool.specs.inside.ClaimProtocol.{no_items};
-ghost use Rattle.frontier_pool.specs.inside.Members.{IsCaller, IsReady, Worked, HaveWorked, hands};
+ghost use Rattle.std.specs.Prelude.{◌≡◌, ◌/◌, ◌<◌, ◌≤◌, length, min, max, All, OnOk, OnErr};
+ghost use Rattle.frontier_pool.specs.Sweeps.{HaveSwept, IsIdle};
+ghost use Rattle.frontier_pool.specs.inside.Members.{IsCallerOf, IsReady, Worked, HaveWorked, hands};
 ghost use Rattle.frontier_pool.specs.declared.pool.TheConstants.{STEPS_PER_HAND};
 ghost use Rattle.base.specs.declared.limits.TheConstants.{WORKERS_LIMIT};
 
@@ -54,7 +53,7 @@ pub fn sweep<R: Threads + Sync, T: Toil, G: Gate>(
     requires members { (0 < length members.old) × (length members.old ≤ WORKERS_LIMIT) }
     requires sound { All (λ m. T.sound job.now m.hand) members.old }
     requires items { items ≤ T.count job.now }
-    ensures swept { Sweeps (map (λ m. T.done m.hand) members.old) (map (λ m. T.done m.hand) members.new) items }
+    ensures swept { HaveSwept T.done members.old members.new items }
     ensures sound { All (λ m. T.sound job.now m.hand) members.new }
     ensures idle { All IsIdle members.old → All IsIdle members.new }
 {
@@ -73,7 +72,7 @@ fn do_all<T: Toil, G: Gate>(job: &T, members: &mut [Member<T::Hand>], items: u32
     requires sound { All (λ m. T.sound job.now m.hand) members.old }
     requires items { items ≤ T.count job.now }
     requires idle { All IsIdle members.old }
-    ensures swept { Sweeps (map (λ m. T.done m.hand) members.old) (map (λ m. T.done m.hand) members.new) items }
+    ensures swept { HaveSwept T.done members.old members.new items }
     ensures sound { All (λ m. T.sound job.now m.hand) members.new }
     ensures idle { All IsIdle members.new }
 {
@@ -94,7 +93,7 @@ fn run_in_batches<R: Threads + Sync, T: Toil, G: Gate>(
     requires some { 0 < items }
     requires sound { All (λ m. T.sound job.now m.hand) members.old }
     requires items { items ≤ T.count job.now }
-    ensures swept { OnOk result (Sweeps (map (λ m. T.done m.hand) members.old) (map (λ m. T.done m.hand) members.new) items) }
+    ensures swept { OnOk result (HaveSwept T.done members.old members.new items) }
     ensures sound { OnOk result (All (λ m. T.sound job.now m.hand) members.new) }
     ensures idle { OnOk result (All IsIdle members.new) }
     ensures same { OnErr result (hands members.new ≡ hands members.old) }
@@ -124,10 +123,10 @@ fn hold_sweep_context<R: Threads + Sync, T: Toil, G: Gate>(
 )
     requires count { (length members.old ≡ sweep_context.now.members) × (length members.old ≤ WORKERS_LIMIT) }
     requires some { 0 < sweep_context.now.items }
-    requires caller { IsCaller sweep_context.now.claimed.now.table_id (1 + length members.old) (no_items ∷ []) caller.old }
+    requires caller { IsCallerOf sweep_context.now.claimed.now.table_id (length members.old) caller.old }
     requires ready { All (IsReady sweep_context.now.claimed.now.table_id) members.old }
     requires sound { All (λ m. T.sound sweep_context.now.job.now m.hand) members.old }
-    ensures swept { Sweeps (map (λ m. T.done m.hand) members.old) (map (λ m. T.done m.hand) members.new) sweep_context.now.items }
+    ensures swept { HaveSwept T.done members.old members.new sweep_context.now.items }
     ensures sound { All (λ m. T.sound sweep_context.now.job.now m.hand) members.new }
     ensures idle { All IsIdle members.new }
 {

@@ -9,6 +9,17 @@ use Rattle.game_core.specs.declared.game.Row.{Row}
 use Rattle.game_core.specs.Solution.{row_of, rank_at, rank_in}
 use Rattle.game_core.specs.inside.Search.{IsQueue}
 
+-- no row is above the top rank, where the one that comes is not
+none_above : (head top c : ℕ) (row : Row) (rows : List (Option Row)) (queue : List ℕ) → IsQueue head top rows queue → c < length rows → row.rank ≤ top → (s : ℕ) (r : Row) → row_of (set rows c (Some row)) s ≡ Some r → r.rank ≤ top
+none_above head top c row rows queue h lt low s r e =
+    elim (row_after_set rows c (Some row) s lt) [
+      | inl here ↦
+          let same : row ≡ r = (let a = here.1 in cc) in
+          let k : row.rank ≡ r.rank = ap (λ x. x.rank) same in
+          omega arith
+      | inr there ↦ h.highest s r (sym there.1 ∙ e)
+    ]
+
 -- a cell without a row gets one of the top rank
 module _ (head top c : ℕ) (row : Row) (rows : List (Option Row)) (queue : List ℕ) (h : IsQueue head top rows queue) (lt : c < length rows) (none : row_of rows c ≡ None) (rank : row.rank ≡ top) (long : top ≤ length queue) where
   -- the others keep their rows
@@ -65,7 +76,7 @@ module _ (head top c : ℕ) (row : Row) (rows : List (Option Row)) (queue : List
           | inl l ↦ let a = old_rank i d l in let r = h.rest i d hi l in omega arith
           | inr g ↦ let a = new_rank i d (omega arith) in omega arith
         ];
-    highest = λ s r e. high s r e (row_after_set rows c (Some row) s lt);
+    highest = none_above head top c row rows queue h lt (omega (arith, rank));
   }
     where
       row_of_queued : (s : ℕ) → Contains queue s ⊎ (c ≡ s) → (r : Row) × (row_of (set rows c (Some row)) s ≡ Some r)
@@ -79,10 +90,6 @@ module _ (head top c : ℕ) (row : Row) (rows : List (Option Row)) (queue : List
       position_of : (s : ℕ) (r : Row) → row_of (set rows c (Some row)) s ≡ Some r → ((s ≡ c) × (row_of (set rows c (Some row)) s ≡ Some row)) ⊎ ((s ≢ c) × (row_of (set rows c (Some row)) s ≡ row_of rows s)) → Contains (queue ++ c ∷ []) s
       position_of s r e (inl here) = subst (Contains (queue ++ c ∷ [])) (sym here.0) (Contains-push queue c)
       position_of s r e (inr there) = Contains-append_left queue (c ∷ []) s (h.has_position s r (sym there.1 ∙ e))
-
-      high : (s : ℕ) (r : Row) → row_of (set rows c (Some row)) s ≡ Some r → ((s ≡ c) × (row_of (set rows c (Some row)) s ≡ Some row)) ⊎ ((s ≢ c) × (row_of (set rows c (Some row)) s ≡ row_of rows s)) → r.rank ≤ top
-      high s r e (inl here) = let same : row ≡ r = (let a = here.1 in cc) in let k : row.rank ≡ r.rank = ap (λ x. x.rank) same in omega arith
-      high s r e (inr there) = h.highest s r (sym there.1 ∙ e)
 
 -- a cell with a row gets another of the same rank
 module _ (head top c : ℕ) (old row : Row) (rows : List (Option Row)) (queue : List ℕ) (h : IsQueue head top rows queue) (lt : c < length rows) (some : row_of rows c ≡ Some old) (rank : row.rank ≡ old.rank) where
@@ -110,16 +117,8 @@ module _ (head top c : ℕ) (old row : Row) (rows : List (Option Row)) (queue : 
     rising = λ i j d le lj. let a = same_rank_after (get_or queue i d) in let b = same_rank_after (get_or queue j d) in let r = h.rising i j d le lj in omega arith;
     short = λ i d li. let a = same_rank_after (get_or queue i d) in let r = h.short i d li in omega arith;
     rest = λ i d hi li. let a = same_rank_after (get_or queue i d) in let r = h.rest i d hi li in omega arith;
-    highest = λ s r e. high s r e (row_after_set rows c (Some row) s lt);
+    highest = none_above head top c row rows queue h lt (let le = h.highest c old some in omega (arith, le, rank));
   }
-    where
-      high : (s : ℕ) (r : Row) → row_of (set rows c (Some row)) s ≡ Some r → ((s ≡ c) × (row_of (set rows c (Some row)) s ≡ Some row)) ⊎ ((s ≢ c) × (row_of (set rows c (Some row)) s ≡ row_of rows s)) → r.rank ≤ top
-      high s r e (inl here) =
-          let same : row ≡ r = (let a = here.1 in cc) in
-          let k : row.rank ≡ r.rank = ap (λ x. x.rank) same in
-          let le = h.highest c old some in
-          omega arith
-      high s r e (inr there) = h.highest s r (sym there.1 ∙ e)
 
 -- the cell at the head is taken next: rows of one rank more may come
 module _ (head top : ℕ) (rows : List (Option Row)) (queue : List ℕ) (h : IsQueue head top rows queue) (d : ℕ) (lt : head < length queue) where

@@ -1,5 +1,5 @@
 -- Rows all of whose cells are right are the solution of the reach game, and the other way round.
-use Rattle.std.proofs.Common.{inl, inr, ◌≡◌, ◌⊎◌, ℕ, zero, suc, ◌<◌, ◌≤◌, List, [], ◌∷◌, Option, Some, None, All, Contains, arith, refl, sym, ◌∙◌, ap, ap₂, subst}
+use Rattle.std.proofs.Common.{inl, inr, ◌≡◌, ◌⊎◌, ℕ, zero, suc, ◌<◌, ◌≤◌, List, [], ◌∷◌, length, Option, Some, None, All, Contains, arith, refl, sym, ◌∙◌, ap, ap₂, subst}
 use Rattle.std.proofs.lemmas.Bool.{cases_lt}
 use Rattle.std.proofs.lemmas.List.Elements.{All-head, All-tail, All-nil, All-cons, All-weaker, All-contains}
 use Rattle.game_core.specs.declared.game.Mark.{Mark}
@@ -109,6 +109,27 @@ rowless rows (s ∷ cells) = by_row (row_of rows s) refl (rowless rows cells)
     by_row (Some row) e (inl rest) = inl (All-cons (HasRow rows) s cells (row, e) rest)
     by_row (Some row) e (inr found) = let at = found.1 in inr (found.0, (suc at.0, (let lt = at.1 in omega arith), at.2), found.2)
 
+-- rows are right that are right at goals, at obstacles, and at plain cells without a row and with one
+pub right_from : (g : Game) (rows : List (Option Row)) → length rows ≡ g.cells
+    → ((c : ℕ) → c < g.cells → mark_of g c ≡ Goal → row_of rows c ≡ Some (record { rank = 0; input = 0 }))
+    → ((c : ℕ) → c < g.cells → mark_of g c ≡ Obstacle → row_of rows c ≡ None)
+    → ((c : ℕ) → c < g.cells → mark_of g c ≡ Plain → row_of rows c ≡ None → IsUnwinnable g rows c)
+    → ((c : ℕ) (row : Row) → c < g.cells → mark_of g c ≡ Plain → row_of rows c ≡ Some row → IsRightRanked g rows c row.rank row.input)
+    → AreRight g rows
+right_from g rows one_each goal obstacle lost ranked = record {
+  one_each = one_each;
+  each = λ c lt. by_mark c lt (mark_of g c) refl;
+}
+  where
+    by_row : (c : ℕ) → c < g.cells → mark_of g c ≡ Plain → (o : Option Row) → row_of rows c ≡ o → IsRightPlain g rows c o
+    by_row c lt m None e = lost c lt m e
+    by_row c lt m (Some row) e = ranked c row lt m e
+
+    by_mark : (c : ℕ) → c < g.cells → (m : Mark) → mark_of g c ≡ m → IsRightAt g rows c m (row_of rows c)
+    by_mark c lt Goal m = goal c lt m
+    by_mark c lt Obstacle m = obstacle c lt m
+    by_mark c lt Plain m = by_row c lt m (row_of rows c) refl
+
 module _ (g : Game) (rows : List (Option Row)) (a : IsGame g) (h : IsReachSolution g rows) where
   -- a cell with a row of a rank below k has a tree of that depth
   tree_below : (k s : ℕ) → HasRowBelow rows (suc k) s → WinsWithin g k s
@@ -166,16 +187,7 @@ module _ (g : Game) (rows : List (Option Row)) (a : IsGame g) (h : IsReachSoluti
       ranks v each = λ i d li. let b = each i d li in let below = b.below in (b.row.rank, omega arith, (row_at g rows h _ b.row b.is).0)
 
   pub solutions_are_right : AreRight g rows
-  solutions_are_right = record {
-    one_each = h.one_each;
-    each = λ c lt. by_mark c lt (mark_of g c) refl;
-  }
-    where
-      by_row : (c : ℕ) → c < g.cells → mark_of g c ≡ Plain → (o : Option Row) → row_of rows c ≡ o → IsReachRow g c o → IsRightPlain g rows c o
-      by_row c lt m None e r = lost c lt m r
-      by_row c lt m (Some row) e r = best c row.rank row.input m e r.0 r.1
-
-      by_mark : (c : ℕ) → c < g.cells → (m : Mark) → mark_of g c ≡ m → IsRightAt g rows c m (row_of rows c)
-      by_mark c lt Obstacle m = (leads_to_goals g rows a h).clear c m
-      by_mark c lt Goal m = solved_goal c m (row_of rows c) refl (h.each c lt)
-      by_mark c lt Plain m = by_row c lt m (row_of rows c) refl (h.each c lt)
+  solutions_are_right =
+      right_from g rows h.one_each (λ c lt m. solved_goal c m (row_of rows c) refl (h.each c lt)) (λ c lt m. (leads_to_goals g rows a h).clear c m)
+      (λ c lt m e. lost c lt m (subst (IsReachRow g c) e (h.each c lt)))
+      (λ c row lt m e. let r = subst (IsReachRow g c) e (h.each c lt) in best c row.rank row.input m e r.0 r.1)

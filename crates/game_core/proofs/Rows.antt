@@ -35,6 +35,10 @@ below_from_row rows c row e =
       | inr ge ↦ let n : row_of rows c ≡ None = get_or_past rows c None ge in cc
     ]
 
+-- where there are as many rows as cells, it stands at a cell
+pub below_cells : (rows : List (Option Row)) (cells c : ℕ) (row : Row) → length rows ≡ cells → row_of rows c ≡ Some row → c < cells
+below_cells rows cells c row many e = omega (arith, below_from_row rows c row e, many)
+
 -- what is neither a goal nor an obstacle is plain
 pub plain_from : (m : Mark) → m ≢ Goal → m ≢ Obstacle → m ≡ Plain
 plain_from Goal a b = absurd (a refl)

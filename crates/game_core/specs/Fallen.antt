@@ -8,6 +8,7 @@ use Rattle.game_core.specs.Game.{Game, IsGame, mark_of, successors_of, IsEnabled
 use Rattle.game_core.specs.Keep.{HasKeepTree, IsKept}
 use Rattle.game_core.specs.Solution.{row_of, HasRow}
 
+-- a mark is that of an obstacle
 abbrev pub is_obstacle : Mark → Bool
 is_obstacle Obstacle = true
 is_obstacle Goal = false

@@ -63,3 +63,7 @@ with_marks g marks = record { cells = g.cells; inputs = g.inputs; marks = marks;
 pub record AreSources (g : Game) (c : ℕ) (pairs : List ℕ) : Type 0 where
   pub rising : IsStrictlyIncreasing pairs
   pub exactly : (pair : ℕ) → Contains pairs pair ↔ ((pair < pairs_of g) × Contains (successors_at g pair) c)
+
+-- a pair has successors, and each of them has a property
+abbrev pub LeadsOnlyTo : (ℕ → Type 0) → Game → ℕ → Type 0
+LeadsOnlyTo Is g pair = (successors_at g pair ≢ []) × All Is (successors_at g pair)

@@ -39,6 +39,7 @@ IsRightAt g rows c Obstacle row = row ≡ None
 IsRightAt g rows c Goal row = row ≡ Some (record { rank = 0; input = 0 })
 IsRightAt g rows c Plain row = IsRightPlain g rows c row
 
+-- a cell is right, with the mark and the row that it has
 abbrev pub IsRight : Game → List (Option Row) → ℕ → Type 0
 IsRight g rows c = IsRightAt g rows c (mark_of g c) (row_of rows c)
 

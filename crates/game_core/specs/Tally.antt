@@ -7,6 +7,7 @@ use Rattle.game_core.specs.Fallen.{is_obstacle, has_fallen}
 use Rattle.game_core.specs.Game.{Game, mark_of, pairs_of, successors_at}
 use Rattle.game_core.specs.Solution.{row_of, greatest, greatest_rank}
 
+-- the numbers of all pairs of a game
 abbrev pub all_pairs : Game → List ℕ
 all_pairs g = range_with_len 0 (pairs_of g)
 

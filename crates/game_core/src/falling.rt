@@ -1,7 +1,6 @@
-ghost use Rattle.std.specs.Prelude.{◌≡◌, ℕ, ◌+◌, ◌<◌, map, length, slice_index, IfOk};
-ghost use Rattle.std.specs.List.{range_with_len};
+ghost use Rattle.std.specs.Prelude.{◌≡◌, ℕ, ◌+◌, ◌<◌, length, slice_index, IfOk};
 ghost use Rattle.game_core.specs.Game.{pairs_of};
-ghost use Rattle.game_core.specs.inside.Falling.{first_progress, with_fall, without_pair, after_loss, is_live, is_safe, safe_at_first, safe_pairs, IsFalling, IsFirstSafe, AreFirstSafe};
+ghost use Rattle.game_core.specs.inside.Falling.{first_progress, with_fall, without_pair, after_loss, is_live, is_safe, safe_at_first, safe_pairs, IsFalling, IsFirstSafe, AreFirstSafe, safe_counts};
 
 use crate::answer::Answer;
 use crate::game::{Graph, Mark, Row};
@@ -70,7 +69,7 @@ fn count_safe<G: Graph>(g: &G, safe: &[bool], c: u32) -> u32
 /// How many safe pairs each cell has.
 fn counts<G: Graph>(alloc: Global, g: &G, safe: &[bool]) -> Result<Vec<u32>, NoMemory>
     requires { length safe.now ≡ pairs_of (G.game g.now) }
-    ensures { IfOk result (λ v. v.items ≡ map (safe_pairs (G.game g.now) safe.now) (range_with_len 0 (G.game g.now).cells)) }
+    ensures { IfOk result (λ v. v.items ≡ safe_counts (G.game g.now) safe.now) }
 {
     let cells = g.cells();
     let mut counts = vec![in alloc; 0; cells as usize]?;

@@ -1,6 +1,5 @@
-ghost use Rattle.std.specs.Prelude.{◌≡◌, ◌≢◌, ℕ, ◌<◌, ◌↔◌, IsTrue, [], length, slice_index};
-ghost use Rattle.std.specs.List.{All};
-ghost use Rattle.game_core.specs.Game.{Game, IsGraph, AreSources, mark_of, successors_at, pairs_of};
+ghost use Rattle.std.specs.Prelude.{◌≡◌, ℕ, ◌<◌, ◌↔◌, IsTrue, length, slice_index};
+ghost use Rattle.game_core.specs.Game.{Game, IsGraph, AreSources, mark_of, successors_at, pairs_of, LeadsOnlyTo};
 
 /// What a cell is to the controller.
 #[derive(Clone, Copy, PartialEq, Eq)]
@@ -94,7 +93,7 @@ pub trait Forward {
     fn leads_only_to<T: CellTest>(&self, pair: u32, test: &T) -> bool
         requires pair { pair < pairs_of (game self.now) }
         requires cells { T.cells test.now ≡ (game self.now).cells }
-        ensures { IsTrue result ↔ ((successors_at (game self.now) pair ≢ []) × All (T.passes test.now) (successors_at (game self.now) pair)) };
+        ensures { IsTrue result ↔ LeadsOnlyTo (T.passes test.now) (game self.now) pair };
 
     ghost lawful: { (g : Self) → IsGraph (game g) };
 }

@@ -1,12 +1,12 @@
 //! Laws about the definitions, for callers and tests.
-ghost use Rattle.std.specs.Prelude.{◌≡◌, List, Option};
+ghost use Rattle.std.specs.Prelude.{List, Option};
 ghost use Rattle.game_core.specs.declared.game.Row.{Row};
 ghost use Rattle.game_core.specs.Fallen.{AreStable, KeptOrFallsInTime, DeepKeepTreesKeep};
 ghost use Rattle.game_core.specs.Game.{Game, IsGame};
 ghost use Rattle.game_core.specs.Counts.{CountsAgree, EdgesFromBothEnds};
 ghost use Rattle.game_core.specs.Keep.{IsKeepSolution};
 ghost use Rattle.game_core.specs.Right.{AreRight};
-ghost use Rattle.game_core.specs.Solution.{IsReachSolution, LeadsToGoals, RanksAreBelowTheCells, RowsStandAtCells};
+ghost use Rattle.game_core.specs.Solution.{IsReachSolution, LeadsToGoals, RanksAreBelowTheCells, RowsStandAtCells, SolutionsAreUnique};
 
 /// Who follows the rows of a solution comes to lower ranks alone, and at rank 0 to a goal.
 pub fn rows_lead_to_goals()
@@ -15,12 +15,12 @@ pub fn rows_lead_to_goals()
 
 /// A game has one reach solution.
 pub fn one_solution()
-    ensures { (g : Game) (first second : List (Option Row)) → IsReachSolution g first → IsReachSolution g second → first ≡ second }
+    ensures { SolutionsAreUnique IsReachSolution }
 {}
 
 /// A game has one keep solution.
 pub fn one_keep_solution()
-    ensures { (g : Game) (first second : List (Option Row)) → IsKeepSolution g first → IsKeepSolution g second → first ≡ second }
+    ensures { SolutionsAreUnique IsKeepSolution }
 {}
 
 /// Settled rows are the keep solution.

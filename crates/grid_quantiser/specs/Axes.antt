@@ -1,5 +1,5 @@
 -- The axes of a uniform grid, one for each state.
-use Rattle.std.specs.Prelude.{ℕ, ◌≤◌, ℤ, pos, neg_ℤ, ◌+ℤ◌, ◌*ℤ◌, ◌<ℤ◌, ◌≤ℤ◌, List, [], ◌∷◌, length}
+use Rattle.std.specs.Prelude.{ℕ, ◌≤◌, ℤ, pos, neg_ℤ, ◌+ℤ◌, ◌*ℤ◌, ◌<ℤ◌, ◌≤ℤ◌, List, [], ◌∷◌, length, slice_index_or}
 use Rattle.std.specs.List.{All}
 use Rattle.mixed_radix.specs.Radix.{size}
 use Rattle.grid_quantiser.specs.declared.axis.Axis.{Axis}
@@ -19,6 +19,10 @@ pub record IsAxis (a : Axis) : Type 0 where
 -- what stands where there is no axis
 abbrev pub no_axis : Axis
 no_axis = record { lo = pos 0; width = pos 0; count = 0 }
+
+-- the axis of a state
+abbrev pub axis_at : List Axis → ℕ → Axis
+axis_at axes i = slice_index_or axes i no_axis
 
 -- how many indices each axis has
 abbrev pub counts_of : List Axis → List ℕ

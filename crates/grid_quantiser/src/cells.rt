@@ -1,7 +1,7 @@
-ghost use Rattle.std.specs.Prelude.{◌≡◌, ℕ, ◌^◌, ◌<◌, ◌≤◌, ◌↔◌, pos, length, slice_index, slice_index_or, IsSome, IfSome};
-ghost use Rattle.grid_quantiser.specs.Axes.{no_axis, cells_of, AreAxes};
-ghost use Rattle.grid_quantiser.specs.Cells.{IsInDomain, index_of, cell_of, low_of, centre_of, high_of, point_of};
-ghost use Rattle.grid_quantiser.specs.inside.Spots.{numbers_of};
+ghost use Rattle.std.specs.Prelude.{◌≡◌, ◌<◌, ◌≤◌, ◌↔◌, IsSome, IfSome};
+ghost use Rattle.grid_quantiser.specs.Axes.{cells_of, AreAxes};
+ghost use Rattle.grid_quantiser.specs.Cells.{IsInDomain, cell_of, low_of, centre_of, high_of, point_of};
+ghost use Rattle.grid_quantiser.specs.inside.Spots.{numbers_of, HoldsIndices};
 ghost use Rattle.base.specs.declared.limits.TheConstants.{CELLS_LIMIT};
 
 use crate::axis::{Axis, CellPoint};
@@ -71,7 +71,7 @@ fn indices_on(axes: &[Axis], x: &Point) -> Option<[u32; STATES_LIMIT]>
     requires axes { AreAxes axes.now }
     requires limit { cells_of axes.now ≤ CELLS_LIMIT }
     ensures inside { IsSome result ↔ IsInDomain axes.now x.now }
-    ensures each { IfSome result (λ indices. (k : ℕ) → k < length axes.now → slice_index indices k ≡ index_of (slice_index_or axes.now k no_axis) (slice_index_or x.now k (pos 0))) }
+    ensures each { IfSome result (λ indices. HoldsIndices axes.now x.now indices) }
 {
     let mut indices = [0; STATES_LIMIT];
     for i in 0..axes.len() {

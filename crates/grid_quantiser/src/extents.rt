@@ -1,8 +1,8 @@
-ghost use Rattle.std.specs.Prelude.{◌≡◌, ◌<◌, ◌≤◌, ◌↔◌, ℕ, ℤ, ◌≤ℤ◌, List, length, slice_index, slice_index_or, IsSome, IfSome};
-ghost use Rattle.grid_quantiser.specs.Axes.{no_axis};
+ghost use Rattle.std.specs.Prelude.{◌≡◌, ◌<◌, ◌≤◌, ◌↔◌, ℕ, ℤ, List, length, slice_index, IsSome, IfSome};
+ghost use Rattle.grid_quantiser.specs.Axes.{axis_at};
 ghost use Rattle.grid_quantiser.specs.CellBoxes.{IsBoxInDomain, AreCornersMeeting};
 ghost use Rattle.grid_quantiser.specs.Indices.{index_along};
-ghost use Rattle.grid_quantiser.specs.Extents.{IsExtentOf, extended_axis, IsExtentBefore, AreExtentsOf};
+ghost use Rattle.grid_quantiser.specs.Extents.{IsExtentOf, extended_axis, IsShiftable, AreExtentsOf, IsShiftOf};
 
 use crate::boxes::CellBox;
 use crate::grid::Grid;
@@ -22,7 +22,7 @@ impl Grid {
     #[inline]
     pub fn extent(&self, axis: u32, low: i128, high: i128) -> Option<Extent>
         requires { axis < length self.now }
-        ensures { IsExtentOf (slice_index_or self.now axis no_axis) low high result }
+        ensures { IsExtentOf (axis_at self.now axis) low high result }
     {
         let axis = self.axes()[axis as usize];
         let first = axis.index_holding(low)? as u32;
@@ -33,7 +33,7 @@ impl Grid {
     /// The quantiser of an axis prolonged by its own length below, from whose extents `shifted_extent` goes on.
     pub fn extended_quantiser(&self, axis: u32) -> AxisQuantiser
         requires { axis < length self.now }
-        ensures { result ≡ extended_axis (slice_index_or self.now axis no_axis) }
+        ensures { result ≡ extended_axis (axis_at self.now axis) }
     {
         self.axes()[axis as usize].extended_quantiser()
     }
@@ -43,9 +43,9 @@ impl Grid {
     #[inline]
     pub fn shifted_extent(&self, axis: u32, extent: Option<Extent>, indices: u32) -> Option<Extent>
         requires axis { axis < length self.now }
-        requires indices { indices < (slice_index_or self.now axis no_axis).count }
-        requires extent { (low : ℤ) × (high : ℤ) × (low ≤ℤ high) × IsExtentBefore (slice_index_or self.now axis no_axis) indices low high extent }
-        ensures { (low high : ℤ) → low ≤ℤ high → IsExtentBefore (slice_index_or self.now axis no_axis) indices low high extent → IsExtentOf (slice_index_or self.now axis no_axis) low high result }
+        requires indices { indices < (axis_at self.now axis).count }
+        requires extent { IsShiftable (axis_at self.now axis) indices extent }
+        ensures { IsShiftOf (axis_at self.now axis) indices extent result }
     {
         let count = self.axes()[axis as usize].count as u32;
         let extent = extent?;
@@ -86,7 +86,7 @@ impl Grid {
     #[inline]
     pub fn count(&self, axis: u32) -> u32
         requires { axis < length self.now }
-        ensures { result ≡ (slice_index_or self.now axis no_axis).count }
+        ensures { result ≡ (axis_at self.now axis).count }
     {
         self.axes()[axis as usize].count as u32
     }

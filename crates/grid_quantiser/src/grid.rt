@@ -1,5 +1,5 @@
-ghost use Rattle.std.specs.Prelude.{◌≡◌, ◌*◌, ◌^◌, ◌<◌, ◌≤◌, ◌↔◌, length, IfOk, IsErr, slice_index_or};
-ghost use Rattle.grid_quantiser.specs.Axes.{no_axis, counts_of, cells_of, AreAxes};
+ghost use Rattle.std.specs.Prelude.{◌≡◌, ◌*◌, ◌<◌, ◌≤◌, ◌↔◌, length, IfOk, IsErr};
+ghost use Rattle.grid_quantiser.specs.Axes.{counts_of, cells_of, AreAxes, axis_at};
 ghost use Rattle.grid_quantiser.specs.inside.Storage.{six_counts};
 ghost use Rattle.mixed_radix.specs.Radix.{size};
 ghost use Rattle.grid_quantiser.specs.Cells.{radius_of};
@@ -86,7 +86,7 @@ impl Grid {
     #[inline]
     pub fn radius(&self, axis: u32) -> i128
         requires { axis < length self.now }
-        ensures { result ≡ radius_of (slice_index_or self.now axis no_axis) }
+        ensures { result ≡ radius_of (axis_at self.now axis) }
     {
         self.axes()[axis as usize].radius()
     }

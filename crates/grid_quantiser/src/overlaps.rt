@@ -1,7 +1,7 @@
 ghost use Rattle.std.specs.Prelude.{◌<◌};
 ghost use Rattle.grid_quantiser.specs.Axes.{cells_of, AreAxes};
 ghost use Rattle.grid_quantiser.specs.CellBoxes.{Touches, LiesInside, IsBoxWith};
-ghost use Rattle.grid_quantiser.specs.inside.Overlaps.{HasOverlap};
+ghost use Rattle.grid_quantiser.specs.inside.Overlaps.{IsCellWith};
 
 use crate::axis::Overlap;
 use crate::boxes::CellBox;
@@ -28,7 +28,7 @@ impl Grid {
     /// The cells whose index along each axis has such an overlap in the box from `lo` to `hi`.
     fn cells_with(&self, lo: &Point, hi: &Point, overlap: Overlap) -> Option<CellBox>
         ensures axes { AreAxes self.now }
-        ensures cells { IsBoxWith self.now (λ c. (c < cells_of self.now) × HasOverlap overlap self.now lo.now hi.now c) result }
+        ensures cells { IsBoxWith self.now (λ c. IsCellWith overlap self.now lo.now hi.now c) result }
     {
         let axes = self.axes();
         let mut first = [0; STATES_LIMIT];

@@ -45,6 +45,7 @@ IsIntervalColumnOf found wanted = (k : ℕ) → k < LANES → ((interval_in foun
 abbrev pub AnswersIntervals : {T : Type 0} → Option T → IntervalColumn → (ℕ → Interval) → Type 0
 AnswersIntervals answer found wanted = MatchOption answer (¬ (AreNarrowIntervals wanted)) (λ _. AreNarrowIntervals wanted × IsIntervalColumnOf found wanted)
 
+-- in each lane the spans of all nodes stay in 64 bits, and so does every divisor
 abbrev pub SpanStaysNarrowInLanes : Expression → List IntervalColumn → Type 0
 SpanStaysNarrowInLanes e columns = (k : ℕ) → k < LANES → SpanStaysNarrow e (area_in columns k)
 

@@ -1,14 +1,13 @@
 //! Intervals in many lanes, with None where an end leaves 64 bits.
 //! A loop's label names its invariant in proofs/.
 
-ghost use Rattle.std.specs.Prelude.{◌≡◌, ◌<◌, pos, ◌≤ℤ◌, ◌*ℤ◌, MatchOption, SomeIff};
-ghost use Rattle.std.specs.Int.{int_min, int_max};
+ghost use Rattle.std.specs.Prelude.{◌≡◌, ◌<◌, pos, ◌≤ℤ◌, ◌*ℤ◌};
 ghost use Rattle.fixed_expr.specs.declared.lanes.TheConstants.{LANES};
-ghost use Rattle.fixed_expr.specs.NarrowValues.{IsNarrow};
-ghost use Rattle.fixed_expr.specs.Lanes.{at, AreNarrow, IsNarrowColumnOf};
-ghost use Rattle.interval_eval.specs.Span.{neg_span, add_span, sub_span, mul_span, div_span, min_span, max_span, abs_span, lut_span};
+ghost use Rattle.fixed_expr.specs.NarrowValues.{AnswersNarrow};
+ghost use Rattle.fixed_expr.specs.Lanes.{at, IsNarrowColumnOf, AnswersColumn};
+ghost use Rattle.interval_eval.specs.Span.{neg_span, add_span, sub_span, mul_span, div_span, min_span, max_span, abs_span, lut_span, hull_of};
 ghost use Rattle.interval_eval.specs.LaneSpans.{interval_in, AreNarrowIntervals, IsIntervalColumnOf, AnswersIntervals};
-ghost use Rattle.interval_eval.specs.inside.Combined.{combined_interval};
+ghost use Rattle.interval_eval.specs.inside.Combined.{combined_column};
 
 use crate::interval::Interval;
 use fixed_expr::lanes::{
@@ -131,7 +130,7 @@ impl IntervalColumn {
 
     /// The values of an operation on two numbers, one of each interval.
     pub(crate) fn combine(&mut self, binary: Binary, other: &IntervalColumn) -> Option<()>
-        ensures { AnswersIntervals result self.new (λ k. combined_interval binary (interval_in self.old k) (interval_in other.now k)) }
+        ensures { AnswersIntervals result self.new (combined_column binary self.old other.now) }
     {
         match binary {
             Binary::AddOp => self.add_spans(other),
@@ -150,7 +149,7 @@ impl IntervalColumn {
 }
 
 fn least_absolute(lo: i64, hi: i64) -> Option<i64>
-    ensures { SomeIff result (IsNarrow (abs_span (record { lo = lo; hi = hi })).lo) (abs_span (record { lo = lo; hi = hi })).lo }
+    ensures { AnswersNarrow result (abs_span (record { lo = lo; hi = hi })).lo }
 {
     if 0 <= lo {
         Some(lo)
@@ -163,13 +162,13 @@ fn least_absolute(lo: i64, hi: i64) -> Option<i64>
 
 /// Where the negated low end leaves 64 bits, so does the greatest.
 fn greatest_absolute(lo: i64, hi: i64) -> Option<i64>
-    ensures { SomeIff result (IsNarrow (abs_span (record { lo = lo; hi = hi })).hi) (abs_span (record { lo = lo; hi = hi })).hi }
+    ensures { AnswersNarrow result (abs_span (record { lo = lo; hi = hi })).hi }
 {
     Some(lo.checked_neg()?.max(hi))
 }
 
 fn products(a: &[i64; LANES], b: &[i64; LANES]) -> Option<[i64; LANES]>
-    ensures { MatchOption result (¬ (AreNarrow (λ k. at a.now k *ℤ at b.now k))) (λ r. IsNarrowColumnOf r (λ k. at a.now k *ℤ at b.now k)) }
+    ensures { AnswersColumn result (λ k. at a.now k *ℤ at b.now k) }
 {
     let mut found = *a;
     mul_lanes(&mut found, b)?;
@@ -177,7 +176,7 @@ fn products(a: &[i64; LANES], b: &[i64; LANES]) -> Option<[i64; LANES]>
 }
 
 fn least(a: &[i64; LANES], b: &[i64; LANES], c: &[i64; LANES], d: &[i64; LANES]) -> [i64; LANES]
-    ensures { IsNarrowColumnOf result (λ k. int_min (int_min (at a.now k) (at b.now k)) (int_min (at c.now k) (at d.now k))) }
+    ensures { IsNarrowColumnOf result (λ k. (hull_of (at a.now k) (at b.now k) (at c.now k) (at d.now k)).lo) }
 {
     let mut first = *a;
     let mut second = *c;
@@ -188,7 +187,7 @@ fn least(a: &[i64; LANES], b: &[i64; LANES], c: &[i64; LANES], d: &[i64; LANES])
 }
 
 fn greatest(a: &[i64; LANES], b: &[i64; LANES], c: &[i64; LANES], d: &[i64; LANES]) -> [i64; LANES]
-    ensures { IsNarrowColumnOf result (λ k. int_max (int_max (at a.now k) (at b.now k)) (int_max (at c.now k) (at d.now k))) }
+    ensures { IsNarrowColumnOf result (λ k. (hull_of (at a.now k) (at b.now k) (at c.now k) (at d.now k)).hi) }
 {
     let mut first = *a;
     let mut second = *c;

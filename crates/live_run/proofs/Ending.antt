@@ -1,7 +1,6 @@
 -- How a run of a live script ends.
-use Rattle.std.proofs.Common.{inl, inr, ◌≡◌, ℕ, Result, Ok, Err, ◌<◌, List, length, take, drop, Option, Some, None, refl, ap, sym, subst, arith, length-take}
-use Rattle.std.specs.Prelude.{IfSome, IfErr}
-use Rattle.std.specs.Result.{IsErrAnd}
+use Rattle.std.proofs.Common.{inl, inr, ◌≡◌, ℕ, ◌<◌, List, length, take, drop, Option, Some, None, refl, ap, sym, subst, arith, length-take}
+use Rattle.std.specs.Prelude.{IfSome}
 use Rattle.std.proofs.lemmas.Bool.{cases_lt}
 use Rattle.std.proofs.lemmas.List.{take_all}
 use Rattle.run_devices.specs.Devices.{Reading, Writing, GainsWhole, GainsPart, TakesAtMost}
@@ -27,7 +26,6 @@ use Rattle.live_run.specs.declared.live_stop.LiveStop.{LiveStop}
 use Rattle.live_run.specs.declared.live_stop.LiveStop.TheVariants.{Unread, Unanswered}
 use Rattle.live_run.specs.inside.LiveWorking.{IsRead, IsWorkedOut, IsUnread, IsStopped, end_of, IsWrittenOut}
 use Rattle.command_line.proofs.Shown.{shown_done, shown_cut_off, shown_refused, shown_unread, shown_without_memory}
-use Rattle.base.proofs.Options.{IfSome-weaker}
 
 -- ---- what was read stands for the whole script
 
@@ -56,12 +54,6 @@ refuses_whole (scripts.Limit what) bytes lt h = absurd (long_front bytes lt h.0)
 refuses_whole scripts.ScriptTooLong bytes lt h = λ short. omega (arith, lt, short)
 refuses_whole scripts.TooManyTables bytes lt h = absurd (long_front bytes lt h.0)
 refuses_whole scripts.Memory bytes lt h = h
-
--- ---- what is passed on
-
-pub exits : {A E : Type 0} (r : Result A E) (e : E) (P : E → Type 0) → IsErrAnd r (λ x. x ≡ e) → P e → IfErr r P
-exits (Ok x) e P is h = absurd is
-exits (Err x) e P is h = subst P (sym is) h
 
 -- ---- the ends of a run
 

@@ -1,14 +1,15 @@
 //! The words of the command line.
 
-ghost use Rattle.std.specs.Prelude.{◌≡◌, ◌↔◌, ℕ, map, codes, IfSome, IfNone, IsTrue};
+ghost use Rattle.std.specs.Prelude.{◌≡◌, ◌↔◌, ℕ, codes, IfSome, IfNone, IsTrue};
+ghost use Rattle.command_line.specs.Command.{as_words};
 ghost use Rattle.live_run.specs.LiveRuns.{IsLiveCommand};
 
 use command_line::parse_workers;
 
 /// How many readers the words ask for.
 pub(crate) fn parse_readers(arguments: &[&str]) -> Option<u32>
-    ensures found { IfSome result (IsLiveCommand (map (λ w. w.now) arguments.now)) }
-    ensures none { IfNone result ((readers : ℕ) → IsLiveCommand (map (λ w. w.now) arguments.now) readers → ⊥) }
+    ensures found { IfSome result (IsLiveCommand (as_words arguments.now)) }
+    ensures none { IfNone result ((readers : ℕ) → IsLiveCommand (as_words arguments.now) readers → ⊥) }
 {
     if arguments.len() == 2 && is_live(arguments[0]) {
         parse_workers(arguments[1])

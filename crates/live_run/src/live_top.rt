@@ -1,6 +1,6 @@
-ghost use Rattle.std.specs.Prelude.{◌≡◌, ℕ, map, IfSome, IfOk, IfErr};
+ghost use Rattle.std.specs.Prelude.{◌≡◌, ℕ, IfSome, IfOk, IfErr};
 ghost use Rattle.run_devices.specs.Devices.{Rose, reading, writing};
-ghost use Rattle.command_line.specs.Command.{AreWorkers};
+ghost use Rattle.command_line.specs.Command.{AreWorkers, as_words};
 ghost use Rattle.live_run.specs.LiveRuns.{IsLiveCommand, IsLiveEnd, Gives, IsLiveRun, IsAnswered, IsCompleteAnswer};
 ghost use Rattle.live_run.specs.inside.LiveWorking.{IsWorkedOut, IsStopped, IsWrittenOut};
 
@@ -26,13 +26,13 @@ pub fn run_live<R: Wait, S: Source, O: Sink, E: Sink>(
     err: &mut E,
 ) -> u8
     // The headline: status 0 means that the answers were written whole, each by the table published last before its question.
-    ensures answered { (readers : ℕ) → IsLiveCommand (map (λ w. w.now) arguments.now) readers → result ≡ 0 → IfSome (S.left source.old) (λ script. IsAnswered script (writing O.got O.faults O.capacity out.old out.new)) }
+    ensures answered { (readers : ℕ) → IsLiveCommand (as_words arguments.now) readers → result ≡ 0 → IfSome (S.left source.old) (λ script. IsAnswered script (writing O.got O.faults O.capacity out.old out.new)) }
 
     // Every status: what was read, written and reported, and which fault or refusal it tells.
-    ensures gives { IsLiveRun (map (λ w. w.now) arguments.now) result (reading S.left S.faults S.is_sound source.old source.new) (writing O.got O.faults O.capacity out.old out.new) (writing E.got E.faults E.capacity err.old err.new) }
+    ensures gives { IsLiveRun (as_words arguments.now) result (reading S.left S.faults S.is_sound source.old source.new) (writing O.got O.faults O.capacity out.old out.new) (writing E.got E.faults E.capacity err.old err.new) }
 
     // Where no device fails, only want of memory keeps a script from its answers, or from the refusal that it has.
-    ensures complete { (readers : ℕ) → IsLiveCommand (map (λ w. w.now) arguments.now) readers → (Rose (S.faults source.old) (S.faults source.new) → ⊥) → (Rose (O.faults out.old) (O.faults out.new) → ⊥) → IfSome (S.left source.old) (IsCompleteAnswer result) }
+    ensures complete { (readers : ℕ) → IsLiveCommand (as_words arguments.now) readers → (Rose (S.faults source.old) (S.faults source.new) → ⊥) → (Rose (O.faults out.old) (O.faults out.new) → ⊥) → IfSome (S.left source.old) (IsCompleteAnswer result) }
 {
     let outcome = outcome_of(rt, alloc, arguments, source, out);
     outcome.report(err);
@@ -47,7 +47,7 @@ fn outcome_of<R: Wait, S: Source, O: Sink>(
     source: &mut S,
     out: &mut O,
 ) -> Outcome
-    ensures { Gives (map (λ w. w.now) arguments.now) result (reading S.left S.faults S.is_sound source.old source.new) (writing O.got O.faults O.capacity out.old out.new) }
+    ensures { Gives (as_words arguments.now) result (reading S.left S.faults S.is_sound source.old source.new) (writing O.got O.faults O.capacity out.old out.new) }
 {
     match parse_readers(arguments) {
         Some(readers) => carry_out(rt, alloc, readers, source, out),

@@ -1,30 +1,21 @@
 -- The answers of a script are one text.
 use Rattle.std.proofs.Common.{◌≡◌, ℕ, List, [], ◌∷◌, ◌++◌, length, Option, Some, None, refl, sym, ap, ap₂, subst, ◌∙◌}
 use Rattle.std.specs.Prelude.{ℤ}
-use Rattle.game_core.specs.declared.game.Row.{Row}
-use Rattle.plant_record.specs.Description.{Description}
 use Rattle.controller_table.specs.Tables.{TableModel}
-use Rattle.controller_table.specs.Choice.{Chooses}
 use Rattle.live_script.specs.declared.command.ScriptCommand.{ScriptCommand}
 use Rattle.live_script.specs.declared.command.ScriptCommand.TheVariants.{Publish, Ask}
 use Rattle.live_script.specs.Questions.{IsAnswerOf}
 use Rattle.live_script.specs.LiveText.{answer_line, IsAnswerLine, AreAnswers}
 use Rattle.live_script.specs.Laws.{OneLiveText}
 use Rattle.live_script.proofs.ScriptLaws.{one_script}
-use Rattle.std.proofs.lemmas.Option.{same_Some}
 use Rattle.base.proofs.Lists.{same_last}
-use Rattle.controller_table.proofs.OneTable.{applied}
-
-one_input : (p : Description) (rows : List (Option Row)) (x : List ℤ) (u v : ℕ) → Chooses p rows x u → Chooses p rows x v → u ≡ v
-one_input p rows x u v h k =
-    let same = same_Some h.0 k.0 (sym h.1.is ∙ k.1.is) in
-    sym (applied p.goal h.0 u h.2) ∙ ap (λ (r : Row). r.input) same ∙ applied p.goal k.0 v k.2
+use Rattle.controller_table.proofs.OneTable.{one_choice_at}
 
 one_answer : (table : TableModel) (numbers : List ℤ) (a b : Option ℕ) → IsAnswerOf table numbers a → IsAnswerOf table numbers b → a ≡ b
 one_answer table numbers None None h k = refl
 one_answer table numbers None (Some v) h k = absurd (h.none v k.chosen.0 k.chosen.1)
 one_answer table numbers (Some u) None h k = absurd (k.none u h.chosen.0 h.chosen.1)
-one_answer table numbers (Some u) (Some v) h k = ap Some (one_input table.plant table.rows _ u v h.chosen.1 k.chosen.1)
+one_answer table numbers (Some u) (Some v) h k = ap Some (one_choice_at table.plant table.rows _ u v h.chosen.1 k.chosen.1)
 
 one_line : (tables : List TableModel) (numbers : List ℤ) (a b : List ℕ) → IsAnswerLine tables numbers a → IsAnswerLine tables numbers b → a ≡ b
 one_line tables numbers a b h k =

@@ -1,5 +1,5 @@
 -- Which scripts are refused, and why: for their length, or for what stands first after commands in their positions.
-use Rattle.std.specs.Prelude.{◌≡◌, ◌⊎◌, ℕ, suc, ◌+◌, ◌<◌, ◌≤◌, ℤ, List, [], ◌++◌, length}
+use Rattle.std.specs.Prelude.{◌≡◌, ◌≢◌, ◌⊎◌, ℕ, suc, ◌+◌, ◌<◌, ◌≤◌, ℤ, List, [], ◌++◌, length}
 use Rattle.controller_table.specs.declared.table_fault.TableFault.{TableFault}
 use Rattle.controller_table.specs.declared.table_fault.TableFault.TheVariants as tables
 use Rattle.read_texts.specs.Steps.{joined, IsRead}
@@ -47,6 +47,10 @@ IsRefusedAfter count number bytes (Limit what) = IsTableRefusedAfter count bytes
 IsRefusedAfter count number bytes ScriptTooLong = ⊥
 IsRefusedAfter count number bytes TooManyTables = IsNinthTable count bytes
 IsRefusedAfter count number bytes Memory = ⊥
+
+-- there was no memory, or the bytes are refused so after so many tables, where their first line has this number
+abbrev pub IsUnreadAfter : ℕ → ℕ → List ℕ → ScriptFault → Type 0
+IsUnreadAfter count number bytes fault = fault ≢ Memory → IsRefusedAfter count number bytes fault
 
 -- The script is refused for what stands after the first commands.
 pub record IsFirstRefusal (script : List ℕ) (fault : ScriptFault) : Type 0 where

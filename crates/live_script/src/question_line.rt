@@ -1,8 +1,5 @@
-ghost use Rattle.std.specs.Prelude.{◌≡◌, ℤ, ℕ, List, ◌∷◌, ◌++◌};
 ghost use Rattle.row_reading.specs.Found.{Finds};
-ghost use Rattle.command_line.specs.Command.{AreStateNumbers};
-ghost use Rattle.live_script.specs.Scripts.{ask_line};
-ghost use Rattle.live_script.specs.inside.QuestionWords.{IsNumberAt};
+ghost use Rattle.live_script.specs.inside.QuestionWords.{IsQuestionAt, IsSpacedNumberAt};
 
 use crate::ask_numbers::take_number;
 use base::limits::STATES_LIMIT;
@@ -14,7 +11,7 @@ const NUMBERS_LIMIT: u32 = STATES_LIMIT as u32;
 
 /// The question whose line stands at the front, and what stands after it.
 pub(crate) fn take_question(bytes: &[u8]) -> Option<(StateNumbers, &[u8])>
-    ensures { Finds (λ r. (r.0, r.1.now)) (λ (y : List ℤ × List ℕ). AreStateNumbers y.0 × (bytes.now ≡ ask_line y.0 ++ y.1)) result }
+    ensures { Finds (λ r. (r.0, r.1.now)) (IsQuestionAt bytes.now) result }
 {
     let mut rest = after_prefix(bytes, b"ask")?;
     let mut question = StateNumbers::empty();
@@ -31,7 +28,7 @@ pub(crate) fn take_question(bytes: &[u8]) -> Option<(StateNumbers, &[u8])>
 
 /// The number after a space at the front, and the bytes from the separator after it on.
 fn take_spaced_number(bytes: &[u8]) -> Option<(i64, &[u8])>
-    ensures { Finds (λ r. (r.0, r.1.now)) (λ (y : ℤ × List ℕ). (word : List ℕ) × (bytes.now ≡ 32 ∷ word) × IsNumberAt word y) result }
+    ensures { Finds (λ r. (r.0, r.1.now)) (IsSpacedNumberAt bytes.now) result }
 {
     let word = after_prefix(bytes, b" ")?;
     take_number(word)

@@ -1,13 +1,12 @@
-ghost use Rattle.std.specs.Prelude.{◌≡◌, ◌≢◌, ℕ, ℤ, [], ◌^◌, ◌+◌, ◌<◌, ◌≤◌, List, ◌++◌, length, IfOk, IfErr, IfSome, OnErr};
+ghost use Rattle.std.specs.Prelude.{◌≡◌, [], ◌^◌, ◌+◌, ◌<◌, ◌≤◌, ◌++◌, length, IfOk, IfErr, IfSome, OnErr};
 ghost use Rattle.std.specs.Option.{IfNone};
 ghost use Rattle.controller_table.specs.Tables.{IsTableIn};
 ghost use Rattle.row_reading.specs.Found.{Finds};
-ghost use Rattle.command_line.specs.Command.{AreStateNumbers};
-ghost use Rattle.live_script.specs.declared.script_fault.ScriptFault.TheVariants.{Memory};
-ghost use Rattle.live_script.specs.Scripts.{publish_line, ask_line, IsShortScript};
-ghost use Rattle.live_script.specs.ScriptRefusals.{IsRefusedAfter, IsScriptRefusedFor};
+ghost use Rattle.live_script.specs.Scripts.{publish_line, IsShortScript};
+ghost use Rattle.live_script.specs.ScriptRefusals.{IsUnreadAfter, IsScriptRefusedFor};
 ghost use Rattle.live_script.specs.ScriptReading.{IsTaken};
 ghost use Rattle.live_script.specs.inside.Faults.{of_table};
+ghost use Rattle.live_script.specs.inside.QuestionWords.{IsQuestionAfter};
 ghost use Rattle.base.specs.declared.limits.TheConstants.{SCRIPT_LIMIT, TABLES_LIMIT};
 
 use crate::command::ScriptCommand;
@@ -64,7 +63,7 @@ impl<'a> Script<'a> {
         ensures taken { IfOk result (λ next. IfSome next (λ command. IsTaken self.old command self.new)) }
         ensures ended { IfOk result (λ next. IfNone next ((self.old.rest ≡ []) × (0 < self.old.tables))) }
         ensures stays { IfOk result (λ next. IfNone next (self.new ≡ self.old)) }
-        ensures refused { IfErr result (λ fault. fault ≢ Memory → IsRefusedAfter self.old.tables self.old.line self.old.rest fault) }
+        ensures refused { IfErr result (IsUnreadAfter self.old.tables self.old.line self.old.rest) }
         ensures kept { OnErr result (self.new ≡ self.old) }
     {
         if self.rest.is_empty() && self.tables > 0 {
@@ -88,7 +87,7 @@ impl<'a> Script<'a> {
 
 /// The question whose line stands at the front after so many tables, and what stands after it.
 fn question_after(tables: u32, bytes: &[u8]) -> Option<(StateNumbers, &[u8])>
-    ensures { Finds (λ r. (r.0, r.1.now)) (λ (y : List ℤ × List ℕ). (0 < tables) × AreStateNumbers y.0 × (bytes.now ≡ ask_line y.0 ++ y.1)) result }
+    ensures { Finds (λ r. (r.0, r.1.now)) (IsQuestionAfter tables bytes.now) result }
 {
     if tables == 0 {
         return None;
@@ -110,7 +109,7 @@ fn take_table(
     ensures few { IfOk result (λ _. tables < TABLES_LIMIT) }
     ensures table { IfOk result (λ r. IsTableIn r.0.version r.1.now r.0.plant r.0.rows) }
     ensures cut { IfOk result (λ r. (length r.1.now ≡ size) × (bytes.now ≡ r.1.now ++ r.2.now)) }
-    ensures refused { IfErr result (λ fault. fault ≢ Memory → IsRefusedAfter tables line (publish_line size ++ bytes.now) fault) }
+    ensures refused { IfErr result (IsUnreadAfter tables line (publish_line size ++ bytes.now)) }
 {
     if tables >= TABLES_LIMIT {
         return Err(ScriptFault::TooManyTables);

@@ -1,6 +1,7 @@
 ghost use Rattle.std.specs.Prelude.{◌≡◌, ◌≤◌, ℕ, List, pos, MatchOption};
 ghost use Rattle.row_reading.specs.Found.{Finds};
 ghost use Rattle.live_script.specs.ScriptRefusals.{Announce};
+ghost use Rattle.live_script.specs.inside.QuestionWords.{IsTableSize};
 ghost use Rattle.base.specs.declared.limits.TheConstants.{TABLE_LIMIT};
 
 use crate::ask_numbers::take_number;
@@ -20,7 +21,7 @@ pub(crate) fn take_announced(bytes: &[u8]) -> Option<(usize, &[u8])>
 
 /// The size of a table's text that may be announced.
 fn size_of(number: i64) -> Option<usize>
-    ensures { MatchOption result ((n : ℕ) → 1 ≤ n → n ≤ TABLE_LIMIT → number ≡ pos n → ⊥) (λ n. (1 ≤ n) × (n ≤ TABLE_LIMIT) × (number ≡ pos n)) }
+    ensures { MatchOption result ((n : ℕ) → 1 ≤ n → n ≤ TABLE_LIMIT → number ≡ pos n → ⊥) (IsTableSize number) }
 {
     if 1 <= number && number <= TABLE_LIMIT as i64 {
         Some(number as usize)

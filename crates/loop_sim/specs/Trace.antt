@@ -1,5 +1,5 @@
 -- The trace of a plant in closed loop with the rows of a table.
-use Rattle.std.specs.Prelude.{ℕ, zero, suc, ◌==◌, ◌&&◌, Bool, true, false, ℤ, int_le, int_lt, List, [], ◌∷◌, Option, Some, None, if◌then◌else◌}
+use Rattle.std.specs.Prelude.{ℕ, zero, suc, ◌==◌, ◌&&◌, Bool, true, false, ℤ, int_le, int_lt, List, [], ◌∷◌, length, take, Option, Some, None, if◌then◌else◌}
 use Rattle.game_core.specs.declared.game.Row.{Row}
 use Rattle.game_core.specs.Solution.{row_of}
 use Rattle.grid_quantiser.specs.declared.axis.Axis.{Axis}
@@ -9,6 +9,8 @@ use Rattle.plant_record.specs.declared.aims.GoalKind.{GoalKind}
 use Rattle.plant_record.specs.declared.aims.GoalKind.TheVariants.{Reach, Keep}
 use Rattle.plant_record.specs.Description.{Description, axes_of}
 use Rattle.plant_record.specs.Steps.{step_of}
+use Rattle.controller_table.specs.Tables.{TableModel}
+use Rattle.controller_table.specs.Choice.{HasRowAt}
 use Rattle.loop_sim.specs.declared.sim_line.SimLine.{SimLine}
 use Rattle.loop_sim.specs.declared.sim_line.SimLine.TheVariants.{At, Arrived, Stopped, Lost}
 use Rattle.loop_sim.specs.Noise.{noises_at}
@@ -39,3 +41,15 @@ abbrev pub trace_lines : Description → List (Option Row) → ℕ → ℕ → �
 trace_lines p rows seed zero t x = sample_lines p.goal t x (row_at p rows x) (λ row. Stopped t ∷ [])
 trace_lines p rows seed (suc left) t x =
     sample_lines p.goal t x (row_at p rows x) (λ row. trace_lines p rows seed left (suc t) (point_of (step_of p x row.input (noises_at p seed t))))
+
+-- a table has a row at a state
+abbrev pub HasSomeRowAt : TableModel → List ℤ → Type 0
+HasSomeRowAt t x = (row : Row) × HasRowAt t.plant t.rows x row
+
+-- a state of a plant as a point, with 0 in the places past the states
+abbrev pub state_point : Description → List ℤ → List ℤ
+state_point p x = point_of (take (length p.states) x)
+
+-- the lines of the trace from a state's point, with at most n samples after the first
+abbrev pub trace_from : TableModel → ℕ → ℕ → List ℤ → List SimLine
+trace_from t seed n x = trace_lines t.plant t.rows seed n 0 (state_point t.plant x)

@@ -4,8 +4,8 @@ ghost use Rattle.std.specs.Prelude.{◌≡◌, ◌<◌, ◌∷◌, Some};
 ghost use Rattle.plant_record.specs.Limits.{IsWithinLimits};
 ghost use Rattle.successor_box.specs.Deviations.{HasNoOverflow};
 ghost use Rattle.controller_table.specs.Tables.{RowsFit};
-ghost use Rattle.loop_sim.specs.Trace.{row_at, has_arrived, trace_lines};
-ghost use Rattle.loop_sim.specs.inside.Stages.{IsSample, IsStage, lines_left, lines_after, lines_on};
+ghost use Rattle.loop_sim.specs.Trace.{row_at, has_arrived};
+ghost use Rattle.loop_sim.specs.inside.Stages.{IsSample, IsStage, lines_from, lines_left, lines_past, lines_after};
 
 use crate::noise_generator::draw;
 use crate::sim_line::SimLine;
@@ -52,7 +52,7 @@ pub(crate) fn first_line(t: &Table, equations: &Equations<'_>, sample: &Sample) 
     requires fits { ∥ HasNoOverflow t.now.plant ∥₁ }
     requires equations { equations.now ≡ t.now.plant }
     requires sample { IsSample t.now.plant sample.now }
-    ensures lines { trace_lines t.now.plant t.now.rows sample.now.seed sample.now.left sample.now.time sample.now.x ≡ result.0 ∷ lines_left t.now result.1 }
+    ensures lines { lines_from t.now sample.now ≡ result.0 ∷ lines_left t.now result.1 }
     ensures stage { IsStage t.now.plant result.1 }
 {
     let Sample { time, x, .. } = *sample;
@@ -106,7 +106,7 @@ fn next_sample(t: &Table, equations: &Equations<'_>, sample: &Sample, row: Row) 
     requires row { row_at t.now.plant t.now.rows sample.now.x ≡ Some row }
     requires left { 0 < sample.now.left }
     ensures sample { IsSample t.now.plant result }
-    ensures lines { trace_lines t.now.plant t.now.rows result.seed result.left result.time result.x ≡ lines_on t.now sample.now.seed sample.now.left sample.now.time sample.now.x row }
+    ensures lines { lines_from t.now result ≡ lines_past t.now sample.now row }
 {
     let p = t.plant();
     let (noises, state) = draw(p, sample.state);

@@ -1,9 +1,6 @@
-ghost use Rattle.std.specs.Prelude.{◌≡◌, ◌≤◌, ◌∷◌, [], length, take, IfSome, IfNone, SomeIff};
-ghost use Rattle.game_core.specs.declared.game.Row.{Row};
-ghost use Rattle.grid_quantiser.specs.Cells.{point_of};
-ghost use Rattle.controller_table.specs.Choice.{HasRowAt};
+ghost use Rattle.std.specs.Prelude.{◌≡◌, ◌≤◌, ◌∷◌, [], IfSome, IfNone, SomeIff};
 ghost use Rattle.successor_box.specs.Deviations.{HasNoOverflow, deviations_of};
-ghost use Rattle.loop_sim.specs.Trace.{trace_lines};
+ghost use Rattle.loop_sim.specs.Trace.{HasSomeRowAt, state_point, trace_from};
 ghost use Rattle.base.specs.declared.limits.TheConstants.{SAMPLES_LIMIT};
 
 use crate::closed_loop::{Sample, Stage, first_line, row_at};
@@ -45,7 +42,7 @@ impl<'a> Sim<'a> {
         requires slopes { s.now ≡ deviations_of t.now.plant }
         requires fits { HasNoOverflow t.now.plant }
         requires steps { steps ≤ SAMPLES_LIMIT }
-        ensures { SomeIff result ((row : Row) × HasRowAt t.now.plant t.now.rows x.now row) (trace_lines t.now.plant t.now.rows seed steps 0 (point_of (take (length t.now.plant.states) x.now))) }
+        ensures { SomeIff result (HasSomeRowAt t.now x.now) (trace_from t.now seed steps x.now) }
     {
         every_table_fits(t);
         row_at(t, x)?;
@@ -80,7 +77,7 @@ impl<'a> Sim<'a> {
 
 /// A state as a point, with 0 in the places past the states.
 fn start_of(t: &Table, x: &Point) -> Point
-    ensures { result ≡ point_of (take (length t.now.plant.states) x.now) }
+    ensures { result ≡ state_point t.now.plant x.now }
 {
     let mut at = [0; 6];
     for i in 0..t.plant().grid().states() as usize {

@@ -1,7 +1,6 @@
 ghost use Rattle.std.specs.Prelude.{◌≡◌, ◌≤◌, SomeIff};
-ghost use Rattle.game_core.specs.declared.game.Row.{Row};
-ghost use Rattle.controller_table.specs.Choice.{HasRowAt};
 ghost use Rattle.successor_box.specs.Deviations.{HasNoOverflow, deviations_of};
+ghost use Rattle.loop_sim.specs.Trace.{HasSomeRowAt};
 ghost use Rattle.loop_sim.specs.TraceText.{trace_text};
 ghost use Rattle.base.specs.declared.limits.TheConstants.{SAMPLES_LIMIT};
 
@@ -46,7 +45,7 @@ impl<'a> TraceWriter<'a> {
         requires slopes { s.now ≡ deviations_of t.now.plant }
         requires fits { HasNoOverflow t.now.plant }
         requires steps { steps ≤ SAMPLES_LIMIT }
-        ensures { SomeIff result ((row : Row) × HasRowAt t.now.plant t.now.rows x.now row) (trace_text t.now.plant t.now.rows x.now seed steps) }
+        ensures { SomeIff result (HasSomeRowAt t.now x.now) (trace_text t.now.plant t.now.rows x.now seed steps) }
     {
         let sim = Sim::new(t, s, x, seed, steps)?;
         let mut line = LineText::empty();

@@ -15,6 +15,10 @@ use Rattle.game_core.specs.Solution.{row_of}
 use Rattle.packed_rows.specs.RowWords.{cell_in, row_in, words_up_to, row_told, decoded_rows, AreWords}
 use Rattle.packed_rows.specs.inside.WordPositions.{IsLastUpTo, IsNarrowed}
 
+-- a cell comes later
+later : (a b : ℕ) → b < a → leb a b ≡ false
+later a b h = elim (leb_tells a b) [ inl le ↦ absurd (omega (arith, le.1, h)) | inr gt ↦ gt.0 ]
+
 -- the position up to which a test holds is the number of elements that pass it
 pub count_point : (p : ℕ → Bool) (xs : List ℕ) (i : ℕ) → i ≤ length xs → AllWithin (λ x. p x ≡ true) xs 0 i → AllWithin (λ x. p x ≡ false) xs i (length xs) → count_by p xs ≡ i
 count_point p [] i le passes fails = omega (arith, le)
@@ -86,9 +90,6 @@ module _ (words : List ℕ) (w c : ℕ) (at : cell_in w ≡ c) (below : All (λ 
       ap (λ (n : ℕ). row_in (get_or pushed (n - 1) 0)) count
       ∙ ap row_in (get_or_append_left words (w ∷ []) 0 (words_up_to words k - 1) (omega (arith, fits, some)))
     where
-      later : (a b : ℕ) → b < a → leb a b ≡ false
-      later a b h = elim (leb_tells a b) [ inl le ↦ absurd (omega (arith, le.1, h)) | inr gt ↦ gt.0 ]
-
       counted : (k : ℕ) → leb (cell_in w) k ≡ false → words_up_to pushed k ≡ words_up_to words k
       counted k out = sum_by_push (λ word. cond (leb (cell_in word) k) 1 0) words w ∙ rw out (omega arith)
 
@@ -171,10 +172,7 @@ module _ (words : List ℕ) (c : ℕ) (rising : IsNonDecreasingBy cell_in words)
   found_at position h =
       searched words c (position + 1) (omega (arith, h.within))
       (λ k d low high. le-leb _ _ (let order = rising k position d (omega (arith, high)) h.within in let e = ap cell_in (same_at position d h.within) in let le = h.before in omega (arith, order, e, le)))
-      (λ k d low high. above _ _ (let e = ap cell_in (same_at k d high) in let gt = h.after k (omega (arith, low)) high in omega (arith, e, gt)))
-    where
-      above : (a b : ℕ) → b < a → leb a b ≡ false
-      above a b h = elim (leb_tells a b) [ inl le ↦ absurd (omega (arith, le.1, h)) | inr gt ↦ gt.0 ]
+      (λ k d low high. later _ _ (let e = ap cell_in (same_at k d high) in let gt = h.after k (omega (arith, low)) high in omega (arith, e, gt)))
 
 -- among all words
 pub all_words : (words : List ℕ) (cells c : ℕ) → AreWords words cells → 0 < length words → IsNarrowed words c 0 (length words)

@@ -1,8 +1,15 @@
 -- What a line states, as it is read.
-use Rattle.fixed_expr.specs.Expression.{expression_of}
+use Rattle.std.specs.Prelude.{ℕ, List, length}
+use Rattle.std.specs.List.{flat_map}
+use Rattle.fixed_expr.specs.Expression.{Expression, expression_of}
+use Rattle.plant_record.specs.declared.variables.Variables.{Variables}
+use Rattle.plant_record.specs.Parts.{variable_names}
+use Rattle.plant_reading.specs.Words.{words_of}
+use Rattle.plant_reading.specs.Tokens.{tokens_of}
+use Rattle.plant_reading.specs.SyntaxTrees.{AreTokensOf}
 use Rattle.plant_reading.specs.declared.statements.Statement.{Statement as Read}
 use Rattle.plant_reading.specs.declared.statements.Statement.TheVariants as read
-use Rattle.plant_reading.specs.Statements.{Statement, Version, State, Input, Noise, Next, Target, Obstacle, Goal, End}
+use Rattle.plant_reading.specs.Statements.{Statement, Version, State, Input, Noise, Next, Target, Obstacle, Goal, End, States}
 
 -- the statement without where its parts lie in memory
 abbrev pub statement_of : Read → Statement
@@ -15,3 +22,11 @@ statement_of (read.Target b) = Target b
 statement_of (read.Obstacle b) = Obstacle b
 statement_of (read.Goal kind) = Goal kind
 statement_of read.End = End
+
+-- the words of a line state it over these variables
+abbrev pub StatesOver : Variables → List (List ℕ) → Statement → Type 0
+StatesOver variables words = States (variable_names variables) (length variables.states.items) words
+
+-- the tokens of some bytes are those of an expression over these variables
+abbrev pub SpellsOver : Variables → List ℕ → Expression → Type 0
+SpellsOver variables bytes e = AreTokensOf (variable_names variables) (flat_map tokens_of (words_of bytes)) e

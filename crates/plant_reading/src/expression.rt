@@ -1,16 +1,14 @@
 //! Expressions by recursive descent: a sum is terms, a term is factors, and a factor is a leaf or has brackets.
 //! Numbers and variables are tested here too, so that nothing is asked of the tokens.
 
-ghost use Rattle.std.specs.Prelude.{◌≡◌, ◌≢◌, ◌≤◌, ◌-◌, length, flat_map, IfOk, Err};
+ghost use Rattle.std.specs.Prelude.{◌≡◌, ◌≢◌, ◌≤◌, ◌-◌, length, IfOk, Err};
 ghost use Rattle.std.specs.List.{All, AllPairs};
 ghost use Rattle.fixed_expr.specs.Expression.{Expression, expression_of};
 ghost use Rattle.plant_record.specs.Names.{IsName};
 ghost use Rattle.plant_record.specs.Parts.{variable_names};
-ghost use Rattle.plant_reading.specs.Words.{words_of};
-ghost use Rattle.plant_reading.specs.Tokens.{tokens_of};
-ghost use Rattle.plant_reading.specs.SyntaxTrees.{AreTokensOf};
-ghost use Rattle.plant_reading.specs.inside.ExpressionReading.{Gives, Inside, Signed, RestOfSum, RestOfTerm, after_open, after_close, after_comma, bracketed, pair_of, factor_of, after_term, term_of, after_sum, sum_of, read_at, whole};
+ghost use Rattle.plant_reading.specs.inside.ExpressionReading.{Gives, Inside, Signed, RestOfSum, RestOfTerm, after_open, after_close, after_comma, bracketed, pair_of, factor_of, after_term, term_of, after_sum, sum_of, whole, GivesExpression, GivesPair, reader_in, read_in};
 ghost use Rattle.base.specs.declared.limits.TheConstants.{VARIABLES_LIMIT};
+ghost use Rattle.plant_reading.specs.StatementsRead.{SpellsOver};
 
 use crate::line_fault::LineFault;
 use crate::operand::Operand;
@@ -94,7 +92,7 @@ fn take_sum(
     budget: Budget,
     tokens: &[TokenKind],
 ) -> Result<(Operand, &[TokenKind]), LineFault>
-    ensures { Gives (λ x. (expression_of x.0, x.1.now)) result (sum_of budget.variables (read_at budget.variables budget.calls) budget.brackets tokens.now) }
+    ensures { GivesExpression result (read_in budget sum_of tokens.now) }
 {
     let (term, rest) = take_term(alloc, budget, tokens)?;
     after_sum(alloc, budget, term, rest)
@@ -109,7 +107,7 @@ fn after_sum(
     sum: Operand,
     tokens: &[TokenKind],
 ) -> Result<(Operand, &[TokenKind]), LineFault>
-    ensures { Gives (λ x. (expression_of x.0, x.1.now)) result (after_sum budget.variables (read_at budget.variables budget.calls) budget.brackets (expression_of sum) tokens.now) }
+    ensures { GivesExpression result (read_in budget after_sum (expression_of sum) tokens.now) }
 {
     match tokens {
         [TokenKind::Plus, rest @ ..] => {
@@ -133,7 +131,7 @@ fn rest_of_sum(
     sum: Operand,
     tokens: &[TokenKind],
 ) -> Result<(Operand, &[TokenKind]), LineFault>
-    ensures { Gives (λ x. (expression_of x.0, x.1.now)) result (read_at budget.variables budget.calls (RestOfSum budget.brackets (expression_of sum) tokens.now)) }
+    ensures { GivesExpression result (reader_in budget (RestOfSum budget.brackets (expression_of sum) tokens.now)) }
 {
     if budget.calls == 0 {
         return Err(LineFault::Malformed);
@@ -149,7 +147,7 @@ fn take_term(
     budget: Budget,
     tokens: &[TokenKind],
 ) -> Result<(Operand, &[TokenKind]), LineFault>
-    ensures { Gives (λ x. (expression_of x.0, x.1.now)) result (term_of budget.variables (read_at budget.variables budget.calls) budget.brackets tokens.now) }
+    ensures { GivesExpression result (read_in budget term_of tokens.now) }
 {
     let (factor, rest) = take_factor(alloc, budget, tokens)?;
     after_term(alloc, budget, factor, rest)
@@ -164,7 +162,7 @@ fn after_term(
     term: Operand,
     tokens: &[TokenKind],
 ) -> Result<(Operand, &[TokenKind]), LineFault>
-    ensures { Gives (λ x. (expression_of x.0, x.1.now)) result (after_term budget.variables (read_at budget.variables budget.calls) budget.brackets (expression_of term) tokens.now) }
+    ensures { GivesExpression result (read_in budget after_term (expression_of term) tokens.now) }
 {
     match tokens {
         [TokenKind::Star, rest @ ..] => {
@@ -188,7 +186,7 @@ fn rest_of_term(
     term: Operand,
     tokens: &[TokenKind],
 ) -> Result<(Operand, &[TokenKind]), LineFault>
-    ensures { Gives (λ x. (expression_of x.0, x.1.now)) result (read_at budget.variables budget.calls (RestOfTerm budget.brackets (expression_of term) tokens.now)) }
+    ensures { GivesExpression result (reader_in budget (RestOfTerm budget.brackets (expression_of term) tokens.now)) }
 {
     if budget.calls == 0 {
         return Err(LineFault::Malformed);
@@ -204,7 +202,7 @@ fn take_factor(
     budget: Budget,
     tokens: &[TokenKind],
 ) -> Result<(Operand, &[TokenKind]), LineFault>
-    ensures { Gives (λ x. (expression_of x.0, x.1.now)) result (factor_of budget.variables (read_at budget.variables budget.calls) budget.brackets tokens.now) }
+    ensures { GivesExpression result (read_in budget factor_of tokens.now) }
 {
     match tokens {
         [TokenKind::Number(_), ..] => {
@@ -249,7 +247,7 @@ fn signed(
     budget: Budget,
     tokens: &[TokenKind],
 ) -> Result<(Operand, &[TokenKind]), LineFault>
-    ensures { Gives (λ x. (expression_of x.0, x.1.now)) result (read_at budget.variables budget.calls (Signed budget.brackets tokens.now)) }
+    ensures { GivesExpression result (reader_in budget (Signed budget.brackets tokens.now)) }
 {
     if budget.calls == 0 {
         return Err(LineFault::Malformed);
@@ -265,7 +263,7 @@ fn inside(
     budget: Budget,
     tokens: &[TokenKind],
 ) -> Result<(Operand, &[TokenKind]), LineFault>
-    ensures { Gives (λ x. (expression_of x.0, x.1.now)) result (read_at budget.variables budget.calls (Inside budget.brackets tokens.now)) }
+    ensures { GivesExpression result (reader_in budget (Inside budget.brackets tokens.now)) }
 {
     if budget.calls == 0 {
         return Err(LineFault::Malformed);
@@ -284,7 +282,7 @@ fn bracketed(
     budget: Budget,
     tokens: &[TokenKind],
 ) -> Result<(Operand, &[TokenKind]), LineFault>
-    ensures { Gives (λ x. (expression_of x.0, x.1.now)) result (bracketed (read_at budget.variables budget.calls) budget.brackets tokens.now) }
+    ensures { GivesExpression result (bracketed (reader_in budget) budget.brackets tokens.now) }
 {
     let (sum, rest) = inside(alloc, budget, tokens)?;
     Ok((sum, after_close(rest)?))
@@ -298,7 +296,7 @@ fn take_pair(
     budget: Budget,
     tokens: &[TokenKind],
 ) -> Result<(Operand, Operand, &[TokenKind]), LineFault>
-    ensures { Gives (λ x. (expression_of x.0, expression_of x.1, x.2.now)) result (pair_of (read_at budget.variables budget.calls) budget.brackets tokens.now) }
+    ensures { GivesPair result (pair_of (reader_in budget) budget.brackets tokens.now) }
 {
     let (a, rest) = inside(alloc, budget, after_open(tokens)?)?;
     let (b, rest) = bracketed(alloc, budget, after_comma(rest)?)?;
@@ -339,8 +337,8 @@ pub fn parse_expression(
     requires few { length (variable_names variables.now) ≤ VARIABLES_LIMIT }
     requires differ { AllPairs (λ a b. a ≢ b) (variable_names variables.now) }
     requires names { All IsName (variable_names variables.now) }
-    ensures found { IfOk result (λ e. AreTokensOf (variable_names variables.now) (flat_map tokens_of (words_of rest.now)) (expression_of e)) }
-    ensures refused { result ≡ Err LineFault.Malformed → (e : Expression) → AreTokensOf (variable_names variables.now) (flat_map tokens_of (words_of rest.now)) e → ⊥ }
+    ensures found { IfOk result (λ e. SpellsOver variables.now rest.now (expression_of e)) }
+    ensures refused { result ≡ Err LineFault.Malformed → (e : Expression) → SpellsOver variables.now rest.now e → ⊥ }
 {
     let kinds = parse_kinds(alloc, variables, rest)?;
     whole_sum(alloc, count_of(variables), &kinds)

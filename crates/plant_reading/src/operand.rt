@@ -1,9 +1,9 @@
 //! Expressions that are being read, with how large they are.
 
-ghost use Rattle.std.specs.Prelude.{◌≡◌, ◌≤◌, suc, pos, ◌+◌, max, IfOk};
+ghost use Rattle.std.specs.Prelude.{◌≡◌, pos, IfOk};
 ghost use Rattle.fixed_expr.specs.Expression.{expression_of, NumExpr, VarExpr, NegExpr, AddExpr, SubExpr, MulExpr, DivExpr, MinExpr, MaxExpr, AbsExpr, LutExpr};
 ghost use Rattle.plant_record.specs.Equations.{nodes_of, depth_of};
-ghost use Rattle.plant_reading.specs.inside.ExpressionReading.{Gives, kept};
+ghost use Rattle.plant_reading.specs.inside.ExpressionReading.{Gives, kept, nodes_and_depth};
 
 use crate::line_fault::LineFault;
 use base::limits::{DEPTH_LIMIT, NODES_LIMIT};
@@ -82,7 +82,7 @@ impl Operand {
 
     /// How many nodes there are in this, another and one more, and how many are one below another.
     fn with(&self, other: &Operand) -> (u32, u32)
-        ensures { result ≡ (suc (nodes_of (expression_of self.now) + nodes_of (expression_of other.now)), suc (max (depth_of (expression_of self.now)) (depth_of (expression_of other.now)))) }
+        ensures { result ≡ nodes_and_depth (expression_of self.now) (expression_of other.now) }
     {
         let deeper = if self.depth < other.depth {
             other.depth

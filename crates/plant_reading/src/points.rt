@@ -1,9 +1,9 @@
 //! Numbers and the points of a table.
 
-ghost use Rattle.std.specs.Prelude.{◌≡◌, ◌≤◌, ◌<◌, ◌-◌, ◌&&◌, nat_le, nat_abs, if◌then◌else◌, length, [], Some, None, IfOk};
+ghost use Rattle.std.specs.Prelude.{◌≡◌, ◌≤◌, ◌<◌, ◌-◌, nat_abs, length, IfOk};
 ghost use Rattle.std.specs.List.{All};
 ghost use Rattle.fixed_expr.specs.Curves.{IsShort};
-ghost use Rattle.plant_reading.specs.inside.ExpressionReading.{Gives, after_colon, literal_at, divisor_at, signed_at, point_at, points_at, rises, curve_at};
+ghost use Rattle.plant_reading.specs.inside.ExpressionReading.{Gives, after_colon, literal_at, divisor_at, signed_at, point_at, points_at, rises, curve_at, curve_through};
 ghost use Rattle.base.specs.declared.limits.TheConstants.{NUMBER_LIMIT, POINTS_LIMIT};
 
 use crate::line_fault::LineFault;
@@ -113,7 +113,7 @@ fn rises(points: &[(i128, i128)]) -> bool
 fn curve_through(alloc: Global, points: &[(i128, i128)]) -> Result<Curve, LineFault>
     requires few { length points.now ≤ POINTS_LIMIT }
     requires short { All IsShort points.now }
-    ensures { Gives (λ curve. curve) result (if nat_le 2 (length points.now) && rises points.now then Some points.now else None) }
+    ensures { Gives (λ curve. curve) result (curve_through points.now) }
 {
     if points.len() < 2 || !rises(points) {
         return Err(LineFault::Malformed);

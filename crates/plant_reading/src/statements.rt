@@ -5,9 +5,10 @@ ghost use Rattle.std.specs.List.{All};
 ghost use Rattle.plant_record.specs.Names.{IsName};
 ghost use Rattle.plant_reading.specs.inside.WordReaders.{Finds};
 ghost use Rattle.plant_record.specs.Parts.{variable_names};
-ghost use Rattle.plant_reading.specs.StatementsRead.{statement_of};
+ghost use Rattle.plant_reading.specs.StatementsRead.{statement_of, StatesOver};
 ghost use Rattle.plant_reading.specs.inside.Keywords.{keyword_text};
-ghost use Rattle.plant_reading.specs.Statements.{Statement as Stated, States};
+ghost use Rattle.plant_reading.specs.declared.line_fault.LineFault.TheVariants.{Malformed};
+ghost use Rattle.plant_reading.specs.Statements.{Statement as Stated};
 ghost use Rattle.plant_reading.specs.Words.{words_of};
 ghost use Rattle.base.specs.declared.limits.TheConstants.{STATES_LIMIT, VARIABLES_LIMIT};
 
@@ -102,8 +103,8 @@ pub fn parse_statement<'a>(
     requires differ { AllPairs (λ a b. a ≢ b) (variable_names variables.now) }
     requires named { All IsName (variable_names variables.now) }
     requires states { length variables.now.states.items ≤ STATES_LIMIT }
-    ensures found { IfOk result (λ s. States (variable_names variables.now) (length variables.now.states.items) (words_of line.now) (statement_of s)) }
-    ensures refused { result ≡ Err LineFault.Malformed → (s : Stated) → States (variable_names variables.now) (length variables.now.states.items) (words_of line.now) s → ⊥ }
+    ensures found { IfOk result (λ s. StatesOver variables.now (words_of line.now) (statement_of s)) }
+    ensures refused { result ≡ Err Malformed → (s : Stated) → StatesOver variables.now (words_of line.now) s → ⊥ }
 {
     let Some((word, rest)) = next_word(line) else {
         return Err(LineFault::Malformed);
@@ -123,7 +124,7 @@ fn statement_after<'a>(
     requires differ { AllPairs (λ a b. a ≢ b) (variable_names variables.now) }
     requires named { All IsName (variable_names variables.now) }
     requires states { length variables.now.states.items ≤ STATES_LIMIT }
-    ensures { Finds statement_of (States (variable_names variables.now) (length variables.now.states.items) (keyword_text keyword ∷ words_of bytes.now)) result }
+    ensures { Finds statement_of (StatesOver variables.now (keyword_text keyword ∷ words_of bytes.now)) result }
 {
     match keyword {
         Keyword::Plant => Ok(Statement::Version(parse_version(bytes)?)),
@@ -150,7 +151,7 @@ fn equation_after<'a>(
     requires few { length (variable_names variables.now) ≤ VARIABLES_LIMIT }
     requires differ { AllPairs (λ a b. a ≢ b) (variable_names variables.now) }
     requires named { All IsName (variable_names variables.now) }
-    ensures { Finds statement_of (States (variable_names variables.now) (length variables.now.states.items) (codes "next" ∷ words_of bytes.now)) result }
+    ensures { Finds statement_of (StatesOver variables.now (codes "next" ∷ words_of bytes.now)) result }
 {
     let Some((state, rest)) = next_word(bytes) else {
         return Err(LineFault::Malformed);

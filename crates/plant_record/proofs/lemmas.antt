@@ -8,4 +8,5 @@ pub mod NextPoints
 pub mod Numbers
 pub mod OrderedBoxes
 pub mod SoundPlants
+pub mod Spelling
 pub mod VariableValues

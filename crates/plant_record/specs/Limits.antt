@@ -7,12 +7,15 @@ use Rattle.plant_record.specs.declared.limit_kind.LimitKind.{LimitKind}
 use Rattle.plant_record.specs.Plants.{IsPlant}
 use Rattle.base.specs.declared.limits.TheConstants.{CELLS_LIMIT, PAIRS_LIMIT, VECTORS_LIMIT}
 
+-- the input vectors of a plant are within their limit
 abbrev pub HasFewVectors : Description → Type 0
 HasFewVectors p = vectors_of p.inputs ≤ VECTORS_LIMIT
 
+-- the cells of a plant are within their limit
 abbrev pub HasFewCells : Description → Type 0
 HasFewCells p = cells_of (axes_of p) ≤ CELLS_LIMIT
 
+-- the pairs of a plant are within their limit
 abbrev pub HasFewPairs : Description → Type 0
 HasFewPairs p = cells_of (axes_of p) * vectors_of p.inputs ≤ PAIRS_LIMIT
 

@@ -1,10 +1,11 @@
 -- The step of a plant from one sample to the next.
-use Rattle.std.specs.Prelude.{ℕ, ℤ, pos, ◌≤ℤ◌, List, [], ◌∷◌, ◌++◌, length, map, take, slice_index_or}
+use Rattle.std.specs.Prelude.{ℕ, ℤ, pos, ◌≤ℤ◌, List, [], ◌∷◌, ◌++◌, length, map, take, slice_index_or, Option, SomeIff}
 use Rattle.std.specs.List.{All}
 use Rattle.fixed_expr.specs.Expression.{Expression, NumExpr}
 use Rattle.fixed_expr.specs.Value.{value_of, StaysInRange}
 use Rattle.plant_record.specs.declared.variables.NoiseVariable.{NoiseVariable}
 use Rattle.plant_record.specs.Description.{Description, vector_of}
+use Rattle.grid_quantiser.specs.Cells.{point_of}
 
 -- the values of the variables at a state, under an input and a noise
 abbrev pub values_at : Description → List ℤ → ℕ → List ℤ → List ℤ
@@ -21,6 +22,10 @@ step_of p x u w = map (λ e. value_of e (values_at p x u w)) p.equations
 -- no node of an equation leaves the range
 abbrev pub StepStaysInRange : Description → List ℤ → ℕ → List ℤ → Type 0
 StepStaysInRange p x u w = All (λ e. StaysInRange e (values_at p x u w)) p.equations
+
+-- an answer is given exactly where no node of an equation leaves the range, and then it is the next state
+abbrev pub AnswersStep : Option (List ℤ) → Description → List ℤ → ℕ → List ℤ → Type 0
+AnswersStep answer p x u w = SomeIff answer (StepStaysInRange p x u w) (point_of (step_of p x u w))
 
 -- each noise lies between its ends
 abbrev pub IsNoise : List NoiseVariable → List ℤ → Type 0

@@ -1,10 +1,10 @@
-ghost use Rattle.std.specs.Prelude.{◌≡◌, ◌<◌, ◌≤◌, length, map, SomeIff};
+ghost use Rattle.std.specs.Prelude.{◌≡◌, ◌<◌, ◌≤◌, length};
 ghost use Rattle.std.specs.List.{All};
-ghost use Rattle.fixed_expr.specs.Value.{IsWellFormed, StaysInRange, value_of};
-ghost use Rattle.grid_quantiser.specs.Cells.{point_of};
+ghost use Rattle.fixed_expr.specs.Value.{IsWellFormed};
 ghost use Rattle.plant_record.specs.Description.{vectors_of};
-ghost use Rattle.plant_record.specs.Steps.{step_of, StepStaysInRange};
+ghost use Rattle.plant_record.specs.Steps.{AnswersStep};
 ghost use Rattle.base.specs.declared.limits.TheConstants.{STATES_LIMIT};
+ghost use Rattle.plant_record.specs.inside.EquationValues.{EvaluatesEach};
 
 use crate::plant::Plant;
 use crate::transition::values_at;
@@ -56,7 +56,7 @@ impl<'a> Equations<'a> {
     /// The state one sample later, as `step` gives it. It takes no memory.
     pub fn step(&self, x: &Point, input: u32, noise: &Point) -> Option<Point>
         requires { input < vectors_of self.now.inputs }
-        ensures { SomeIff result (StepStaysInRange self.now x.now input noise.now) (point_of (step_of self.now x.now input noise.now)) }
+        ensures { AnswersStep result self.now x.now input noise.now }
     {
         let p = self.plant;
         let values = values_at(p, x, input, noise);
@@ -90,7 +90,7 @@ fn next_point(
     requires count { count ≡ length equations.now }
     requires few { length equations.now ≤ STATES_LIMIT }
     requires formed { All (λ e. IsWellFormed e (length values.now)) equations.now }
-    ensures { SomeIff result (All (λ e. StaysInRange e values.now) equations.now) (point_of (map (λ e. value_of e values.now) equations.now)) }
+    ensures { EvaluatesEach (λ e. e) result equations.now values.now }
 {
     let mut next = [0; STATES_LIMIT];
     for i in 0..count {

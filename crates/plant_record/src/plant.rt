@@ -14,12 +14,11 @@ ghost use Rattle.plant_record.specs.Parts.{description_of};
 ghost use Rattle.plant_record.specs.Versions.{version_number};
 ghost use Rattle.base.specs.declared.limits.TheConstants.{VARIABLES_LIMIT};
 
-use crate::aims::{GoalKind, StateBox};
+use crate::aims::GoalKind;
 use crate::cell_marks::{lies_in_one, touches_one};
 use crate::limit_kind::LimitKind;
 use crate::plant_parts::{PlantParts, grid_of, vectors_of};
-use crate::variable_names::Names;
-use crate::variables::{InputVariable, Name, NoiseVariable, StateVariable, Variables};
+use crate::variables::Name;
 use crate::version::PlantVersion;
 use base::limits::{PAIRS_LIMIT, VECTORS_LIMIT};
 use fixed_expr::Expr;
@@ -29,14 +28,7 @@ use std::marker::Model;
 /// A plant within the limits, seen as its description.
 #[derive(Drop)]
 pub struct Plant {
-    version: PlantVersion,
-    states: Vec<StateVariable>,
-    inputs: Vec<InputVariable>,
-    noises: Vec<NoiseVariable>,
-    equations: Vec<Expr>,
-    targets: Vec<StateBox>,
-    obstacles: Vec<StateBox>,
-    goal: GoalKind,
+    parts: PlantParts,
     grid: Grid,
 }
 
@@ -44,16 +36,16 @@ impl Model for Plant {
     ghost use Rattle.std.specs.Coded.{codes};
     ghost use Rattle.fixed_expr.specs.inside.Postfix.{expression_code};
     ghost use Rattle.plant_record.specs.Description.{Description};
-    ghost use Rattle.plant_record.specs.Parts.{description_from};
+    ghost use Rattle.plant_record.specs.Parts.{description_of};
     ghost use Rattle.plant_record.specs.inside.PlantsInMemory.{IsPlantWithGrid};
 
     ghost Value = { Description };
 
     ghost coded = { Prim.hlevel (codes, expression_code) };
 
-    ghost view = { λ p. description_from p.version p.states.items p.inputs.items p.noises.items p.equations.items p.targets.items p.obstacles.items p.goal };
+    ghost view = { λ p. description_of p.parts };
 
-    ghost invariant = { λ p. IsPlantWithGrid (description_from p.version p.states.items p.inputs.items p.noises.items p.equations.items p.targets.items p.obstacles.items p.goal) p.grid };
+    ghost invariant = { λ p. IsPlantWithGrid (description_of p.parts) p.grid };
 }
 
 impl Plant {
@@ -74,65 +66,50 @@ impl Plant {
         if u64::from(grid.cells()) * u64::from(vectors) > PAIRS_LIMIT {
             return Err(LimitKind::Pairs);
         }
-        let PlantParts {
-            version,
-            variables,
-            equations,
-            targets,
-            obstacles,
-            goal,
-        } = parts;
-        let Variables {
-            states,
-            inputs,
-            noises,
-        } = variables;
-        Ok(Plant {
-            version,
-            states,
-            inputs,
-            noises,
-            equations,
-            targets,
-            obstacles,
-            goal,
-            grid,
-        })
+        Ok(Plant { parts, grid })
+    }
+
+    /// What the plant is made of, as a text says it.
+    pub fn parts(&self) -> &PlantParts
+        ensures parts { description_of result.now ≡ self.now }
+        ensures limits { IsWithinLimits self.now }
+    {
+        &self.parts
     }
 
     /// The number of the version, 1 or 2.
     pub fn version(&self) -> u32
         ensures { result ≡ version_number self.now.version }
     {
-        self.version.number()
+        self.parts.version.number()
     }
 
     /// By which rules the text of the plant is read, and its boxes are made.
     pub fn plant_version(&self) -> PlantVersion
         ensures { result ≡ self.now.version }
     {
-        self.version
+        self.parts.version
     }
 
     /// How many states there are.
     pub fn states(&self) -> u32
         ensures { result ≡ length self.now.states }
     {
-        self.states.len() as u32
+        self.parts.variables.states.len() as u32
     }
 
     /// How many input variables there are: an input vector has a value for each.
     pub fn input_variables(&self) -> u32
         ensures { result ≡ length self.now.inputs }
     {
-        self.inputs.len() as u32
+        self.parts.variables.inputs.len() as u32
     }
 
     /// How many noises there are.
     pub fn noises(&self) -> u32
         ensures { result ≡ length self.now.noises }
     {
-        self.noises.len() as u32
+        self.parts.variables.noises.len() as u32
     }
 
     /// How many variables there are: the states, the input variables and the noises.
@@ -141,7 +118,9 @@ impl Plant {
         ensures bound { result ≤ VARIABLES_LIMIT }
         ensures limits { IsWithinLimits self.now }
     {
-        (self.states.len() + self.inputs.len() + self.noises.len()) as u32
+        (self.parts.variables.states.len()
+            + self.parts.variables.inputs.len()
+            + self.parts.variables.noises.len()) as u32
     }
 
     /// How many input vectors there are.
@@ -149,14 +128,14 @@ impl Plant {
         ensures count { result ≡ vectors_of self.now.inputs }
         ensures some { 1 ≤ result }
     {
-        vectors_of(&self.inputs)
+        vectors_of(&self.parts.variables.inputs)
     }
 
     /// What the controller is to do.
     pub fn goal(&self) -> GoalKind
         ensures { result ≡ self.now.goal }
     {
-        self.goal
+        self.parts.goal
     }
 
     /// The grid of the states, with an axis for each.
@@ -171,7 +150,7 @@ impl Plant {
         requires { i < length self.now.equations }
         ensures { slice_get self.now.equations i ≡ Some (expression_of result.now) }
     {
-        &self.equations[i as usize]
+        &self.parts.equations[i as usize]
     }
 
     /// How many values an input variable has.
@@ -179,7 +158,7 @@ impl Plant {
         requires { variable < length self.now.inputs }
         ensures { result ≡ value_count self.now.inputs variable }
     {
-        self.inputs[variable as usize].values.len() as u32
+        self.parts.variables.inputs[variable as usize].values.len() as u32
     }
 
     /// The value of an input variable in an input vector.
@@ -188,8 +167,10 @@ impl Plant {
         requires variable { variable < length self.now.inputs }
         ensures { result ≡ slice_index_or (vector_of self.now.inputs input) variable (pos 0) }
     {
-        let later = vectors_of(&self.inputs[variable as usize + 1..]);
-        let values = self.inputs[variable as usize].values.as_slice();
+        let later = vectors_of(&self.parts.variables.inputs[variable as usize + 1..]);
+        let values = self.parts.variables.inputs[variable as usize]
+            .values
+            .as_slice();
         values[(input / later) as usize % values.len()]
     }
 
@@ -198,7 +179,7 @@ impl Plant {
         requires { k < length self.now.noises }
         ensures { option_map (λ (w : NoiseVariable). (w.low, w.high)) (slice_get self.now.noises k) ≡ Some result }
     {
-        let noise = &self.noises[k as usize];
+        let noise = &self.parts.variables.noises[k as usize];
         (noise.low, noise.high)
     }
 
@@ -206,7 +187,7 @@ impl Plant {
     pub fn targets(&self) -> u32
         ensures { result ≡ length self.now.targets }
     {
-        self.targets.len() as u32
+        self.parts.targets.len() as u32
     }
 
     /// The least and the greatest corner of a target.
@@ -214,7 +195,7 @@ impl Plant {
         requires { k < length self.now.targets }
         ensures { slice_get self.now.targets k ≡ Some (record { low = result.0; high = result.1 }) }
     {
-        let target = &self.targets[k as usize];
+        let target = &self.parts.targets[k as usize];
         (target.low, target.high)
     }
 
@@ -222,7 +203,7 @@ impl Plant {
     pub fn obstacles(&self) -> u32
         ensures { result ≡ length self.now.obstacles }
     {
-        self.obstacles.len() as u32
+        self.parts.obstacles.len() as u32
     }
 
     /// The least and the greatest corner of an obstacle.
@@ -230,7 +211,7 @@ impl Plant {
         requires { k < length self.now.obstacles }
         ensures { slice_get self.now.obstacles k ≡ Some (record { low = result.0; high = result.1 }) }
     {
-        let obstacle = &self.obstacles[k as usize];
+        let obstacle = &self.parts.obstacles[k as usize];
         (obstacle.low, obstacle.high)
     }
 
@@ -239,7 +220,7 @@ impl Plant {
         requires { c < cells_of (axes_of self.now) }
         ensures { IsTrue result ↔ IsGoalCell self.now c }
     {
-        lies_in_one(&self.grid, c, &self.targets) && !self.obstacle_cell(c)
+        lies_in_one(&self.grid, c, &self.parts.targets) && !self.obstacle_cell(c)
     }
 
     /// Whether some point of a cell lies in an obstacle.
@@ -247,7 +228,7 @@ impl Plant {
         requires { c < cells_of (axes_of self.now) }
         ensures { IsTrue result ↔ IsObstacleCell self.now c }
     {
-        touches_one(&self.grid, c, &self.obstacles)
+        touches_one(&self.grid, c, &self.parts.obstacles)
     }
 
     /// The name of a variable: the states come first, then the inputs, then the noises.
@@ -255,53 +236,7 @@ impl Plant {
         requires { variable < length (names_of self.now) }
         ensures { slice_get (names_of self.now) variable ≡ Some result.now }
     {
-        self.names().name(variable)
-    }
-
-    /// The names of all variables: the states come first, then the inputs, then the noises.
-    pub fn names(&self) -> Names<'_>
-        ensures { result ≡ names_of self.now }
-    {
-        Names {
-            states: &self.states,
-            inputs: &self.inputs,
-            noises: &self.noises,
-        }
-    }
-
-    /// The states, in the order in which the text declares them.
-    pub fn state_list(&self) -> &[StateVariable]
-        ensures { result.now ≡ self.now.states }
-    {
-        &self.states
-    }
-
-    /// The input variables, in the order in which the text declares them.
-    pub fn input_list(&self) -> &[InputVariable]
-        ensures { result.now ≡ self.now.inputs }
-    {
-        &self.inputs
-    }
-
-    /// The noises, in the order in which the text declares them.
-    pub fn noise_list(&self) -> &[NoiseVariable]
-        ensures { result.now ≡ self.now.noises }
-    {
-        &self.noises
-    }
-
-    /// The targets: none where the plant is to be kept off its obstacles.
-    pub fn target_list(&self) -> &[StateBox]
-        ensures { result.now ≡ self.now.targets }
-    {
-        &self.targets
-    }
-
-    /// The obstacles. They may overlap.
-    pub fn obstacle_list(&self) -> &[StateBox]
-        ensures { result.now ≡ self.now.obstacles }
-    {
-        &self.obstacles
+        self.parts.variables.names().name(variable)
     }
 
     /// The equations, where they lie in memory.
@@ -309,6 +244,6 @@ impl Plant {
         ensures same { map expression_of result.now ≡ self.now.equations }
         ensures limits { IsWithinLimits self.now }
     {
-        &self.equations
+        &self.parts.equations
     }
 }

@@ -1,12 +1,12 @@
-ghost use Rattle.std.specs.Prelude.{◌≡◌, ◌≤◌, ◌<◌, length, map, pos, slice_index_or, take, SomeIff};
+ghost use Rattle.std.specs.Prelude.{◌≡◌, ◌≤◌, ◌<◌, length, pos, slice_index_or, take};
 ghost use Rattle.std.specs.List.{All};
 ghost use Rattle.fixed_expr.specs.Expression.{expression_of};
-ghost use Rattle.fixed_expr.specs.Value.{IsWellFormed, StaysInRange, value_of};
-ghost use Rattle.grid_quantiser.specs.Cells.{point_of};
+ghost use Rattle.fixed_expr.specs.Value.{IsWellFormed, Evaluates};
 ghost use Rattle.plant_record.specs.Description.{names_of, vectors_of};
 ghost use Rattle.plant_record.specs.Limits.{IsWithinLimits};
-ghost use Rattle.plant_record.specs.Steps.{equation_at, values_at, step_of, StepStaysInRange};
+ghost use Rattle.plant_record.specs.Steps.{equation_at, values_at, AnswersStep};
 ghost use Rattle.base.specs.declared.limits.TheConstants.{STATES_LIMIT};
+ghost use Rattle.plant_record.specs.inside.EquationValues.{EvaluatesEach};
 
 use crate::plant::Plant;
 use base::limits::{STATES_LIMIT, VARIABLES_LIMIT};
@@ -17,7 +17,7 @@ use grid_quantiser::Point;
 /// node leaves the range. It takes no memory.
 pub fn step(p: &Plant, x: &Point, input: u32, noise: &Point) -> Option<Point>
     requires { input < vectors_of p.now.inputs }
-    ensures { SomeIff result (StepStaysInRange p.now x.now input noise.now) (point_of (step_of p.now x.now input noise.now)) }
+    ensures { AnswersStep result p.now x.now input noise.now }
 {
     let values = values_at(p, x, input, noise);
     next_point(p.equations(), &values[..p.variables() as usize])
@@ -28,7 +28,7 @@ pub fn step(p: &Plant, x: &Point, input: u32, noise: &Point) -> Option<Point>
 pub fn step_along(p: &Plant, x: &Point, input: u32, noise: &Point, state: u32) -> Option<i128>
     requires input { input < vectors_of p.now.inputs }
     requires state { state < length p.now.equations }
-    ensures { SomeIff result (StaysInRange (equation_at p.now state) (values_at p.now x.now input noise.now)) (value_of (equation_at p.now state) (values_at p.now x.now input noise.now)) }
+    ensures { Evaluates result (equation_at p.now state) (values_at p.now x.now input noise.now) }
 {
     let values = values_at(p, x, input, noise);
     eval(p.equation(state), &values[..p.variables() as usize])
@@ -68,7 +68,7 @@ fn value_at(p: &Plant, x: &Point, input: u32, noise: &Point, i: usize) -> i128
 fn next_point(equations: &[Expr], values: &[i128]) -> Option<Point>
     requires few { length equations.now ≤ STATES_LIMIT }
     requires formed { All (λ e. IsWellFormed (expression_of e) (length values.now)) equations.now }
-    ensures { SomeIff result (All (λ e. StaysInRange (expression_of e) values.now) equations.now) (point_of (map (λ e. value_of (expression_of e) values.now) equations.now)) }
+    ensures { EvaluatesEach expression_of result equations.now values.now }
 {
     let mut next = [0; STATES_LIMIT];
     for (i, equation) in equations.iter().enumerate() {

@@ -1,27 +1,24 @@
 //! The names of a plant's variables, by their positions.
 
 ghost use Rattle.std.specs.Prelude.{◌≡◌, ◌<◌, length, slice_get, Some};
-ghost use Rattle.plant_record.specs.Description.{names_over};
 
-use crate::variables::{InputVariable, Name, NoiseVariable, StateVariable};
+use crate::variables::{Name, Variables};
 use std::marker::Model;
 
 /// The names of variables, by their positions: those of the states come first, then those of the
 /// inputs, then those of the noises.
 #[derive(Drop)]
 pub struct Names<'a> {
-    pub states: &'a [StateVariable],
-    pub inputs: &'a [InputVariable],
-    pub noises: &'a [NoiseVariable],
+    pub(crate) variables: &'a Variables,
 }
 
 impl<'a> Model for Names<'a> {
     ghost use Rattle.std.specs.Prelude.{ℕ, List};
-    ghost use Rattle.plant_record.specs.Description.{names_over};
+    ghost use Rattle.plant_record.specs.Parts.{variable_names};
 
     ghost Value = { List (List ℕ) };
 
-    ghost view = { λ n. names_over n.states.now n.inputs.now n.noises.now };
+    ghost view = { λ n. variable_names n.variables.now };
 }
 
 impl<'a> Names<'a> {
@@ -31,14 +28,19 @@ impl<'a> Names<'a> {
         ensures { slice_get self.now variable ≡ Some result.now }
     {
         let i = variable as usize;
-        let inputs = self.states.len();
-        let noises = inputs + self.inputs.len();
-        if i < inputs {
-            &self.states[i].name
-        } else if i < noises {
-            &self.inputs[i - inputs].name
+        let Variables {
+            states,
+            inputs,
+            noises,
+        } = self.variables;
+        let input = states.len();
+        let noise = input + inputs.len();
+        if i < input {
+            &states[i].name
+        } else if i < noise {
+            &inputs[i - input].name
         } else {
-            &self.noises[i - noises].name
+            &noises[i - noise].name
         }
     }
 }

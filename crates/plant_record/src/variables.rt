@@ -3,8 +3,8 @@
 ghost use Rattle.std.specs.Prelude.{◌≡◌, ◌<◌, ◌≤◌, length, position, IfOk, IfSome, IfNone, slice_get, Some, Contains};
 ghost use Rattle.std.specs.Str.{bytes_eq};
 ghost use Rattle.plant_record.specs.Names.{IsName};
-ghost use Rattle.plant_record.specs.Description.{names_over};
 ghost use Rattle.base.specs.declared.limits.TheConstants.{VARIABLES_LIMIT};
+ghost use Rattle.plant_record.specs.Parts.{variable_names};
 
 use crate::variable_names::Names;
 use std::alloc::{AllocError, Global};
@@ -118,20 +118,16 @@ pub struct Variables {
 impl Variables {
     /// The names of all variables.
     pub fn names(&self) -> Names<'_>
-        ensures { result ≡ names_over self.now.states.items self.now.inputs.items self.now.noises.items }
+        ensures { result ≡ variable_names self.now }
     {
-        Names {
-            states: &self.states,
-            inputs: &self.inputs,
-            noises: &self.noises,
-        }
+        Names { variables: self }
     }
 
     /// The position of the variable of this name.
     pub fn position_of(&self, name: &[u8]) -> Option<u32>
-        requires { length (names_over self.now.states.items self.now.inputs.items self.now.noises.items) ≤ VARIABLES_LIMIT }
-        ensures found { IfSome result (λ i. slice_get (names_over self.now.states.items self.now.inputs.items self.now.noises.items) i ≡ Some name.now) }
-        ensures none { IfNone result (Contains (names_over self.now.states.items self.now.inputs.items self.now.noises.items) name.now → ⊥) }
+        requires { length (variable_names self.now) ≤ VARIABLES_LIMIT }
+        ensures found { IfSome result (λ i. slice_get (variable_names self.now) i ≡ Some name.now) }
+        ensures none { IfNone result (Contains (variable_names self.now) name.now → ⊥) }
     {
         if let Some(i) = state_named(&self.states, name) {
             return Some(i as u32);

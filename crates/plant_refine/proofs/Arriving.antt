@@ -16,7 +16,8 @@ use Rattle.controller_table.specs.Choice.{Chooses, HasRowAt}
 use Rattle.plant_record.specs.States.{LiesInSome, IsClear}
 use Rattle.plant_refine.specs.Trajectories.{StepsTo, IsStateAt, ArrivesFirst}
 use Rattle.plant_refine.specs.inside.Descents.{HasLowerRow, LeadDown}
-use Rattle.plant_refine.proofs.Choosing.{one_row, one_choice_at}
+use Rattle.controller_table.proofs.OneTable.{one_choice_at}
+use Rattle.plant_refine.proofs.Choosing.{one_row}
 
 -- what stands past the states is not looked at
 inside_take : (axes : List Axis) (xs : List ℤ) → IsInDomain axes xs → (IsInDomain axes (take (length axes) xs)) × (length axes ≤ length xs)

@@ -7,7 +7,7 @@ use Rattle.game_core.proofs.Rows.{below_from_row}
 use Rattle.grid_quantiser.specs.Axes.{cells_of}
 use Rattle.grid_quantiser.specs.Cells.{cell_of, point_of}
 use Rattle.plant_record.specs.declared.aims.GoalKind.{GoalKind}
-use Rattle.plant_record.specs.declared.aims.GoalKind.TheVariants.{Reach, Keep}
+use Rattle.plant_record.specs.declared.aims.GoalKind.TheVariants.{Reach}
 use Rattle.plant_record.specs.Description.{Description, axes_of}
 use Rattle.plant_record.specs.Steps.{step_of, IsNoise}
 use Rattle.controller_table.specs.Choice.{Applies, Chooses, HasRowAt}
@@ -19,15 +19,6 @@ pub one_row : (p : Description) (rows : List (Option Row)) (x : List ℤ) (row o
 one_row p rows x row other h k =
     let is : row_of rows (cell_of (axes_of p) x) ≡ Some row = h.is in
     let also : row_of rows (cell_of (axes_of p) x) ≡ Some other = k.is in cc
-
-one_input : (goal : GoalKind) (row : Row) (u v : ℕ) → Applies goal row u → Applies goal row v → u ≡ v
-one_input Reach row u v h k = sym h.1 ∙ k.1
-one_input Keep row u v h k = sym h ∙ k
-
-pub one_choice_at : (p : Description) (rows : List (Option Row)) (x : List ℤ) (u v : ℕ) → Chooses p rows x u → Chooses p rows x v → u ≡ v
-one_choice_at p rows x u v h k =
-    let same : k.0 ≡ h.0 = one_row p rows x k.0 h.0 k.1 h.1 in
-    one_input p.goal h.0 u v h.2 (subst (λ (row : Row). Applies p.goal row v) same k.2)
 
 -- a row above rank 0 chooses its input, where the plant is to reach its targets
 pub chooses_input : (p q : Description) (rows : List (Option Row)) (x : List ℤ) (row : Row) → q ≡ p → p.goal ≡ Reach → HasRowAt p rows x row → 0 < row.rank → Chooses q rows x row.input

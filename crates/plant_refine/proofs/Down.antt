@@ -6,6 +6,7 @@ use Rattle.game_core.specs.declared.game.Row.{Row}
 use Rattle.game_core.specs.Game.{IsEnabled, successors_of}
 use Rattle.game_core.specs.Solution.{row_of}
 use Rattle.game_core.proofs.Promises.{leads_to_goals}
+use Rattle.game_core.proofs.Rows.{below_cells}
 use Rattle.game_core.proofs.Right.{right_rows_are_the_solution}
 use Rattle.grid_quantiser.specs.Cells.{cell_of, point_of}
 use Rattle.plant_record.specs.Description.{Description, axes_of, vectors_of}
@@ -22,7 +23,7 @@ use Rattle.plant_game.proofs.GameLaws.{refines}
 use Rattle.plant_refine.specs.RightRows.{AreRightRowsOf}
 use Rattle.plant_refine.specs.inside.Descents.{HasLowerRow, LeadDown}
 use Rattle.plant_refine.proofs.Choosing.{input_of, leads_lower}
-use Rattle.plant_refine.proofs.Leading.{Guides, cell_below, clear_at, arrived_at, enabled_at, next_row}
+use Rattle.plant_refine.proofs.Leading.{Guides, clear_at, arrived_at, enabled_at, next_row}
 
 module _ (p : Description) (rows : List (Option Row)) (plant : IsPlant p) (h : AreRightRowsOf p rows) where
   pub guides : Guides p h.game rows
@@ -45,7 +46,7 @@ module _ (p : Description) (rows : List (Option Row)) (plant : IsPlant p) (h : A
   enabled x (suc n) u has some =
       let c : ℕ = cell_of (axes_of p) x in
       let on : IsEnabled h.game c u = enabled_at guides x n u has in
-      (enabled_exactly p c u (successors_of h.game c u) (sound p plant) (h.abstraction.successors c u (cell_below guides c (record { rank = suc n; input = u }) has.is) on.0)).0 on.1
+      (enabled_exactly p c u (successors_of h.game c u) (sound p plant) (h.abstraction.successors c u (below_cells rows h.game.cells c (record { rank = suc n; input = u }) h.right.one_each has.is) on.0)).0 on.1
 
   -- a row stands at the point of a state as at the state
   at_point : (y : List ℤ) (row : Row) → length p.states ≡ length y → HasRowAt p rows y row → HasRowAt p rows (point_of y) row

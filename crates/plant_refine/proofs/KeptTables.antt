@@ -9,26 +9,22 @@ use Rattle.game_core.specs.Game.{Game, mark_of, successors_of}
 use Rattle.game_core.specs.Keep.{StandsOn, IsKept, IsKeptBy, IsKeepRow, IsKeepSolution}
 use Rattle.game_core.specs.Solution.{row_of}
 use Rattle.game_core.specs.Strategy.{Tree, Leaf, Apply}
-use Rattle.game_core.proofs.Rows.{below_from_row}
+use Rattle.game_core.proofs.Rows.{below_cells}
 use Rattle.grid_quantiser.specs.Cells.{IsInDomain, cell_of}
-use Rattle.grid_quantiser.specs.CellBoxes.{IsInBox, Touches}
 use Rattle.grid_quantiser.proofs.Domain.{cell_below}
 use Rattle.plant_record.specs.declared.aims.GoalKind.{GoalKind}
 use Rattle.plant_record.specs.declared.aims.GoalKind.TheVariants.{Keep}
 use Rattle.plant_record.specs.Description.{Description, axes_of}
-use Rattle.plant_record.specs.CellMarks.{IsObstacleCell}
 use Rattle.plant_record.specs.Steps.{step_of, IsNoise}
 use Rattle.plant_record.proofs.lemmas.SoundPlants.{sound}
 use Rattle.controller_table.specs.Choice.{Applies, HasRowAt}
 use Rattle.controller_table.specs.Tables.{IsTable}
 use Rattle.plant_game.specs.Abstraction.{IsGameOf}
-use Rattle.plant_record.specs.States.{IsClear}
 use Rattle.plant_game.specs.Refinement.{IsRefinement}
-use Rattle.plant_game.proofs.GameLaws.{refines}
+use Rattle.plant_game.proofs.GameLaws.{refines, clear_at}
 use Rattle.plant_refine.specs.Laws.{KeptTablesKeepPlants}
 use Rattle.plant_refine.specs.Stays.{HasSomeRow, Remains, Stays}
 use Rattle.plant_refine.proofs.RightTables.{row_of_table}
-use Rattle.base.proofs.Lists.{Any-weaker}
 
 -- where a tree of depth 0 stands is no obstacle
 no_obstacle : (g : Game) (c : ℕ) (t : Tree) → StandsOn g t 0 c → mark_of g c ≢ Obstacle
@@ -44,11 +40,8 @@ pub record Keeps (bytes : List ℕ) (p : Description) (g : Game) (rows : List (O
   pub refined : IsRefinement p g
 
 module _ {bytes : List ℕ} {p : Description} {g : Game} {rows : List (Option Row)} (k : Keeps bytes p g rows) where
-  row_below : (c : ℕ) (row : Row) → row_of rows c ≡ Some row → c < g.cells
-  row_below c row is = omega (arith, below_from_row rows c row is, k.solution.one_each)
-
   kept_by : (c : ℕ) (row : Row) → row_of rows c ≡ Some row → IsKeptBy g c row
-  kept_by c row is = subst (IsKeepRow g c) is (k.solution.each c (row_below c row is))
+  kept_by c row is = subst (IsKeepRow g c) is (k.solution.each c (below_cells rows g.cells c row k.solution.one_each is))
 
   -- a kept cell has a row
   row_at : (c : ℕ) → c < g.cells → IsKept g c → (row : Row) × (row_of rows c ≡ Some row)
@@ -58,15 +51,8 @@ module _ {bytes : List ℕ} {p : Description} {g : Game} {rows : List (Option Ro
       at None e h = absurd (h kept)
       at (Some row) e h = (row, e)
 
-  clear_at : (x : List ℤ) (row : Row) → HasRowAt p rows x row → IsClear p x
-  clear_at x row has = (
-    has.inside,
-    λ met.
-        let c : ℕ = cell_of (axes_of p) x in
-        let touched : IsObstacleCell p c = Any-weaker (λ b. IsInBox (axes_of p) b.low b.high x) (λ b. Touches (axes_of p) c b.low b.high) p.obstacles (λ b inside. (x, (has.inside, refl), inside)) met in
-        let tree = (kept_by c row has.is).kept 0 in
-        no_obstacle g c tree.0 tree.1 ((k.abstraction.obstacles c (row_below c row has.is)).1 touched),
-  )
+  unblocked : (c : ℕ) (row : Row) → row_of rows c ≡ Some row → mark_of g c ≢ Obstacle
+  unblocked c row is = let tree = (kept_by c row is).kept 0 in no_obstacle g c tree.0 tree.1
 
   some_row : (x : List ℤ) (row : Row) → HasRowAt p rows x row → HasSomeRow bytes x
   some_row x row has = (row.rank, record { plant = p; rows = rows; table = k.table; row = row; has = has; ranked = refl })
@@ -75,16 +61,18 @@ module _ {bytes : List ℕ} {p : Description} {g : Game} {rows : List (Option Ro
   applies row = subst (λ (goal : GoalKind). Applies goal row row.input) (sym k.goal) refl
 
   remains : (ws : List (List ℤ)) (x : List ℤ) (row : Row) → HasRowAt p rows x row → AllByRecursion (IsNoise p.noises) ws → Remains p bytes x ws
-  remains [] x row has noises = (clear_at x row has, some_row x row has)
+  remains [] x row has noises =
+      let c : ℕ = cell_of (axes_of p) x in
+      (clear_at p g k.abstraction k.refined x has.inside (below_cells rows g.cells c row k.solution.one_each has.is) (unblocked c row has.is), some_row x row has)
   remains (w ∷ ws) x row has noises =
       let c : ℕ = cell_of (axes_of p) x in
-      let lt : c < g.cells = row_below c row has.is in
+      let lt : c < g.cells = below_cells rows g.cells c row k.solution.one_each has.is in
       let leads = (kept_by c row has.is).leads in
       let next : List ℤ = step_of p x row.input w in
       let inside : IsInDomain (axes_of p) next = k.refined.inside c row.input x w lt leads.0 (has.inside, refl) noises.0 in
       let kept : IsKept g (cell_of (axes_of p) next) = All-contains (IsKept g) (successors_of g c row.input) (cell_of (axes_of p) next) leads.1 (k.refined.among c row.input x w lt leads.0 (has.inside, refl) noises.0) in
       let there = row_at (cell_of (axes_of p) next) (omega (arith, cell_below (axes_of p) next (sound p k.table.limits.plant).axes.each inside, k.abstraction.cells)) kept in (
-        clear_at x row has,
+        clear_at p g k.abstraction k.refined x has.inside lt (unblocked c row has.is),
         some_row x row has,
         (
           row.input,

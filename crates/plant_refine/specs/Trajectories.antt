@@ -1,11 +1,17 @@
 -- The run of a plant under the rows of a table, and where it first comes into a target.
 use Rattle.std.specs.Prelude.{◌≡◌, ℕ, zero, suc, ◌<◌, ◌≤◌, ℤ, List, length, take, slice_get, Option, Some}
+use Rattle.std.specs.List.{Contains}
 use Rattle.game_core.specs.declared.game.Row.{Row}
 use Rattle.grid_quantiser.specs.Cells.{point_of}
 use Rattle.plant_record.specs.Description.{Description}
 use Rattle.plant_record.specs.Steps.{step_of}
+use Rattle.successor_box.specs.SuccessorBoxes.{AreSuccessors}
 use Rattle.controller_table.specs.Choice.{Chooses}
 use Rattle.plant_record.specs.States.{LiesInSome, IsClear}
+
+-- a cell is a successor of the pair of a cell and an input
+abbrev pub IsSuccessor : Description → ℕ → ℕ → ℕ → Type 0
+IsSuccessor p cell input next = (cells : List ℕ) → AreSuccessors p cell input cells → Contains cells next
 
 -- one sample later, under the input that the rows choose and a noise
 abbrev pub StepsTo : Description → List (Option Row) → List ℤ → List ℤ → List ℤ → Type 0

@@ -1,10 +1,10 @@
-ghost use Rattle.std.specs.Prelude.{◌≡◌, ◌<◌, ℕ, List};
-ghost use Rattle.std.specs.List.{Contains};
+ghost use Rattle.std.specs.Prelude.{◌≡◌, ◌<◌};
 ghost use Rattle.grid_quantiser.specs.Cells.{IsInDomain, cell_of, point_of};
 ghost use Rattle.plant_record.specs.Description.{axes_of, vectors_of};
 ghost use Rattle.plant_record.specs.Steps.{IsNoise, step_of};
-ghost use Rattle.successor_box.specs.SuccessorBoxes.{IsEnabledAt, AreSuccessors};
+ghost use Rattle.successor_box.specs.SuccessorBoxes.{IsEnabledAt};
 ghost use Rattle.successor_box.specs.Deviations.{HasNoOverflow, deviations_of};
+ghost use Rattle.plant_refine.specs.Trajectories.{IsSuccessor};
 
 use grid_quantiser::Point;
 use plant_record::laws::every_plant_is_within_limits;
@@ -22,7 +22,7 @@ pub fn next_cell(p: &Plant, s: &Slopes, x: &Point, input: u32, noise: &Point) ->
     ensures step { result.0 ≡ point_of (step_of p.now x.now input noise.now) }
     ensures inside { IsInDomain (axes_of p.now) (step_of p.now x.now input noise.now) }
     ensures cell { result.1 ≡ cell_of (axes_of p.now) (step_of p.now x.now input noise.now) }
-    ensures successor { (cells : List ℕ) → AreSuccessors p.now (cell_of (axes_of p.now) x.now) input cells → Contains cells result.1 }
+    ensures successor { IsSuccessor p.now (cell_of (axes_of p.now) x.now) input result.1 }
 {
     every_plant_is_within_limits(p);
     let Some(next) = step(p, x, input, noise) else {

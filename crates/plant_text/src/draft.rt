@@ -1,4 +1,4 @@
-ghost use Rattle.std.specs.Prelude.{◌≡◌, ◌≢◌, ◌<◌, ◌≤◌, ◌↔◌, [], length, None, Some, Err, IsTrue, IfOk, IfErr, OnOk, slice_index_or, true, false};
+ghost use Rattle.std.specs.Prelude.{◌≡◌, ◌≢◌, ◌↔◌, [], length, None, Some, Err, IsTrue, IfOk, IfErr, OnOk, true, false};
 ghost use Rattle.plant_reading.specs.declared.line_fault.LineFault.TheVariants.{Malformed};
 ghost use Rattle.fixed_expr.specs.Expression.{expression_of};
 ghost use Rattle.plant_record.specs.declared.aims.GoalKind.TheVariants.{Keep};
@@ -10,11 +10,10 @@ ghost use Rattle.plant_record.specs.Description.{Description};
 ghost use Rattle.plant_record.specs.Limits.{IsWithinLimits, Exceeds};
 ghost use Rattle.plant_text.specs.inside.PartialPlantRules.{KeepsRules};
 ghost use Rattle.plant_reading.specs.StatementsRead.{statement_of};
-ghost use Rattle.plant_text.specs.inside.DraftsInMemory.{partial_of};
+ghost use Rattle.plant_text.specs.inside.DraftsInMemory.{partial_of, TakesState, TakesInput, TakesNoise};
 ghost use Rattle.plant_text.specs.CanonicalFronts.{IsInOrder, ExtendsCanonically};
 ghost use Rattle.plant_text.specs.inside.FormedEquations.{HasFormedEquation};
-ghost use Rattle.plant_text.specs.inside.CanonicalNext.{IsCanonicalNext};
-ghost use Rattle.base.specs.declared.limits.TheConstants.{INPUTS_LIMIT, NOISES_LIMIT, STATES_LIMIT};
+ghost use Rattle.plant_text.specs.inside.CanonicalNext.{IsCanonicalNext, FitsInOrder, IsNextState};
 
 use crate::statement_writer::is_canonical;
 use crate::version_rules::has_no_lut;
@@ -153,7 +152,7 @@ impl Draft {
     /// Whether a statement has its position after the lines so far, and its position in the canonical order.
     fn fits_in_order(&self, statement: &Statement) -> bool
         requires { KeepsRules (partial_of self.now) }
-        ensures { IsTrue result ↔ (FitsAfter (partial_of self.now) (statement_of statement.now) × IsInOrder (partial_of self.now) (statement_of statement.now)) }
+        ensures { IsTrue result ↔ FitsInOrder (partial_of self.now) (statement_of statement.now) }
     {
         self.fits(statement) && self.is_in_order(statement)
     }
@@ -191,7 +190,7 @@ impl Draft {
     }
 
     fn takes_state(&self) -> bool
-        ensures { IsTrue result ↔ ((self.now.version ≢ None) × (self.now.variables.inputs.items ≡ []) × (self.now.variables.noises.items ≡ []) × (self.now.equations.items ≡ []) × (length self.now.variables.states.items < STATES_LIMIT)) }
+        ensures { IsTrue result ↔ TakesState self.now }
     {
         self.version.is_some()
             && self.variables.inputs.is_empty()
@@ -201,7 +200,7 @@ impl Draft {
     }
 
     fn takes_input(&self) -> bool
-        ensures { IsTrue result ↔ ((1 ≤ length self.now.variables.states.items) × (self.now.variables.noises.items ≡ []) × (self.now.equations.items ≡ []) × (length self.now.variables.inputs.items < INPUTS_LIMIT)) }
+        ensures { IsTrue result ↔ TakesInput self.now }
     {
         !self.variables.states.is_empty()
             && self.variables.noises.is_empty()
@@ -210,7 +209,7 @@ impl Draft {
     }
 
     fn takes_noise(&self) -> bool
-        ensures { IsTrue result ↔ ((1 ≤ length self.now.variables.states.items) × (self.now.equations.items ≡ []) × (length self.now.variables.noises.items < NOISES_LIMIT)) }
+        ensures { IsTrue result ↔ TakesNoise self.now }
     {
         !self.variables.states.is_empty()
             && self.equations.is_empty()
@@ -226,7 +225,7 @@ impl Draft {
 
     /// Whether the next equation is that of this state.
     fn is_next(&self, state: &[u8]) -> bool
-        ensures { IsTrue result ↔ ((length (partial_of self.now).equations < length (partial_of self.now).states) × (slice_index_or (names_in (partial_of self.now)) (length (partial_of self.now).equations) [] ≡ state.now)) }
+        ensures { IsTrue result ↔ IsNextState (partial_of self.now) state.now }
     {
         match self.variables.states.get(self.equations.len()) {
             Some(next) => next.name.as_bytes() == state,

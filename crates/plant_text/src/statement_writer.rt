@@ -1,11 +1,11 @@
 //! The canonical line of a statement.
 
 ghost use Rattle.std.specs.Prelude.{◌≡◌, ◌↔◌, ◌≤◌, ◌++◌, length, codes, IfOk, IsTrue, OnOk};
-ghost use Rattle.plant_text.specs.CanonicalFronts.{statement_line};
 ghost use Rattle.plant_record.specs.Parts.{variable_names};
 ghost use Rattle.plant_reading.specs.StatementsRead.{statement_of};
 ghost use Rattle.plant_text.specs.inside.FormedEquations.{HasFormedEquation};
 ghost use Rattle.base.specs.declared.limits.TheConstants.{STATES_LIMIT};
+ghost use Rattle.plant_text.specs.inside.CanonicalNext.{canonical_line};
 
 use plant_reading::Statement;
 use plant_record::Variables;
@@ -24,7 +24,7 @@ pub fn is_canonical(
 ) -> Result<bool, AllocError>
     requires states { length variables.now.states.items ≤ STATES_LIMIT }
     requires formed { HasFormedEquation (length (variable_names variables.now)) (statement_of statement.now) }
-    ensures { IfOk result (λ b. IsTrue b ↔ (line.now ++ codes "\n" ≡ statement_line (variable_names variables.now) (length variables.now.states.items) (statement_of statement.now))) }
+    ensures { IfOk result (λ b. IsTrue b ↔ (line.now ++ codes "\n" ≡ canonical_line variables.now statement.now)) }
 {
     scratch.clear();
     push_statement(scratch, variables, statement)?;
@@ -49,7 +49,7 @@ fn push_statement(
 ) -> Result<(), AllocError>
     requires states { length variables.now.states.items ≤ STATES_LIMIT }
     requires formed { HasFormedEquation (length (variable_names variables.now)) (statement_of statement.now) }
-    ensures { OnOk result (text.new.items ≡ text.old.items ++ statement_line (variable_names variables.now) (length variables.now.states.items) (statement_of statement.now)) }
+    ensures { OnOk result (text.new.items ≡ text.old.items ++ canonical_line variables.now statement.now) }
 {
     let states = variables.states.len();
     match statement {

@@ -27,6 +27,7 @@ noise_line w = line (codes "noise" ∷ w.name ∷ signed_decimal w.low ∷ signe
 abbrev pub equation_line : List (List ℕ) → List ℕ → Expression → List ℕ
 equation_line names name e = line (codes "next" ∷ name ∷ codes "=" ∷ expression_text names 1 e ∷ [])
 
+-- the canonical lines of equations, each with the name of its state
 abbrev pub equation_lines : List (List ℕ) → List StateVariable → List Expression → List ℕ
 equation_lines names (s ∷ states) (e ∷ equations) = equation_line names s.name e ++ equation_lines names states equations
 equation_lines names (s ∷ states) [] = []

@@ -1,2 +1,3 @@
 -- What only private clauses and proofs name.
 pub mod WriterLevels
+pub mod WrittenTexts

@@ -1,12 +1,13 @@
 //! The text of an expression, in brackets only where its place asks for them.
 
-ghost use Rattle.std.specs.Prelude.{◌≡◌, ◌++◌, length, codes, nat_lt, OnOk};
+ghost use Rattle.std.specs.Prelude.{◌≡◌, ◌++◌, length, nat_lt, OnOk};
 ghost use Rattle.std.specs.List.{flat_map};
 ghost use Rattle.std.specs.Fmt.{signed_decimal};
 ghost use Rattle.fixed_expr.specs.Expression.{expression_of};
 ghost use Rattle.fixed_expr.specs.Value.{IsWellFormed};
 ghost use Rattle.plant_writing.specs.ExpressionText.{expression_text, point_text};
 ghost use Rattle.plant_writing.specs.inside.WriterLevels.{number_of, own_level};
+ghost use Rattle.plant_writing.specs.inside.WrittenTexts.{text_at, pair_text, call_text, lut_text};
 
 use fixed_expr::Expr;
 use itoa::Buffer;
@@ -30,7 +31,7 @@ pub fn push_expression(
     e: &Expr,
 ) -> Result<(), AllocError>
     requires { IsWellFormed (expression_of e.now) (length names.now) }
-    ensures { OnOk result (text.new.items ≡ text.old.items ++ expression_text names.now (number_of asked) (expression_of e.now)) }
+    ensures { OnOk result (text.new.items ≡ text.old.items ++ text_at names.now asked e.now) }
 {
     if is_below(level_of(e), asked) {
         text.extend_from_slice(b"(")?;
@@ -82,7 +83,7 @@ fn push_lut(
     points: &[(i128, i128)],
 ) -> Result<(), AllocError>
     requires { IsWellFormed (expression_of a.now) (length names.now) }
-    ensures { OnOk result (text.new.items ≡ text.old.items ++ (codes "lut(" ++ expression_text names.now 1 (expression_of a.now) ++ flat_map point_text points.now ++ codes ")")) }
+    ensures { OnOk result (text.new.items ≡ text.old.items ++ lut_text names.now a.now points.now) }
 {
     text.extend_from_slice(b"lut(")?;
     push_expression(text, names, Level::Sum, a)?;
@@ -120,7 +121,7 @@ fn push_two(
 ) -> Result<(), AllocError>
     requires left { IsWellFormed (expression_of left.1.now) (length names.now) }
     requires right { IsWellFormed (expression_of right.1.now) (length names.now) }
-    ensures { OnOk result (text.new.items ≡ text.old.items ++ (expression_text names.now (number_of left.entry.0) (expression_of left.entry.1.now) ++ between.now ++ expression_text names.now (number_of right.entry.0) (expression_of right.entry.1.now))) }
+    ensures { OnOk result (text.new.items ≡ text.old.items ++ pair_text names.now left.entry between.now right.entry) }
 {
     push_expression(text, names, left.0, left.1)?;
     text.extend_from_slice(between)?;
@@ -138,7 +139,7 @@ fn push_call(
 ) -> Result<(), AllocError>
     requires left { IsWellFormed (expression_of a.now) (length names.now) }
     requires right { IsWellFormed (expression_of b.now) (length names.now) }
-    ensures { OnOk result (text.new.items ≡ text.old.items ++ (opening.now ++ expression_text names.now 1 (expression_of a.now) ++ codes ", " ++ expression_text names.now 1 (expression_of b.now) ++ codes ")")) }
+    ensures { OnOk result (text.new.items ≡ text.old.items ++ call_text names.now opening.now a.now b.now) }
 {
     text.extend_from_slice(opening)?;
     push_two(text, names, (Level::Sum, a), b", ", (Level::Sum, b))?;

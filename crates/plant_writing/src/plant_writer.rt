@@ -30,15 +30,17 @@ pub fn write_plant(alloc: Global, p: &Plant, to: &mut Vec<u8>) -> Result<(), NoM
 fn text_of(alloc: Global, p: &Plant) -> Result<Vec<u8>, AllocError>
     ensures { IfOk result (λ text. text.items ≡ text_of p.now) }
 {
-    let states = p.state_list();
-    let mut text = Vec::from_slice(alloc, version_line(p.plant_version()))?;
+    let parts = p.parts();
+    let variables = &parts.variables;
+    let states = variables.states.as_slice();
+    let mut text = Vec::from_slice(alloc, version_line(parts.version))?;
     push_states(&mut text, states)?;
-    push_inputs(&mut text, p.input_list())?;
-    push_noises(&mut text, p.noise_list())?;
-    push_equations(&mut text, &p.names(), states, p.equations())?;
-    push_boxes(&mut text, b"target", states.len(), p.target_list())?;
-    push_boxes(&mut text, b"obstacle", states.len(), p.obstacle_list())?;
-    text.extend_from_slice(goal_line(p.goal()))?;
+    push_inputs(&mut text, &variables.inputs)?;
+    push_noises(&mut text, &variables.noises)?;
+    push_equations(&mut text, &variables.names(), states, &parts.equations)?;
+    push_boxes(&mut text, b"target", states.len(), &parts.targets)?;
+    push_boxes(&mut text, b"obstacle", states.len(), &parts.obstacles)?;
+    text.extend_from_slice(goal_line(parts.goal))?;
     text.extend_from_slice(b"end\n")?;
     Ok(text)
 }

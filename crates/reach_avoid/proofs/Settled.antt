@@ -14,14 +14,14 @@ use Rattle.cell_counters.specs.declared.account.Offer.{Offer}
 use Rattle.cell_counters.specs.declared.account.Account.{Account}
 use Rattle.cell_counters.specs.Accounts.{all_offers, values}
 use Rattle.game_core.specs.Counts.{times, one_if}
-use Rattle.game_core.specs.declared.game.Mark.{Mark}
 use Rattle.game_core.specs.declared.game.Mark.TheVariants.{Goal, Obstacle, Plain}
 use Rattle.game_core.specs.declared.game.Row.{Row}
 use Rattle.game_core.specs.Game.{Game, IsGraph, mark_of, pair_of, pairs_of, successors_at, successors_of}
 use Rattle.game_core.specs.Solution.{row_of, rank_in, rank_at, greatest, greatest_rank, HasRow}
-use Rattle.game_core.specs.Right.{IsBestInput, IsUnwinnable, IsRightRanked, IsRightPlain, IsRightAt, AreRight}
+use Rattle.game_core.specs.Right.{IsBestInput, IsUnwinnable, IsRightRanked, AreRight}
 use Rattle.game_core.specs.Tally.{all_pairs, ranked_in, is_resolved, rank_by, rounds_to}
 use Rattle.game_core.proofs.Times.{counts_agree}
+use Rattle.game_core.proofs.Right.{right_from}
 use Rattle.board_rounds.specs.Crew.{cuts_in, offers_in}
 use Rattle.board_rounds.proofs.Accounts.{cuts_are, offers_are}
 use Rattle.reach_avoid.specs.ReachBoards.{word_at}
@@ -282,19 +282,7 @@ module _ (g : Game) (a : IsGraph g) (rank : ℕ) (accounts : List Account) (was 
       subst (λ n. IsRightRanked g rows c n row.input) rank' (subst (λ u. IsRightRanked g rows c (suc k) u) input' (best c k by.input lt by.enabled by.resolved refl by.word))
 
   pub right : AreRight g rows
-  right = record {
-    one_each = length-map-range_with_len (λ c. row_in (word_after g accounts c)) 0 g.cells;
-    each = λ c lt. by_mark c lt (mark_of g c) refl;
-  }
-    where
-      by_row : (c : ℕ) → c < g.cells → mark_of g c ≡ Plain → (o : Option Row) → row_of rows c ≡ o → IsRightPlain g rows c o
-      by_row c lt m None e = lost c lt m e
-      by_row c lt m (Some row) e = ranked c row lt m e
-
-      by_mark : (c : ℕ) → c < g.cells → (m : Mark) → mark_of g c ≡ m → IsRightAt g rows c m (row_of rows c)
-      by_mark c lt Goal m = right_goal c lt m
-      by_mark c lt Obstacle m = right_obstacle c lt m
-      by_mark c lt Plain m = by_row c lt m (row_of rows c) refl
+  right = right_from g rows (length-map-range_with_len (λ c. row_in (word_after g accounts c)) 0 g.cells) right_goal right_obstacle lost ranked
 
   -- the tally
   pub cuts_count : length (cuts_in accounts) ≡ sum_by (ranked_in g rows) (all_pairs g)

@@ -13,6 +13,7 @@ word_at Goal = 1
 word_at Obstacle = 0
 word_at Plain = NONE
 
+-- the number with which a cell's least word begins, by the mark that the cell has
 abbrev pub word_for : Game → ℕ → ℕ
 word_for g c = word_at (mark_of g c)
 

@@ -3,27 +3,15 @@ use Rattle.std.proofs.Common.{◌≡◌, ℕ, zero, suc, ◌+◌, ◌*◌, ◌-�
 use Rattle.std.specs.List.{list_all, fold}
 use Rattle.std.specs.Fmt.{decimal}
 use Rattle.std.proofs.lemmas.Bool.{and_parts}
-use Rattle.std.proofs.lemmas.Bool.Decides.{nat_tests}
 use Rattle.std.proofs.lemmas.Fmt.{decimal_by_steps, decimal_digit, decimal_step, decimal_nonempty, decimal_injective, first_decimal}
 use Rattle.std.proofs.lemmas.List.Folds.{list_all-append}
 use Rattle.std.proofs.lemmas.List.Sums.{fold-append}
 use Rattle.plant_record.specs.Names.{is_digit}
+use Rattle.plant_record.proofs.lemmas.Spelling.{one_digit, decimal_digits}
 use Rattle.row_reading.specs.Numbers.{IsNumberTo}
 use Rattle.row_runs.proofs.Cuts.{one_cut, not_both}
 
 -- ---- digits
-
-one_digit : (d : ℕ) → d < 10 → is_digit (48 + d) ≡ true
-one_digit d lt = grind (arith, nat_tests)
-
-pub all_digits : (n : ℕ) → n < 2 ^ 64 → list_all is_digit (decimal n) ≡ true
-all_digits n lt = decimal_by_steps (λ (m : ℕ) (ds : List ℕ). list_all is_digit ds ≡ true) one more n lt
-  where
-    one : (m : ℕ) → m < 10 → list_all is_digit ((48 + m) ∷ []) ≡ true
-    one m small = rw (one_digit m small) refl
-
-    more : (m : ℕ) (ds : List ℕ) → 10 ≤ m → list_all is_digit ds ≡ true → list_all is_digit (ds ++ ((48 + m % 10) ∷ [])) ≡ true
-    more m ds large h = list_all-append is_digit ds ((48 + m % 10) ∷ []) ∙ rw (h, one_digit (m % 10) (omega arith)) refl
 
 -- a number with one digit more
 pub one_more : (v d : ℕ) (rest : List ℕ) → 0 < v → d < 10 → v < 2 ^ 32 → decimal v ++ (48 + d) ∷ rest ≡ decimal (v * 10 + d) ++ rest
@@ -85,7 +73,7 @@ read_back n lt = decimal_by_steps (λ (m : ℕ) (ds : List ℕ). value_of 0 ds �
 -- digits of a number at the front are no more than the number
 pub no_more : (m n s : ℕ) (b r : List ℕ) → m < 2 ^ 64 → n < 2 ^ 64 → is_digit s ≡ false → decimal m ++ b ≡ decimal n ++ s ∷ r → m ≤ n
 no_more m n s b r hm hn e at =
-    let on = goes_on (decimal m) (decimal n) b r s (all_digits m hm) e at in
+    let on = goes_on (decimal m) (decimal n) b r s (decimal_digits m hm) e at in
     let whole = ap (value_of 0) on.1 ∙ fold-append tens 0 (decimal m) on.0 in
     omega (arith, read_back m hm, read_back n hn, whole, grows (value_of 0 (decimal m)) on.0)
 
@@ -93,7 +81,7 @@ no_more m n s b r hm hn e at =
 
 pub one_number : (m n s : ℕ) (b r : List ℕ) → m < 2 ^ 32 → n < 2 ^ 32 → is_digit s ≡ false → decimal m ++ s ∷ b ≡ decimal n ++ s ∷ r → (m ≡ n) × (b ≡ r)
 one_number m n s b r hm hn e at =
-    let cut = one_cut is_digit (decimal m) (decimal n) s s b r (all_digits m (omega arith)) (all_digits n (omega arith)) e e at in
+    let cut = one_cut is_digit (decimal m) (decimal n) s s b r (decimal_digits m (omega arith)) (decimal_digits n (omega arith)) e e at in
     (decimal_injective m n (omega arith) (omega arith) cut.front, cut.rest)
 
 -- ---- bytes with no number at their front
@@ -113,15 +101,15 @@ none_of_none s y h = omega (arith, ap length h.1, length-append (decimal y.0) (s
 
 pub none_without_digit : (s x : ℕ) (b : List ℕ) (y : ℕ × List ℕ) → is_digit x ≡ false → IsNumberTo s (x ∷ b) y → ⊥
 none_without_digit s x b y e h =
-    not_both (is_digit x) (first_is_digit (decimal y.0) b (s ∷ y.1) x (decimal_nonempty y.0 (omega (arith, h.0))) (all_digits y.0 (omega (arith, h.0))) h.1) e
+    not_both (is_digit x) (first_is_digit (decimal y.0) b (s ∷ y.1) x (decimal_nonempty y.0 (omega (arith, h.0))) (decimal_digits y.0 (omega (arith, h.0))) h.1) e
 
 -- after a number: nothing, another byte that is no digit, a digit after 0, or too many digits
 pub none_at_end : (v s : ℕ) (y : ℕ × List ℕ) (bytes : List ℕ) → v < 2 ^ 32 → is_digit s ≡ false → bytes ≡ decimal v ++ [] → IsNumberTo s bytes y → ⊥
-none_at_end v s y bytes lt e at h = only_digits (decimal v) (decimal y.0) y.1 s (all_digits v (omega arith)) e (sym (append-nil (decimal v)) ∙ sym at ∙ h.1)
+none_at_end v s y bytes lt e at h = only_digits (decimal v) (decimal y.0) y.1 s (decimal_digits v (omega arith)) e (sym (append-nil (decimal v)) ∙ sym at ∙ h.1)
 
 pub none_before_other : (v s x : ℕ) (b : List ℕ) (y : ℕ × List ℕ) (bytes : List ℕ) → v < 2 ^ 32 → is_digit s ≡ false → is_digit x ≡ false → (x ≡ s → ⊥) → bytes ≡ decimal v ++ x ∷ b → IsNumberTo s bytes y → ⊥
 none_before_other v s x b y bytes lt e n other at h =
-    other (one_cut is_digit (decimal v) (decimal y.0) x s b y.1 (all_digits v (omega arith)) (all_digits y.0 (omega (arith, h.0))) n e (sym at ∙ h.1)).stop
+    other (one_cut is_digit (decimal v) (decimal y.0) x s b y.1 (decimal_digits v (omega arith)) (decimal_digits y.0 (omega (arith, h.0))) n e (sym at ∙ h.1)).stop
 
 zero_alone : (s d n : ℕ) (b r : List ℕ) → n < 2 ^ 32 → d < 10 → is_digit s ≡ false → 48 ∷ (48 + d) ∷ b ≡ decimal n ++ s ∷ r → ⊥
 zero_alone s d zero b r lt small e at =

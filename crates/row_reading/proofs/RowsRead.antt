@@ -1,12 +1,12 @@
 -- Rows that lines tell, and the way along these lines.
-use Rattle.std.proofs.Common.{inl, inr, ◌≡◌, ℕ, suc, ◌+◌, ◌<◌, ◌≤◌, List, [], ◌∷◌, ◌++◌, length, map, Option, Some, None, refl, sym, ap, subst, ◌∙◌, append-nil, arith}
+use Rattle.std.proofs.Common.{inl, inr, ◌≡◌, ℕ, suc, ◌+◌, ◌≤◌, List, [], ◌∷◌, ◌++◌, length, map, Option, Some, None, refl, sym, ap, subst, ◌∙◌, append-nil, arith}
 use Rattle.std.specs.Prelude.{IfSome}
 use Rattle.std.specs.List.{AllByRecursion, concat}
-use Rattle.std.proofs.lemmas.Bool.{cases_lt}
-use Rattle.std.proofs.lemmas.List.{length-map, get_or_past}
+use Rattle.std.proofs.lemmas.List.{length-map}
 use Rattle.std.proofs.lemmas.List.Elements.{recursion_from_All, All-from_recursion, All-from_get_or}
 use Rattle.game_core.specs.declared.game.Row.{Row}
 use Rattle.game_core.specs.Solution.{row_of}
+use Rattle.game_core.proofs.Rows.{below_from_row}
 use Rattle.row_runs.specs.declared.run.Run.{Run}
 use Rattle.row_runs.specs.declared.run.TableVersion.{TableVersion}
 use Rattle.row_runs.specs.Runs.{MayLead, AreRuns, Gives, EncodeRows, runs_from}
@@ -23,15 +23,9 @@ use Rattle.row_reading.specs.inside.ReadRows.{AreRunsWithin, AreRead}
 -- ---- the runs of rows that rules allow
 
 module _ (rules : RowRules) (rows : List (Option Row)) (within : AreRowsWithin rules rows) where
-  row_stands : (c : ℕ) (row : Row) → row_of rows c ≡ Some row → c < length rows
-  row_stands c row is = elim (cases_lt c (length rows)) [
-    | inl lt ↦ lt
-    | inr past ↦ absurd (let none = sym (get_or_past rows c None past) ∙ is in cc)
-  ]
-
   run_of_row : (r : Run) → row_of rows r.last ≡ Some r.row → IsRunWithin rules r
   run_of_row r is =
-      let lt = row_stands r.last r.row is in
+      let lt = below_from_row rows r.last r.row is in
       record { cells = omega (arith, lt, within.one_each); row = subst (λ (o : Option Row). IfSome o (IsRowWithin rules)) is (within.each r.last None lt) }
 
   -- runs that give the rows' own

@@ -1,11 +1,11 @@
 //! Lines of rows: how many they are, each, and the end.
 
-ghost use Rattle.std.specs.Prelude.{◌≡◌, ◌≤◌, ℕ, List, ◌++◌, IfOk, IfErr};
+ghost use Rattle.std.specs.Prelude.{◌≤◌, IfOk, IfErr};
 ghost use Rattle.base.specs.declared.limits.TheConstants.{CELLS_LIMIT};
-ghost use Rattle.row_runs.specs.RunText.{count_line};
 ghost use Rattle.row_reading.specs.Found.{Finds};
 ghost use Rattle.row_reading.specs.RowsTexts.{AreRowsAt, IsRowsText};
 ghost use Rattle.row_reading.specs.RowSteps.{IsRowRefused, IsRunRefused, IsRefusedAt};
+ghost use Rattle.row_reading.specs.inside.ReadRows.{IsCountAt};
 
 use crate::front::after_prefix;
 use crate::row_fault::RowFault;
@@ -63,7 +63,7 @@ pub fn take_rows(
 
 /// The number of row lines, which is at most this, and what stands after its line.
 fn take_count(bytes: &[u8], most: u32) -> Option<(u32, &[u8])>
-    ensures { Finds (λ r. (r.0, r.1.now)) (λ (y : ℕ × List ℕ). (y.0 ≤ most) × (bytes.now ≡ count_line y.0 ++ y.1)) result }
+    ensures { Finds (λ r. (r.0, r.1.now)) (IsCountAt most bytes.now) result }
 {
     let number = after_prefix(bytes, b"rows ")?;
     let (count, after) = take_number(number, b'\n')?;

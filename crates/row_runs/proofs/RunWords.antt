@@ -3,13 +3,13 @@ use Rattle.std.proofs.Common.{◌≡◌, ℕ, ◌+◌, ◌%◌, ◌^◌, ◌<◌
 use Rattle.std.specs.Prelude.{codes, ◌||◌, IfSome}
 use Rattle.std.specs.List.{All, AllByRecursion, list_all}
 use Rattle.std.specs.Fmt.{decimal}
-use Rattle.std.proofs.lemmas.Bool.{cases_lt, and_parts}
+use Rattle.std.proofs.lemmas.Bool.{and_parts}
 use Rattle.std.proofs.lemmas.Bool.Decides.{nat_tests}
 use Rattle.std.proofs.lemmas.Fmt.{decimal_by_steps, decimal_injective}
-use Rattle.std.proofs.lemmas.List.{get_or_past}
 use Rattle.std.proofs.lemmas.List.Folds.{list_all-append}
 use Rattle.game_core.specs.declared.game.Row.{Row}
 use Rattle.game_core.specs.Solution.{row_of}
+use Rattle.game_core.proofs.Rows.{below_from_row}
 use Rattle.row_runs.specs.declared.row_format.RowFormat.TheVariants.{Both}
 use Rattle.row_runs.specs.declared.run.Run.{Run}
 use Rattle.row_runs.specs.declared.run.TableVersion.TheVariants.{Second}
@@ -133,15 +133,9 @@ pub record AreSpelledOut (rows : List (Option Row)) : Type 0 where
   pub each : All (λ row. IfSome row (λ (r : Row). (r.rank < 2 ^ 64) × (r.input < 2 ^ 64))) rows
 
 module _ (rows : List (Option Row)) (h : AreSpelledOut rows) where
-  row_stands : (c : ℕ) (row : Row) → row_of rows c ≡ Some row → c < length rows
-  row_stands c row is = elim (cases_lt c (length rows)) [
-    | inl lt ↦ lt
-    | inr past ↦ absurd (let none = sym (get_or_past rows c None past) ∙ is in cc)
-  ]
-
   run_spelled : (r : Run) → r.first ≤ r.last → row_of rows r.last ≡ Some r.row → IsSpelledOut r
   run_spelled r some is =
-      let lt = row_stands r.last r.row is in
+      let lt = below_from_row rows r.last r.row is in
       let few = h.few in
       let numbers = subst (λ (o : Option Row). IfSome o (λ (r : Row). (r.rank < 2 ^ 64) × (r.input < 2 ^ 64))) is (h.each r.last None lt) in
       record { first = omega (arith, lt, few, some); last = omega (arith, lt, few); rank = numbers.0; input = numbers.1 }

@@ -1,12 +1,13 @@
 -- Runs of rows: in the first version one for each cell with a row, in the second one for each stretch of cells with
 -- one row, as long as it goes.
-use Rattle.std.specs.Prelude.{◌≡◌, ◌≢◌, ◌⊎◌, ℕ, suc, ◌<◌, ◌≤◌, ◌↔◌, Bool, ◌==◌, ◌&&◌, List, [], ◌∷◌, Option, Some, None, if◌then◌else◌}
+use Rattle.std.specs.Prelude.{◌≡◌, ◌≢◌, ◌⊎◌, ℕ, suc, ◌<◌, ◌≤◌, ◌↔◌, Bool, ◌==◌, ◌&&◌, List, [], ◌∷◌, drop, Option, Some, None, if◌then◌else◌}
 use Rattle.game_core.specs.declared.game.Row.{Row}
 use Rattle.game_core.specs.Solution.{row_of}
 use Rattle.row_runs.specs.declared.run.Run.{Run}
 use Rattle.row_runs.specs.declared.run.TableVersion.{TableVersion}
 use Rattle.row_runs.specs.declared.run.TableVersion.TheVariants.{First, Second}
 
+-- two rows have the same rank and the same input
 abbrev pub is_same_row : Row → Row → Bool
 is_same_row a b = (a.rank == b.rank) && (a.input == b.input)
 
@@ -23,6 +24,10 @@ abbrev pub runs_from : TableVersion → ℕ → List (Option Row) → List Run
 runs_from version c [] = []
 runs_from version c (None ∷ rows) = runs_from version (suc c) rows
 runs_from version c (Some row ∷ rows) = prepend_row version c row (runs_from version (suc c) rows)
+
+-- the runs of the second version that are left from a cell on
+abbrev pub runs_left : ℕ → List (Option Row) → List Run
+runs_left c rows = runs_from Second c (drop c rows)
 
 -- a run may stand right after another: its cells come later, and in the second version neighbours have different rows
 abbrev pub MayFollow : TableVersion → Run → Run → Type 0

@@ -1,10 +1,10 @@
 //! The runs of rows, one after the other.
 
-ghost use Rattle.std.specs.Prelude.{◌≡◌, ◌≢◌, ℕ, ◌+◌, ◌^◌, ◌<◌, ◌≤◌, [], ◌∷◌, length, drop, Some, None, IfSome};
+ghost use Rattle.std.specs.Prelude.{◌≡◌, ◌≢◌, ℕ, ◌+◌, ◌^◌, ◌<◌, ◌≤◌, [], ◌∷◌, length, Some, None, IfSome};
 ghost use Rattle.std.specs.Option.{IfNone};
 ghost use Rattle.game_core.specs.Solution.{row_of};
 ghost use Rattle.row_runs.specs.declared.run.TableVersion.TheVariants.{Second};
-ghost use Rattle.row_runs.specs.Runs.{runs_from};
+ghost use Rattle.row_runs.specs.Runs.{runs_from, runs_left};
 
 use crate::run::Run;
 use game_core::{Answer, Row};
@@ -19,14 +19,13 @@ pub struct Runs<'a> {
 }
 
 impl<'a> Model for Runs<'a> {
-    ghost use Rattle.std.specs.Prelude.{List, ◌≤◌, length, drop};
+    ghost use Rattle.std.specs.Prelude.{List, ◌≤◌, length};
     ghost use Rattle.row_runs.specs.declared.run.Run.{Run};
-    ghost use Rattle.row_runs.specs.declared.run.TableVersion.TheVariants.{Second};
-    ghost use Rattle.row_runs.specs.Runs.{runs_from};
+    ghost use Rattle.row_runs.specs.Runs.{runs_left};
 
     ghost Value = { List Run };
 
-    ghost view = { λ r. runs_from Second r.cell (drop r.cell r.answer.now) };
+    ghost view = { λ r. runs_left r.cell r.answer.now };
 
     ghost invariant = { λ r. r.cell ≤ length r.answer.now };
 }
@@ -68,11 +67,11 @@ pub fn count_runs(answer: &Answer) -> u32
 /// The first run from a cell on.
 fn next_run(answer: &Answer, from: u32) -> Option<Run>
     requires { from ≤ length answer.now }
-    ensures run { IfSome result (λ r. runs_from Second from (drop from answer.now) ≡ r ∷ runs_from Second (r.last + 1) (drop (r.last + 1) answer.now)) }
+    ensures run { IfSome result (λ r. runs_left from answer.now ≡ r ∷ runs_left (r.last + 1) answer.now) }
     ensures ahead { IfSome result (λ r. from ≤ r.last) }
     ensures last { IfSome result (λ r. r.last < length answer.now) }
     ensures fits { IfSome result (λ r. r.last + 1 < 2 ^ 32) }
-    ensures none { IfNone result (runs_from Second from (drop from answer.now) ≡ []) }
+    ensures none { IfNone result (runs_left from answer.now ≡ []) }
 {
     let (first, row) = next_row(answer, from)?;
     let last = last_of(answer, first, row);

@@ -1,10 +1,10 @@
 //! Devices in memory.
 
-ghost use Rattle.std.specs.Prelude.{◌≡◌, ◌<◌, ◌≤◌, ◌+◌, ◌-◌, ◌^◌, ◌↔◌, ◌⊎◌, [], true, Some, None, Ok, length, take, min, max, IsTrue, IsOk, IfOk, IfSome, IsErr, OnOk, OnErr};
+ghost use Rattle.std.specs.Prelude.{◌≡◌, ◌<◌, ◌≤◌, ◌+◌, ◌-◌, ◌^◌, ◌↔◌, [], true, Some, None, Ok, length, take, min, max, IsTrue, IsOk, IfOk, IfSome, IsErr, OnOk, OnErr};
 ghost use Rattle.std.specs.Io.KnownBytes.{Keeps};
 ghost use Rattle.std.specs.List.{Contains};
 ghost use Rattle.run_devices.specs.Devices.{next_count, Takes, Gains};
-ghost use Rattle.run_devices.specs.Memory.{MemoryLeft, MemoryTaken, is_none_listed, capacity_of};
+ghost use Rattle.run_devices.specs.Memory.{MemoryLeft, MemoryTaken, is_none_listed, sure_capacity, uncalled_sink, FailsAt, HasSameLimits};
 
 use crate::devices::{Failed, Sink, Source};
 use base::NoMemory;
@@ -147,7 +147,7 @@ impl MemorySink {
         at_once: usize,
         fails: Vec<u64>,
     ) -> Result<MemorySink, NoMemory>
-        ensures { IfOk result (λ s. s ≡ record { got = []; capacity = capacity; at_once = at_once; calls = 0; fails = fails.items; faults = 0 }) }
+        ensures { IfOk result (λ s. s ≡ uncalled_sink capacity at_once fails.items) }
     {
         Ok(MemorySink {
             got: Vec::with_capacity(alloc, capacity)?,
@@ -172,7 +172,7 @@ impl Sink for MemorySink {
 
     ghost faults = { λ s. s.faults };
 
-    ghost capacity = { λ s. capacity_of s.fails s.capacity s.got };
+    ghost capacity = { λ s. sure_capacity s };
 
     fn write(&mut self, piece: &[u8]) -> Result<usize, Failed>
         ensures bound { IfOk result (λ n. n ≤ length piece.now) }
@@ -182,13 +182,13 @@ impl Sink for MemorySink {
         ensures counted { OnOk result (self.new.faults ≡ self.old.faults) }
         ensures failed { OnErr result (self.new.faults ≡ next_count self.old.faults) }
         ensures never_falls { self.old.faults ≤ self.new.faults }
-        ensures capacity { 0 < length piece.now → length piece.now ≤ capacity_of self.old.fails self.old.capacity self.old.got → IsOk result }
-        ensures capacity_left { IfOk result (λ n. capacity_of self.old.fails self.old.capacity self.old.got ≤ capacity_of self.new.fails self.new.capacity self.new.got + n) }
+        ensures capacity { 0 < length piece.now → length piece.now ≤ sure_capacity self.old → IsOk result }
+        ensures capacity_left { IfOk result (λ n. sure_capacity self.old ≤ sure_capacity self.new + n) }
 
         ensures at_once { IfOk result (λ n. n ≤ max self.old.at_once 1) }
         ensures calls { self.new.calls ≡ next_count self.old.calls }
-        ensures same { (self.new.fails ≡ self.old.fails) × (self.new.capacity ≡ self.old.capacity) × (self.new.at_once ≡ self.old.at_once) }
-        ensures chosen { IsErr result ↔ (Contains self.old.fails self.new.calls ⊎ (self.old.capacity ≤ length self.old.got)) }
+        ensures same { HasSameLimits self.old self.new }
+        ensures chosen { IsErr result ↔ FailsAt self.old self.new.calls }
     {
         self.calls = self.calls.saturating_add(1);
         if self.fails.contains(&self.calls) || self.capacity <= self.got.len() {

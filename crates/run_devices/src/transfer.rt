@@ -1,9 +1,8 @@
 //! Reading a source to its end, and writing a whole text.
 
-ghost use Rattle.std.specs.List.{flat_map};
-ghost use Rattle.std.specs.Prelude.{◌≡◌, ◌≢◌, ◌<◌, ◌≤◌, ◌+◌, Ok, IfOk, IfErr, OnOk, OnErr, IsTrue, Err, length};
-ghost use Rattle.run_devices.specs.Devices.{next_count, TakesAtMost, GainsWhole, GainsPart, writing};
-ghost use Rattle.run_devices.specs.Transfers.{ReadUpTo, StopsBy};
+ghost use Rattle.std.specs.Prelude.{◌≡◌, ◌≢◌, ◌<◌, ◌≤◌, ◌+◌, Ok, IfOk, OnOk, OnErr, IsTrue, Err, length};
+ghost use Rattle.run_devices.specs.Devices.{next_count, TakesAtMost, GainsPart, writing};
+ghost use Rattle.run_devices.specs.Transfers.{ReadUpTo, WritesWhole, StopsShort, joined};
 ghost use Rattle.run_devices.specs.declared.transfer.ReadFault.TheVariants.{Memory, Device};
 ghost use Rattle.run_devices.specs.declared.transfer.WriteFault.TheVariants as writes;
 
@@ -94,7 +93,7 @@ pub fn read_up_to<S: Source>(
 
 /// Writes a whole text; a failed write ends it.
 pub fn write_whole<O: Sink>(out: &mut O, text: &[u8]) -> Result<(), Failed>
-    ensures whole { OnOk result (GainsWhole (writing O.got O.faults O.capacity out.old out.new) text.now) }
+    ensures whole { WritesWhole result (writing O.got O.faults O.capacity out.old out.new) text.now }
     ensures part { OnErr result (GainsPart (writing O.got O.faults O.capacity out.old out.new) text.now) }
     ensures capacity { OnOk result (O.capacity out.old ≤ O.capacity out.new + length text.now) }
 {
@@ -109,8 +108,8 @@ pub fn write_whole<O: Sink>(out: &mut O, text: &[u8]) -> Result<(), Failed>
 
 /// Writes a text in pieces; a failed write ends it.
 pub fn write_pieces<O: Sink>(out: &mut O, pieces: &[&[u8]]) -> Result<(), Failed>
-    ensures whole { OnOk result (GainsWhole (writing O.got O.faults O.capacity out.old out.new) (flat_map (λ piece. piece.now) pieces.now)) }
-    ensures part { OnErr result (GainsPart (writing O.got O.faults O.capacity out.old out.new) (flat_map (λ piece. piece.now) pieces.now)) }
+    ensures whole { WritesWhole result (writing O.got O.faults O.capacity out.old out.new) (joined pieces.now) }
+    ensures part { OnErr result (GainsPart (writing O.got O.faults O.capacity out.old out.new) (joined pieces.now)) }
 {
     for piece in pieces {
         write_whole(out, piece)?;
@@ -125,8 +124,8 @@ pub fn write_buffered<O: Sink, T: Pieces>(
     out: &mut O,
     text: &mut T,
 ) -> Result<(), WriteFault>
-    ensures whole { OnOk result (GainsWhole (writing O.got O.faults O.capacity out.old out.new) (T.left text.old)) }
-    ensures stopped { IfErr result (λ fault. StopsBy fault (writing O.got O.faults O.capacity out.old out.new) (T.left text.old)) }
+    ensures whole { WritesWhole result (writing O.got O.faults O.capacity out.old out.new) (T.left text.old) }
+    ensures stopped { StopsShort result (writing O.got O.faults O.capacity out.old out.new) (T.left text.old) }
     ensures kept { result ≡ Err WriteFault.Memory → T.left text.new ≡ T.left text.old }
 {
     let mut buffer = zeros(alloc, WRITE_BUFFER)?;
@@ -148,7 +147,7 @@ fn write_through<O: Sink, T: Pieces>(
     buffer: &mut [u8],
 ) -> Result<(), Failed>
     requires { 0 < length buffer.old }
-    ensures whole { OnOk result (GainsWhole (writing O.got O.faults O.capacity out.old out.new) (T.left text.old)) }
+    ensures whole { WritesWhole result (writing O.got O.faults O.capacity out.old out.new) (T.left text.old) }
     ensures part { OnErr result (GainsPart (writing O.got O.faults O.capacity out.old out.new) (T.left text.old)) }
 {
     loop {

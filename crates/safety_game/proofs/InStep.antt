@@ -45,12 +45,13 @@ one_cut_to n v counter left = by_test (left == v)
     by_test true = times_single n counter
     by_test false = refl
 
+-- no cut counts none, whatever is left
+zero_either : (b : Bool) → ◌≡◌ {A = ℕ} (cond b 0 0) 0
+zero_either true = refl
+zero_either false = refl
+
 pub other_cut_to : (n v counter left : ℕ) → counter ≢ n → times n (cut_to v (cut counter left ∷ [])) ≡ 0
-other_cut_to n v counter left ne = one_cut_to n v counter left ∙ (ap (λ m. cond (left == v) m 0) (one_if_elsewhere counter n ne) ∙ none (left == v))
-  where
-    none : (b : Bool) → ◌≡◌ {A = ℕ} (cond b 0 0) 0
-    none true = refl
-    none false = refl
+other_cut_to n v counter left ne = one_cut_to n v counter left ∙ (ap (λ m. cond (left == v) m 0) (one_if_elsewhere counter n ne) ∙ zero_either (left == v))
 
 module _ (g : Game) where
   pub cell_cuts-append : (xs ys : List Cut) (c : ℕ) → cell_cuts_in g (xs ++ ys) c ≡ cell_cuts_in g xs c + cell_cuts_in g ys c
@@ -121,10 +122,6 @@ module _ (g : Game) (some' : 0 < g.inputs) (pair left : ℕ) (lt : pair < pairs_
             let none = other_cut_to q (length (successors_at g q) - 1) pair left (λ e. ne (sym e)) in
             none ∙ sym (ap (λ m. cond is_first m 0) (one_if_elsewhere q pair ne) ∙ zero_either is_first)
       ]
-    where
-      zero_either : (b : Bool) → ◌≡◌ {A = ℕ} (cond b 0 0) 0
-      zero_either true = refl
-      zero_either false = refl
 
   -- how many firsts of pairs of a cell that cut is
   firsts_at : (c : ℕ) → sum_by (firsts_in g (cut pair left ∷ [])) (pairs_at g c) ≡ cond is_first (times pair (pairs_at g c)) 0

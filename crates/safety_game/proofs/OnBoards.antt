@@ -2,7 +2,7 @@
 use Rattle.std.proofs.Common.{inl, inr, ◌≡◌, ℕ, ◌+◌, ◌-◌, ◌<◌, ◌≤◌, ◌==◌, ◌&&◌, nat_lt, true, false, eq-eqb, ne_eqb, List, [], ◌++◌, map, length, slice_index, arith, refl, sym, ◌∙◌, ap, subst}
 use Rattle.std.specs.List.{range_with_len}
 use Rattle.std.proofs.lemmas.Bool.{cases_eq, lt-ltb, le-ltb}
-use Rattle.std.proofs.lemmas.List.{get_or-append-add, get_or_append_left, get_or-map}
+use Rattle.std.proofs.lemmas.List.{get_or-append-add}
 use Rattle.std.proofs.lemmas.List.FromFn.{get_or-map-range_with_len}
 use Rattle.cell_counters.specs.declared.account.Account.{Account}
 use Rattle.cell_counters.specs.Accounts.{IsLawfulCounter, cut_count}
@@ -10,7 +10,7 @@ use Rattle.cell_counters.specs.BoardModels.{BoardModel, RootModel, IsLawful, new
 use Rattle.cell_counters.proofs.Consequences.{counts_down}
 use Rattle.game_core.specs.Game.{Game, IsGraph, pairs_of, successors_at}
 use Rattle.board_rounds.specs.Boards.{fans_of, for_each_cell}
-use Rattle.board_rounds.proofs.Boards.{fans_many, numbers_many}
+use Rattle.board_rounds.proofs.Boards.{fans_many, fan_of_pair, numbers_many}
 use Rattle.board_rounds.proofs.Graphs.{few_successors}
 use Rattle.safety_game.specs.KeepBoards.{enabled_at, counters_of, IsBoardOf}
 use Rattle.safety_game.specs.inside.KeepRounds.{IsLawfulFor, is_whole}
@@ -25,12 +25,8 @@ module _ (g : Game) (a : IsGraph g) (board : BoardModel) (of_game : IsBoardOf g 
   counters_of_board = ap length of_game.counters ∙ starts_many g a
 
   -- what the board began with
-  pub start_of_pair : (pair : ℕ) → pair < pairs_of g → slice_index board.starts pair ≡ length (successors_at g pair)
-  start_of_pair pair lt =
-      let n = a.game.one_list_each in
-      let pairs = fans_many g a in
-      ap (λ l. slice_index l pair) of_game.counters
-      ∙ (get_or_append_left (fans_of g) (for_each_cell g (enabled_at g)) 0 pair (omega arith) ∙ get_or-map length g.successors pair [] 0 (omega arith))
+  start_of_pair : (pair : ℕ) → pair < pairs_of g → slice_index board.starts pair ≡ length (successors_at g pair)
+  start_of_pair = fan_of_pair g a (for_each_cell g (enabled_at g)) board.starts of_game.counters
 
   pub start_of_cell : (c : ℕ) → c < g.cells → slice_index board.starts (pairs_of g + c) ≡ enabled_at g c
   start_of_cell c lt =

@@ -3,7 +3,6 @@ use Rattle.std.proofs.Common.{◌≡◌, ℕ, zero, suc, ◌+◌, ◌-◌, ◌/�
 use Rattle.std.specs.Prelude.{ℤ, pos, neg_ℤ, ◌+ℤ◌, ◌-ℤ◌, ◌*ℤ◌, slice_get}
 use Rattle.std.specs.Option.{option_map}
 use Rattle.std.proofs.lemmas.Int.{ints}
-use Rattle.std.proofs.lemmas.Option.{none-some, same_Some}
 use Rattle.std.proofs.lemmas.List.{length-append, length-map, length-take-le, get_or-map}
 use Rattle.fixed_expr.specs.DivExpr.{floor_div}
 use Rattle.interval_eval.specs.declared.interval.Interval.{Interval}
@@ -17,7 +16,7 @@ use Rattle.successor_box.specs.SuccessorBoxes.{noise_centre, ranges_between, cel
 use Rattle.successor_box.specs.inside.Area.{no_range, variables_of, offsets_of, moved_to}
 use Rattle.successor_box.proofs.CellValues.{vector_count}
 use Rattle.successor_box.proofs.Centres.{centre_count}
-use Rattle.successor_box.proofs.Ranges.{in_first, in_second, in_third}
+use Rattle.successor_box.proofs.Ranges.{in_first, in_second, in_third, noise_told}
 
 -- ---- intervals moved by numbers, one for each
 
@@ -156,14 +155,6 @@ same_cell_range p c u d v k same =
 
 -- ---- the offset of one variable
 
-noise_offset_at : (noises : List NoiseVariable) (k : ℕ) (r : ℤ × ℤ) (d : Interval) → option_map (λ (w : NoiseVariable). (w.low, w.high)) (slice_get noises k) ≡ Some r →
-    ◌≡◌ {A = Interval} (record { lo = r.0 -ℤ floor_div (r.0 +ℤ r.1) (pos 2); hi = r.1 -ℤ floor_div (r.0 +ℤ r.1) (pos 2) }) (get_or (map noise_offset noises) k d)
-noise_offset_at [] k r d is = absurd (none-some r is)
-noise_offset_at (w ∷ noises) zero r d is =
-    let e : (w.low, w.high) ≡ r = same_Some (w.low, w.high) r is in
-    ap (λ (q : ℤ × ℤ). record { lo = q.0 -ℤ floor_div (q.0 +ℤ q.1) (pos 2); hi = q.1 -ℤ floor_div (q.0 +ℤ q.1) (pos 2) }) (sym e)
-noise_offset_at (w ∷ noises) (suc k) r d is = noise_offset_at noises k r d is
-
 module _ (p : Description) (u k : ℕ) where
   abbrev state_offsets : List Interval
   state_offsets = map axis_offset (axes_of p)
@@ -184,5 +175,5 @@ module _ (p : Description) (u k : ℕ) where
   pub noise_offset_is : (r : ℤ × ℤ) → length p.states + length p.inputs ≤ k → option_map (λ (w : NoiseVariable). (w.low, w.high)) (slice_get p.noises (k - length p.states - length p.inputs)) ≡ Some r →
       ◌≡◌ {A = Interval} (record { lo = r.0 -ℤ floor_div (r.0 +ℤ r.1) (pos 2); hi = r.1 -ℤ floor_div (r.0 +ℤ r.1) (pos 2) }) (get_or (offsets_of p u) k no_range)
   noise_offset_is r le is =
-      noise_offset_at p.noises (k - length p.states - length p.inputs) r no_range is
+      noise_told Interval (λ (q : ℤ × ℤ). record { lo = q.0 -ℤ floor_div (q.0 +ℤ q.1) (pos 2); hi = q.1 -ℤ floor_div (q.0 +ℤ q.1) (pos 2) }) p.noises (k - length p.states - length p.inputs) r no_range is
       ∙ sym (in_third state_offsets no_offsets (map noise_offset p.noises) k no_range (length p.states) (length p.inputs) (states_offset p 0 u) (inputs_offset p 0 u) le)

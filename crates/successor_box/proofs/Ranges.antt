@@ -38,23 +38,15 @@ highs (s ∷ states) whole =
 
 -- ---- one variable
 
-noise_at : (noises : List NoiseVariable) (k : ℕ) (r : ℤ × ℤ) (d : Interval) → option_map (λ (w : NoiseVariable). (w.low, w.high)) (slice_get noises k) ≡ Some r →
-    ◌≡◌ {A = Interval} (record { lo = r.0; hi = r.1 }) (get_or (map (λ (w : NoiseVariable). record { lo = w.low; hi = w.high }) noises) k d)
-noise_at [] k r d is = absurd (none-some r is)
-noise_at (w ∷ noises) zero r d is = let e : (w.low, w.high) ≡ r = same_Some (w.low, w.high) r is in ap (λ (q : ℤ × ℤ). record { lo = q.0; hi = q.1 }) (sym e)
-noise_at (w ∷ noises) (suc k) r d is = noise_at noises k r d is
-
-noise_radius_at : (noises : List NoiseVariable) (k : ℕ) (r : ℤ × ℤ) (d : ℤ) → option_map (λ (w : NoiseVariable). (w.low, w.high)) (slice_get noises k) ≡ Some r →
-    r.1 -ℤ floor_div (r.0 +ℤ r.1) (pos 2) ≡ get_or (map (λ (w : NoiseVariable). w.high -ℤ noise_centre w) noises) k d
-noise_radius_at [] k r d is = absurd (none-some r is)
-noise_radius_at (w ∷ noises) zero r d is = let e : (w.low, w.high) ≡ r = same_Some (w.low, w.high) r is in ap (λ (q : ℤ × ℤ). q.1 -ℤ floor_div (q.0 +ℤ q.1) (pos 2)) (sym e)
-noise_radius_at (w ∷ noises) (suc k) r d is = noise_radius_at noises k r d is
+-- what is made of the range of a noise
+pub noise_told : (T : Type 0) (F : ℤ × ℤ → T) (noises : List NoiseVariable) (k : ℕ) (r : ℤ × ℤ) (d : T) → option_map (λ (w : NoiseVariable). (w.low, w.high)) (slice_get noises k) ≡ Some r → F r ≡ get_or (map (λ (w : NoiseVariable). F (w.low, w.high)) noises) k d
+noise_told T F [] k r d is = absurd (none-some r is)
+noise_told T F (w ∷ noises) zero r d is = ap F (sym (same_Some (w.low, w.high) r is))
+noise_told T F (w ∷ noises) (suc k) r d is = noise_told T F noises k r d is
 
 pub noise_centre_at : (noises : List NoiseVariable) (k : ℕ) (r : ℤ × ℤ) (d : ℤ) → option_map (λ (w : NoiseVariable). (w.low, w.high)) (slice_get noises k) ≡ Some r →
     floor_div (r.0 +ℤ r.1) (pos 2) ≡ get_or (map noise_centre noises) k d
-noise_centre_at [] k r d is = absurd (none-some r is)
-noise_centre_at (w ∷ noises) zero r d is = let e : (w.low, w.high) ≡ r = same_Some (w.low, w.high) r is in ap (λ (q : ℤ × ℤ). floor_div (q.0 +ℤ q.1) (pos 2)) (sym e)
-noise_centre_at (w ∷ noises) (suc k) r d is = noise_centre_at noises k r d is
+noise_centre_at noises k r d is = noise_told ℤ (λ (q : ℤ × ℤ). floor_div (q.0 +ℤ q.1) (pos 2)) noises k r d is
 
 -- the range of a noise of a plant
 pub record IsNoiseRange (r : ℤ × ℤ) : Type 0 where
@@ -142,7 +134,7 @@ module _ (p : Description) (u : ℕ) where
     -- the range of a noise
     noise_after : (k : ℕ) (r : ℤ × ℤ) (d : Interval) → length p.states + length p.inputs ≤ k → option_map (λ (w : NoiseVariable). (w.low, w.high)) (slice_get p.noises (k - length p.states - length p.inputs)) ≡ Some r →
         ◌≡◌ {A = Interval} (record { lo = r.0; hi = r.1 }) (get_or (front ++ inputs_in ++ noises_in) k d)
-    noise_after k r d le is = noise_at p.noises (k - length p.states - length p.inputs) r d is ∙ sym (in_third front inputs_in noises_in k d (length p.states) (length p.inputs) long inputs_count le)
+    noise_after k r d le is = noise_told Interval (λ (q : ℤ × ℤ). record { lo = q.0; hi = q.1 }) p.noises (k - length p.states - length p.inputs) r d is ∙ sym (in_third front inputs_in noises_in k d (length p.states) (length p.inputs) long inputs_count le)
 
   -- the range of an input in the domain
   pub input_range : (k : ℕ) (d : Interval) → length p.states ≤ k → k < length p.states + length p.inputs →
@@ -199,7 +191,7 @@ module _ (p : Description) (u : ℕ) where
   -- the radius of a noise
   pub noise_radius : (k : ℕ) (r : ℤ × ℤ) (d : ℤ) → length p.states + length p.inputs ≤ k → option_map (λ (w : NoiseVariable). (w.low, w.high)) (slice_get p.noises (k - length p.states - length p.inputs)) ≡ Some r →
       r.1 -ℤ floor_div (r.0 +ℤ r.1) (pos 2) ≡ get_or (radii_of p u) k d
-  noise_radius k r d le is = noise_radius_at p.noises (k - length p.states - length p.inputs) r d is ∙ sym (in_third cell_radii input_radii noise_radii k d (length p.states) (length p.inputs) radii_count zeros_count le)
+  noise_radius k r d le is = noise_told ℤ (λ (q : ℤ × ℤ). q.1 -ℤ floor_div (q.0 +ℤ q.1) (pos 2)) p.noises (k - length p.states - length p.inputs) r d is ∙ sym (in_third cell_radii input_radii noise_radii k d (length p.states) (length p.inputs) radii_count zeros_count le)
 
   pub all_radii_count : length (radii_of p u) ≡ variables_of p
   all_radii_count = omega (arith, length-append (cell_radii ++ input_radii) noise_radii, length-append cell_radii input_radii, radii_count, zeros_count, length-map p.noises (λ (w : NoiseVariable). w.high -ℤ noise_centre w))

@@ -1,5 +1,5 @@
 -- The deviations of a plant's equations, and where one leaves the range.
-use Rattle.std.specs.Prelude.{ℕ, ◌<◌, ℤ, pos, ◌+ℤ◌, ◌-ℤ◌, List, length, map}
+use Rattle.std.specs.Prelude.{ℕ, ◌<◌, ℤ, pos, ◌+ℤ◌, ◌-ℤ◌, List, length, map, Option, SomeIff}
 use Rattle.std.specs.List.{range_with_len}
 use Rattle.fixed_expr.specs.Range.{IsInRange}
 use Rattle.fixed_expr.specs.Expression.{Expression}
@@ -19,6 +19,10 @@ pub record HasNoOverflowOver (e : Expression) (area : List Interval) (radii : Li
   pub deviation : DeviationStaysInRange e area radii
   pub low_end : IsInRange ((span_of e area).lo -ℤ pos (deviation_of e area radii))
   pub high_end : IsInRange ((span_of e area).hi +ℤ pos (deviation_of e area radii))
+
+-- an answer is given exactly where no number leaves the range over an area, and then it is the deviation
+abbrev pub AnswersDeviation : Option ℤ → Expression → List Interval → List ℤ → Type 0
+AnswersDeviation answer e area radii = SomeIff answer (HasNoOverflowOver e area radii) (pos (deviation_of e area radii))
 
 -- an equation fits under an input vector, over the whole domain and the noises' ranges
 abbrev pub HasNoOverflowAt : Description → ℕ → ℕ → Type 0

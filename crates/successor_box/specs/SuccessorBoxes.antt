@@ -81,6 +81,7 @@ next_interval_of Two p c u e = intersection_of (growth_of p c u e) (span_of e (c
 abbrev pub low_corner : Description → ℕ → ℕ → List ℤ
 low_corner p c u = map (λ e. (next_interval_of p.version p c u e).lo) p.equations
 
+-- the upper ends of the successor box, one for each state
 abbrev pub high_corner : Description → ℕ → ℕ → List ℤ
 high_corner p c u = map (λ e. (next_interval_of p.version p c u e).hi) p.equations
 

@@ -2,10 +2,9 @@ ghost use Rattle.std.specs.Prelude.{◌≡◌, ◌<◌, ◌≤ℤ◌, [], length
 ghost use Rattle.std.specs.List.{All};
 ghost use Rattle.fixed_expr.specs.Expression.{expression_of};
 ghost use Rattle.fixed_expr.specs.Value.{IsWellFormed};
-ghost use Rattle.growth_bound.specs.Deviation.{deviation_of};
 ghost use Rattle.plant_record.specs.Description.{vectors_of};
 ghost use Rattle.plant_record.specs.Steps.{equation_at};
-ghost use Rattle.successor_box.specs.Deviations.{HasNoOverflowOver, HasNoOverflowAt, HasNoOverflow, deviations_of, deviations_along, IsOverflow};
+ghost use Rattle.successor_box.specs.Deviations.{AnswersDeviation, HasNoOverflowAt, HasNoOverflow, deviations_of, deviations_along, IsOverflow};
 ghost use Rattle.successor_box.specs.inside.Area.{AreRadii, IsOverflowAlong};
 ghost use Rattle.successor_box.specs.inside.Blocks.{deviation_along};
 
@@ -120,7 +119,7 @@ fn deviation_over(e: &Expr, area: &[Interval], radii: &[i128]) -> Option<i128>
     requires well_formed { IsWellFormed (expression_of e.now) (length area.now) }
     requires one_for_each { length radii.now ≡ length area.now }
     requires not_negative { All (λ r. pos 0 ≤ℤ r) radii.now }
-    ensures { SomeIff result (HasNoOverflowOver (expression_of e.now) area.now radii.now) (pos (deviation_of (expression_of e.now) area.now radii.now)) }
+    ensures { AnswersDeviation result (expression_of e.now) area.now radii.now }
 {
     let (ends, deviation) = span_and_deviation(e, area, radii)?;
     sub_in_range(ends.lo, deviation)?;

@@ -4,8 +4,9 @@
 //! status.
 #![tactic(auto)]
 
-ghost use Rattle.std.specs.Prelude.{◌≡◌, ◌↔◌, map, codes, IsTrue};
+ghost use Rattle.std.specs.Prelude.{◌≡◌, ◌↔◌, codes, IsTrue};
 ghost use Rattle.run_devices.specs.Devices.{reading, writing};
+ghost use Rattle.command_line.specs.Command.{as_words};
 ghost use Rattle.synth_cli.specs.inside.Program.{BeginWithLive, DoesAsAsked};
 
 use live_run::run_live;
@@ -50,7 +51,7 @@ fn carry_out<R: Threads + Wait + Sync, S: Source, O: Sink, E: Sink>(
     out: &mut O,
     err: &mut E,
 ) -> u8
-    ensures { DoesAsAsked (map (λ w. w.now) arguments.now) result (reading S.left S.faults S.is_sound source.old source.new) (writing O.got O.faults O.capacity out.old out.new) (writing E.got E.faults E.capacity err.old err.new) }
+    ensures { DoesAsAsked (as_words arguments.now) result (reading S.left S.faults S.is_sound source.old source.new) (writing O.got O.faults O.capacity out.old out.new) (writing E.got E.faults E.capacity err.old err.new) }
 {
     if asks_for_live(arguments) {
         run_live(rt, alloc, arguments, source, out, err)
@@ -61,7 +62,7 @@ fn carry_out<R: Threads + Wait + Sync, S: Source, O: Sink, E: Sink>(
 
 /// Whether the first word is `live`.
 fn asks_for_live(arguments: &[&str]) -> bool
-    ensures { IsTrue result ↔ BeginWithLive (map (λ w. w.now) arguments.now) }
+    ensures { IsTrue result ↔ BeginWithLive (as_words arguments.now) }
 {
     arguments.len() > 0 && is_live(arguments[0])
 }

@@ -49,7 +49,7 @@ ends_without_memory command source out within alone no_fault untouched = record 
 }
 
 -- there is no answer, and nothing is written
-pub ends_stopped : (command : Command) (stop : Stop) (source : Reading) (out : Writing) → IsStopped command stop source → IsUntouched out → IsRunOf command (outcome_of stop) source out None
+pub ends_stopped : (command : Command) (stop : Stop) (source : Reading) (out : Writing) → IsStopped command source stop → IsUntouched out → IsRunOf command (outcome_of stop) source out None
 ends_stopped command (stops.Refused refusal) source out h untouched = record {
   can_end = h.can_end;
   answered = λ e. absurd (let clash : Refused refusal ≡ Done = e in cc);

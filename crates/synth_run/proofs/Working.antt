@@ -50,7 +50,7 @@ worked_out command source read text whole fits answer = record {
     answers = of_front (λ bytes. IsAnswer command bytes (bytes_of text)) (most_read command) (bytes_for command source.before) read whole.front ((passes_on tables_are_short command).answers (bytes_of text)) answer
 
 -- what was read is refused so, or there was no memory
-pub stopped : (command : Command) (source : Reading) (read : List ℕ) (stop : Stop) → IsReadFor command read source → IsStopFor (IsRefusalFor command read) stop → IsStopped command stop source
+pub stopped : (command : Command) (source : Reading) (read : List ℕ) (stop : Stop) → IsReadFor command read source → IsStopFor (IsRefusalFor command read) stop → IsStopped command source stop
 stopped command source read (Refused refusal) whole h = record {
   can_end = can_refuse command read refusal h;
   not_write = λ e. cc;
@@ -119,7 +119,7 @@ pub is_unread : (command : Command) → Reads command → (source : Reading) (fa
     → (fault ≡ faults.Device → source.faults_after ≡ next_count source.faults_before)
     → ((fault ≡ faults.Device → ⊥) → source.faults_after ≡ source.faults_before)
     → (IsTrue source.is_sound → fault ≡ faults.Device → ⊥)
-    → IsStopped command (of_read fault) source
+    → IsStopped command source (of_read fault)
 is_unread command reads source faults.Device within failed stood sound = record {
   can_end = reads;
   not_write = λ e. cc;

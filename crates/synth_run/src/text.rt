@@ -1,13 +1,10 @@
 //! What a command writes, and how it is written.
 
-ghost use Rattle.std.specs.Prelude.{◌≡◌, OnOk, IfErr};
-ghost use Rattle.controller_table.specs.TableText.{written_version, table_text};
+ghost use Rattle.std.specs.Prelude.{◌≡◌};
 ghost use Rattle.controller_table.specs.Tables.{RowsFit};
-ghost use Rattle.temporal_texts.specs.StayText.{stay_text};
-ghost use Rattle.temporal_texts.specs.PatrolText.{patrol_text};
-ghost use Rattle.run_devices.specs.Devices.{GainsWhole, writing};
-ghost use Rattle.synth_run.specs.inside.Texts.{bytes_of, trace_of, IsReady, CanBeWritten};
-ghost use Rattle.run_devices.specs.Transfers.{StopsBy};
+ghost use Rattle.run_devices.specs.Devices.{writing};
+ghost use Rattle.synth_run.specs.inside.Texts.{bytes_of, table_bytes, upgraded_bytes, stay_bytes, patrol_bytes, trace_of, IsReady, CanBeWritten};
+ghost use Rattle.run_devices.specs.Transfers.{WritesWhole, StopsShort};
 
 use controller_table::{Table, TableWriter};
 use game_core::Answer;
@@ -76,8 +73,8 @@ impl Text {
     /// Writes all of it. All memory is taken before the first byte is written.
     pub fn write<O: Sink>(&self, alloc: Global, out: &mut O) -> Result<(), WriteFault>
         requires { CanBeWritten self.now }
-        ensures whole { OnOk result (GainsWhole (writing O.got O.faults O.capacity out.old out.new) (bytes_of self.now)) }
-        ensures stopped { IfErr result (λ fault. StopsBy fault (writing O.got O.faults O.capacity out.old out.new) (bytes_of self.now)) }
+        ensures whole { WritesWhole result (writing O.got O.faults O.capacity out.old out.new) (bytes_of self.now) }
+        ensures stopped { StopsShort result (writing O.got O.faults O.capacity out.old out.new) (bytes_of self.now) }
     {
         match self {
             Text::Table(solved) => write_table(alloc, solved, out),
@@ -95,8 +92,8 @@ impl Text {
 }
 
 fn write_bytes<O: Sink>(bytes: &[u8], out: &mut O) -> Result<(), WriteFault>
-    ensures whole { OnOk result (GainsWhole (writing O.got O.faults O.capacity out.old out.new) bytes.now) }
-    ensures stopped { IfErr result (λ fault. StopsBy fault (writing O.got O.faults O.capacity out.old out.new) bytes.now) }
+    ensures whole { WritesWhole result (writing O.got O.faults O.capacity out.old out.new) bytes.now }
+    ensures stopped { StopsShort result (writing O.got O.faults O.capacity out.old out.new) bytes.now }
 {
     write_whole(out, bytes)?;
     Ok(())
@@ -108,8 +105,8 @@ fn write_table<O: Sink>(
     out: &mut O,
 ) -> Result<(), WriteFault>
     requires { RowsFit solved.now.plant solved.now.rows }
-    ensures whole { OnOk result (GainsWhole (writing O.got O.faults O.capacity out.old out.new) (table_text written_version solved.now.plant solved.now.rows)) }
-    ensures stopped { IfErr result (λ fault. StopsBy fault (writing O.got O.faults O.capacity out.old out.new) (table_text written_version solved.now.plant solved.now.rows)) }
+    ensures whole { WritesWhole result (writing O.got O.faults O.capacity out.old out.new) (table_bytes solved.now) }
+    ensures stopped { StopsShort result (writing O.got O.faults O.capacity out.old out.new) (table_bytes solved.now) }
 {
     let Ok(mut writer) = TableWriter::new(alloc, &solved.plant, &solved.rows) else {
         return Err(WriteFault::Memory);
@@ -119,8 +116,8 @@ fn write_table<O: Sink>(
 
 /// Writes a table that was read.
 fn write_upgraded<O: Sink>(alloc: Global, table: &Table, out: &mut O) -> Result<(), WriteFault>
-    ensures whole { OnOk result (GainsWhole (writing O.got O.faults O.capacity out.old out.new) (table_text written_version table.now.plant table.now.rows)) }
-    ensures stopped { IfErr result (λ fault. StopsBy fault (writing O.got O.faults O.capacity out.old out.new) (table_text written_version table.now.plant table.now.rows)) }
+    ensures whole { WritesWhole result (writing O.got O.faults O.capacity out.old out.new) (upgraded_bytes table.now) }
+    ensures stopped { StopsShort result (writing O.got O.faults O.capacity out.old out.new) (upgraded_bytes table.now) }
 {
     let Ok(mut writer) = TableWriter::of(alloc, table) else {
         return Err(WriteFault::Memory);
@@ -144,8 +141,8 @@ fn write_trace<O: Sink>(
     out: &mut O,
 ) -> Result<(), WriteFault>
     requires { IsReady simulation.now }
-    ensures whole { OnOk result (GainsWhole (writing O.got O.faults O.capacity out.old out.new) (trace_of simulation.now)) }
-    ensures stopped { IfErr result (λ fault. StopsBy fault (writing O.got O.faults O.capacity out.old out.new) (trace_of simulation.now)) }
+    ensures whole { WritesWhole result (writing O.got O.faults O.capacity out.old out.new) (trace_of simulation.now) }
+    ensures stopped { StopsShort result (writing O.got O.faults O.capacity out.old out.new) (trace_of simulation.now) }
 {
     write_buffered(alloc, out, &mut simulation.writer())
 }
@@ -155,8 +152,8 @@ fn write_stay<O: Sink>(
     solved: &SolvedPlant<Answer>,
     out: &mut O,
 ) -> Result<(), WriteFault>
-    ensures whole { OnOk result (GainsWhole (writing O.got O.faults O.capacity out.old out.new) (stay_text solved.now.plant solved.now.rows)) }
-    ensures stopped { IfErr result (λ fault. StopsBy fault (writing O.got O.faults O.capacity out.old out.new) (stay_text solved.now.plant solved.now.rows)) }
+    ensures whole { WritesWhole result (writing O.got O.faults O.capacity out.old out.new) (stay_bytes solved.now) }
+    ensures stopped { StopsShort result (writing O.got O.faults O.capacity out.old out.new) (stay_bytes solved.now) }
 {
     let Ok(mut writer) = StayWriter::new(alloc, &solved.plant, &solved.rows) else {
         return Err(WriteFault::Memory);
@@ -169,8 +166,8 @@ fn write_patrol<O: Sink>(
     solved: &SolvedPlant<PatrolRows>,
     out: &mut O,
 ) -> Result<(), WriteFault>
-    ensures whole { OnOk result (GainsWhole (writing O.got O.faults O.capacity out.old out.new) (patrol_text solved.now.plant solved.now.rows)) }
-    ensures stopped { IfErr result (λ fault. StopsBy fault (writing O.got O.faults O.capacity out.old out.new) (patrol_text solved.now.plant solved.now.rows)) }
+    ensures whole { WritesWhole result (writing O.got O.faults O.capacity out.old out.new) (patrol_bytes solved.now) }
+    ensures stopped { StopsShort result (writing O.got O.faults O.capacity out.old out.new) (patrol_bytes solved.now) }
 {
     let Ok(mut writer) = PatrolWriter::new(alloc, &solved.plant, &solved.rows) else {
         return Err(WriteFault::Memory);

@@ -1,15 +1,15 @@
-ghost use Rattle.std.specs.Prelude.{◌≡◌, ℕ, List, map, IfSome, IfOk, IfErr};
+ghost use Rattle.std.specs.Prelude.{◌≡◌, ℕ, List, IfSome, IfOk, IfErr};
 ghost use Rattle.run_devices.specs.Devices.{Rose, reading, writing};
-ghost use Rattle.command_line.specs.Command.{IsOfCommand};
+ghost use Rattle.command_line.specs.Command.{IsOfCommand, as_words};
 ghost use Rattle.synth_run.specs.Sources.{bytes_for, most_read, NoReadFailed};
 ghost use Rattle.synth_run.specs.RunClauses.{Gives, IsRun, IsRunOf, IsAnswered, IsCompleteAnswer};
 ghost use Rattle.command_line.specs.declared.command.Command.{Command};
 ghost use Rattle.synth_run.specs.IsOutcomeFor.{IsRefusalFor};
 ghost use Rattle.synth_run.specs.inside.Causes.{IsStopFor};
 ghost use Rattle.synth_run.specs.inside.Making.{IsReadFor, IsMade};
-ghost use Rattle.synth_run.specs.inside.SolvedGames.{IsToBeLeft};
+ghost use Rattle.synth_run.specs.inside.SolvedGames.{HasItsGame};
 ghost use Rattle.synth_run.specs.inside.Texts.{CanBeWritten};
-ghost use Rattle.synth_run.specs.inside.Working.{IsWorkedOut, IsStopped, IsWrittenOut, IsLeftAfter};
+ghost use Rattle.synth_run.specs.inside.Working.{HasItsAnswer, IsStopped, IsWrittenOut, IsLeftAfter};
 
 use crate::commands::check::check;
 use crate::commands::demo::demo;
@@ -48,13 +48,13 @@ pub fn run<R: Threads + Sync, S: Source, O: Sink, E: Sink, G: Gate>(
     played: &mut Option<(Board, Root)>,
 ) -> u8
     // The headline: status 0 means that the answer was written whole, that of `synth` being the plant's one table.
-    ensures solved { (command : Command) → IsOfCommand (map (λ w. w.now) arguments.now) command → result ≡ 0 → IfSome (bytes_for command (S.left source.old)) (λ bytes. IsAnswered command bytes (writing O.got O.faults O.capacity out.old out.new)) }
+    ensures solved { (command : Command) → IsOfCommand (as_words arguments.now) command → result ≡ 0 → IfSome (bytes_for command (S.left source.old)) (λ bytes. IsAnswered command bytes (writing O.got O.faults O.capacity out.old out.new)) }
 
     // Every status: what was read, written and reported, which fault or refusal it tells, and what is left of the game.
-    ensures gives { IsRun (map (λ w. w.now) arguments.now) result (reading S.left S.faults S.is_sound source.old source.new) (writing O.got O.faults O.capacity out.old out.new) (writing E.got E.faults E.capacity err.old err.new) played.new }
+    ensures gives { IsRun (as_words arguments.now) result (reading S.left S.faults S.is_sound source.old source.new) (writing O.got O.faults O.capacity out.old out.new) (writing E.got E.faults E.capacity err.old err.new) played.new }
 
     // Where no device fails, only want of memory keeps a text from what it demands.
-    ensures complete { (command : Command) → IsOfCommand (map (λ w. w.now) arguments.now) command → NoReadFailed command (S.faults source.old) (S.faults source.new) → (Rose (O.faults out.old) (O.faults out.new) → ⊥) → IfSome (bytes_for command (S.left source.old)) (IsCompleteAnswer command result) }
+    ensures complete { (command : Command) → IsOfCommand (as_words arguments.now) command → NoReadFailed command (S.faults source.old) (S.faults source.new) → (Rose (O.faults out.old) (O.faults out.new) → ⊥) → IfSome (bytes_for command (S.left source.old)) (IsCompleteAnswer command result) }
 {
     let (outcome, solved) = outcome_of(rt, alloc, arguments, source, out, gate);
     *played = solved;
@@ -71,7 +71,7 @@ fn outcome_of<R: Threads + Sync, S: Source, O: Sink, G: Gate>(
     out: &mut O,
     gate: &G,
 ) -> (Outcome, Option<(Board, Root)>)
-    ensures { Gives (map (λ w. w.now) arguments.now) result.0 (reading S.left S.faults S.is_sound source.old source.new) (writing O.got O.faults O.capacity out.old out.new) result.1 }
+    ensures { Gives (as_words arguments.now) result.0 (reading S.left S.faults S.is_sound source.old source.new) (writing O.got O.faults O.capacity out.old out.new) result.1 }
 {
     match parse_command(arguments) {
         Some(command) => carry_out(rt, alloc, command, source, out, gate),
@@ -110,9 +110,9 @@ fn work_of<R: Threads + Sync, S: Source, G: Gate>(
     gate: &G,
 ) -> Result<Work, Stop>
     requires { (arguments : List (List ℕ)) × IsOfCommand arguments command }
-    ensures answer { IfOk result (λ work. IsWorkedOut command work.text (reading S.left S.faults S.is_sound source.old source.new)) }
-    ensures played { IfOk result (λ work. IsToBeLeft command work.played (reading S.left S.faults S.is_sound source.old source.new)) }
-    ensures stopped { IfErr result (λ stop. IsStopped command stop (reading S.left S.faults S.is_sound source.old source.new)) }
+    ensures answer { IfOk result (HasItsAnswer command (reading S.left S.faults S.is_sound source.old source.new)) }
+    ensures played { IfOk result (HasItsGame command (reading S.left S.faults S.is_sound source.old source.new)) }
+    ensures stopped { IfErr result (IsStopped command (reading S.left S.faults S.is_sound source.old source.new)) }
 {
     let bytes = read_for(alloc, &command, source)?;
     work_on(rt, alloc, command, &bytes, gate)
@@ -121,7 +121,7 @@ fn work_of<R: Threads + Sync, S: Source, G: Gate>(
 /// The bytes that a command works on. `demo` works on none, and leaves its source alone.
 fn read_for<S: Source>(alloc: Global, command: &Command, source: &mut S) -> Result<Vec<u8>, Stop>
     ensures read { IfOk result (λ bytes. IsReadFor command.now bytes.items (reading S.left S.faults S.is_sound source.old source.new)) }
-    ensures stopped { IfErr result (λ stop. IsStopped command.now stop (reading S.left S.faults S.is_sound source.old source.new)) }
+    ensures stopped { IfErr result (IsStopped command.now (reading S.left S.faults S.is_sound source.old source.new)) }
 {
     if let Command::Demo { .. } = command {
         return Ok(Vec::new(alloc));
@@ -150,7 +150,7 @@ fn work_on<R: Threads + Sync, G: Gate>(
     gate: &G,
 ) -> Result<Work, Stop>
     requires { (arguments : List (List ℕ)) × IsOfCommand arguments command }
-    ensures made { IfOk result (λ work. IsMade command bytes.now work.text work.played) }
+    ensures made { IfOk result (IsMade command bytes.now) }
     ensures refused { IfErr result (IsStopFor (IsRefusalFor command bytes.now)) }
 {
     match command {

@@ -23,9 +23,13 @@ pub record IsVerdict (IsSolution : Type 0) (IsRightCell : ℕ → Type 0) (cells
 abbrev pub IsReachVerdict : Game → List (Option Row) → Verdict → Type 0
 IsReachVerdict g rows verdict = IsVerdict (IsReachSolution g rows) (IsRight g rows) g.cells verdict
 
+-- a cell has the same row in two lists, or none in both
+abbrev pub HasSameRow : List (Option Row) → List (Option Row) → ℕ → Type 0
+HasSameRow rows others c = row_of rows c ≡ row_of others c
+
 -- a cell has the row that the keep solution gives it
 abbrev pub HasItsKeepRow : Game → List (Option Row) → ℕ → Type 0
-HasItsKeepRow g rows c = (solution : List (Option Row)) × IsKeepSolution g solution × (row_of rows c ≡ row_of solution c)
+HasItsKeepRow g rows c = (solution : List (Option Row)) × IsKeepSolution g solution × HasSameRow rows solution c
 
 -- the verdict on the rows of a keep table
 abbrev pub IsKeepVerdict : Game → List (Option Row) → Verdict → Type 0

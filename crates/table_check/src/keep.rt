@@ -1,9 +1,8 @@
 ghost use Rattle.std.specs.Prelude.{◌≡◌, length, IfOk};
-ghost use Rattle.game_core.specs.Solution.{row_of};
 ghost use Rattle.grid_quantiser.specs.Axes.{cells_of};
 ghost use Rattle.plant_record.specs.declared.aims.GoalKind.TheVariants.{Keep};
 ghost use Rattle.plant_record.specs.Description.{axes_of, vectors_of};
-ghost use Rattle.table_check.specs.Verdicts.{IsVerdict, IsKeepVerdict};
+ghost use Rattle.table_check.specs.Verdicts.{HasSameRow, IsVerdict, IsKeepVerdict};
 
 use crate::verdict::Verdict;
 use controller_table::Table;
@@ -27,7 +26,7 @@ pub fn check_keep<G: Graph>(alloc: Global, g: &G, t: &Table) -> Result<Verdict, 
 fn compare(t: &Table, answer: &Answer) -> Verdict
     requires table { length t.now.rows ≡ cells_of (axes_of t.now.plant) }
     requires answer { length answer.now ≡ cells_of (axes_of t.now.plant) }
-    ensures { IsVerdict (t.now.rows ≡ answer.now) (λ c. row_of t.now.rows c ≡ row_of answer.now c) (length answer.now) result }
+    ensures { IsVerdict (t.now.rows ≡ answer.now) (HasSameRow t.now.rows answer.now) (length answer.now) result }
 {
     for c in 0..answer.cells() {
         if t.row(c) != answer.row(c) {

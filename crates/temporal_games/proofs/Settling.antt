@@ -19,7 +19,7 @@ use Rattle.temporal_texts.specs.StayText.{IsStayText}
 use Rattle.temporal_texts.specs.Settles.{IsUnderWay, Holds, Settles}
 use Rattle.plant_game.proofs.GameLaws.{refines, clear_at, in_target, lands}
 use Rattle.temporal_texts.proofs.OneStayText.{one_stay_text}
-use Rattle.game_core.proofs.Rows.{below_from_row}
+use Rattle.game_core.proofs.Rows.{below_cells}
 
 clear_of : (g : Game) (c : ℕ) (t : Tree) → LeadsTo (IsHeld g) g t c → mark_of g c ≢ Obstacle
 clear_of g c Leaf l e = let goal : mark_of g c ≡ Goal = l 0 in cc
@@ -37,11 +37,8 @@ record Keeps (bytes : List ℕ) (p : Description) (g : Game) (rows : List (Optio
   solution : IsStaySolution g rows
 
 module _ {bytes : List ℕ} {p : Description} {g : Game} {rows : List (Option Row)} (k : Keeps bytes p g rows) where
-  cell_below : (c : ℕ) (row : Row) → row_of rows c ≡ Some row → c < g.cells
-  cell_below c row is = omega (arith, below_from_row rows c row is, k.solution.one_each)
-
   stayed : (c : ℕ) (row : Row) → row_of rows c ≡ Some row → IsStayedBy g c row
-  stayed c row is = subst (IsStayRow g c) is (k.solution.each c (cell_below c row is))
+  stayed c row is = subst (IsStayRow g c) is (k.solution.each c (below_cells rows g.cells c row k.solution.one_each is))
 
   -- a cell of a rank has a row of this rank
   ranked : (c n : ℕ) → c < g.cells → IsRankTo (IsHeld g) g c n → (row : Row) × (row_of rows c ≡ Some row) × (row.rank ≡ n)
@@ -59,7 +56,7 @@ module _ {bytes : List ℕ} {p : Description} {g : Game} {rows : List (Option Ro
   here : (x : List ℤ) (row : Row) (n : ℕ) → IsInDomain (axes_of p) x → row_of rows (cell_of (axes_of p) x) ≡ Some row → row.rank ≤ n → IsUnderWay p bytes x n
   here x row n inside is le =
       let c : ℕ = cell_of (axes_of p) x in
-      let lt = cell_below c row is in
+      let lt = below_cells rows g.cells c row k.solution.one_each is in
       let tree = (stayed c row is).rank.reached in
       let deep = tree.2 in (
         clear_at p g k.abstraction k.refined x inside lt (clear_of g c tree.0 tree.1),
@@ -71,7 +68,7 @@ module _ {bytes : List ℕ} {p : Description} {g : Game} {rows : List (Option Ro
   holds [] x row n inside is le noises = here x row n inside is le
   holds (w ∷ ws) x row n inside is le noises =
       let c : ℕ = cell_of (axes_of p) x in
-      let lt = cell_below c row is in
+      let lt = below_cells rows g.cells c row k.solution.one_each is in
       let by = stayed c row is in
       let next = lands p g k.abstraction k.refined x w row.input inside lt by.leads.0 noises.0 in
       let rank = All-contains (λ s. (rank : ℕ) × (rank ≤ row.rank - 1) × IsRankTo (IsHeld g) g s rank) (successors_of g c row.input) (cell_of (axes_of p) (step_of p x row.input w)) by.leads.1 next.1 in

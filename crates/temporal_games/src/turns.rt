@@ -3,7 +3,7 @@ ghost use Rattle.std.specs.Prelude.{◌≡◌, ℕ, ◌<◌, ◌≤◌, ◌^◌,
 ghost use Rattle.std.specs.Option.{IfNone};
 ghost use Rattle.plant_game.specs.Abstraction.{IsGameOf};
 ghost use Rattle.game_core.specs.Keep.{IsKeepSolution};
-ghost use Rattle.temporal_games.specs.inside.PatrolSearch.{PatrolProgress, marks_for, is_due, AreLaterReachRows, AreTurnMarks, IsAtStart, IsBefore, IsStableAt};
+ghost use Rattle.temporal_games.specs.inside.PatrolSearch.{PatrolProgress, is_due, AreLaterReachRows, AreTurnMarks, HasOneEach, HaveObstacles, IsAtStart, IsBefore, IsSolvedAt};
 ghost use Rattle.base.specs.declared.limits.TheConstants.{WORKERS_LIMIT};
 
 use crate::arrivals::Arrivals;
@@ -88,10 +88,10 @@ impl PatrolSearch {
         gate: &T,
     ) -> Result<(), NoMemory>
         requires turn { turn < length self.old.due }
-        requires one_each { (length self.old.marks ≡ length self.old.due) × (length self.old.rows ≡ length self.old.due) × (length self.old.due < 2 ^ 32) }
-        requires marks { (j : ℕ) → j < length self.old.due → AreTurnMarks (G.game g.now) (λ _. Unit {0}) (marks_for self.old.marks j) }
+        requires one_each { HasOneEach self.old }
+        requires marks { HaveObstacles (G.game g.now) self.old }
         requires workers { (1 ≤ workers) × (workers ≤ WORKERS_LIMIT) }
-        ensures { IfOk result (λ _. (before : ℕ) × IsBefore (length self.old.due) turn before × IsStableAt (G.game g.now) turn before self.old self.new) }
+        ensures { IfOk result (λ _. IsSolvedAt (G.game g.now) turn self.old self.new) }
     {
         let rows = later_reach_rows(rt, alloc, g, &self.arrivals[turn as usize], workers, gate)?;
         let before = turn_before(turn, self.due.len() as u32);

@@ -1,25 +1,23 @@
 -- The rules of a plant's patrol rows allow the rows that fit it, and no others.
-use Rattle.std.proofs.Common.{◌≡◌, ℕ, ◌^◌, ◌<◌, ◌≤◌, List, [], ◌∷◌, length, get_or, Option, Some, None, arith}
+use Rattle.std.proofs.Common.{◌≡◌, List, [], ◌∷◌, length, get_or, Option, Some, None}
 use Rattle.std.specs.Prelude.{IfSome}
 use Rattle.std.specs.List.{All, AllByRecursion}
 use Rattle.std.proofs.lemmas.List.Elements.{recursion_from_All, All-from_recursion}
 use Rattle.game_core.specs.declared.game.Row.{Row}
 use Rattle.grid_quantiser.specs.Axes.{cells_of}
-use Rattle.plant_record.specs.Description.{Description, axes_of, vectors_of}
+use Rattle.plant_record.specs.Description.{Description, axes_of}
 use Rattle.plant_record.specs.Limits.{IsWithinLimits}
+use Rattle.plant_record.proofs.lemmas.Limits.{small_cells, small_vectors}
 use Rattle.row_reading.specs.RowsTexts.{IsRowWithin, AreRowsWithin}
 use Rattle.row_reading.specs.inside.RunReading.{AreSmall}
 use Rattle.temporal_texts.specs.PatrolText.{IsPatrolRowOf, PatrolRowsFit}
 use Rattle.temporal_texts.specs.TurnSteps.{patrol_rules}
 
-below : (n : ℕ) → n ≤ 2 ^ 20 → n < 2 ^ 32
-below n le = omega (arith, le)
-
 pub small_rules : (p : Description) → IsWithinLimits p → AreSmall (patrol_rules p)
 small_rules p within = record {
-  cells = below (cells_of (axes_of p)) within.cells;
-  vectors = below (vectors_of p.inputs) (let few = within.vectors in omega (arith, few));
-  most_rank = below (cells_of (axes_of p)) within.cells;
+  cells = small_cells p within;
+  vectors = small_vectors p within;
+  most_rank = small_cells p within;
 }
 
 module _ (p : Description) where

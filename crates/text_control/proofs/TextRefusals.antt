@@ -1,5 +1,5 @@
 -- One reason, never a text and refused, never neither: by the text as which bytes begin.
-use Rattle.std.proofs.Common.{inl, inr, ◌≡◌, ℕ, List, [], ◌∷◌, ◌++◌, get_or, Option, refl, sym, ap, ◌∙◌, append_assoc, arith}
+use Rattle.std.proofs.Common.{inl, inr, ◌≡◌, ℕ, List, [], ◌∷◌, ◌++◌, get_or, Option, refl, sym, ap, subst, ◌∙◌, append_assoc, arith}
 use Rattle.std.specs.List.{concat}
 use Rattle.game_core.specs.declared.game.Row.{Row}
 use Rattle.plant_record.specs.Description.{Description}
@@ -16,8 +16,8 @@ use Rattle.temporal_texts.proofs.TextLaws as texts
 use Rattle.text_control.specs.declared.text_fault.TextFault.{TextFault}
 use Rattle.text_control.specs.declared.text_kind.TextKind.{TextKind}
 use Rattle.text_control.specs.declared.text_kind.TextKind.TheVariants.{Table, Stay, Patrol}
-use Rattle.text_control.specs.Texts.{TextModel, TellsAs, HasFirstLine, IsTextRefusedFor, fault_of_table, fault_of_patrol}
-use Rattle.text_control.specs.Laws.{OneTextRefusal, TextOrRefused, NoBytesAreNeither}
+use Rattle.text_control.specs.Texts.{TextModel, TellsAs, Tells, HasFirstLine, IsTextRefusedFor, fault_of_table, fault_of_patrol}
+use Rattle.text_control.specs.Laws.{ReadTextsTell, OneTextRefusal, TextOrRefused, NoBytesAreNeither}
 
 -- ---- first lines
 
@@ -47,6 +47,11 @@ apart : (bytes : List ℕ) → HasFirstLine stay_line bytes → HasFirstLine pat
 apart bytes s p = omega (arith, stay_first bytes s, patrol_first bytes p)
 
 -- ---- laws
+
+pub read_texts_tell : ReadTextsTell
+read_texts_tell bytes t (inl h) = subst (Tells bytes) (sym h.1) h.2.0
+read_texts_tell bytes t (inr (inl h)) = subst (Tells bytes) (sym h.1) h.2
+read_texts_tell bytes t (inr (inr h)) = subst (Tells bytes) (sym h.1) h.2
 
 pub one_text_refusal : OneTextRefusal
 one_text_refusal bytes f g (inl h) (inl k) = h.1.1 ∙ ap fault_of_table (texts.one_stay_refusal bytes h.1.0 k.1.0 h.1.2 k.1.2) ∙ sym k.1.1

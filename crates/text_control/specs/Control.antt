@@ -1,8 +1,8 @@
 -- What is to be done at a state by what a text tells, and by each text that tells it.
-use Rattle.std.specs.Prelude.{◌≡◌, ℕ, ℤ, pos, negsuc, List, length}
+use Rattle.std.specs.Prelude.{◌≡◌, ℕ, ◌<◌, ℤ, pos, negsuc, List, length}
 use Rattle.game_core.specs.declared.game.Row.{Row}
 use Rattle.plant_record.specs.declared.aims.GoalKind.{GoalKind}
-use Rattle.plant_record.specs.Description.{vector_of}
+use Rattle.plant_record.specs.Description.{vector_of, vectors_of}
 use Rattle.controller_table.specs.Choice.{HasRowAt, Applies, IsChoice, HasRank}
 use Rattle.temporal_texts.specs.StayText.{HasStayRow}
 use Rattle.temporal_texts.specs.PatrolText.{HasPatrolRow}
@@ -41,6 +41,10 @@ pub record HasArrived (t : TextModel) (x : List ℤ) : Type 0 where
 -- the state is outside the domain, or its cell has no row for the turn
 abbrev pub HasNoRow : TextModel → List ℤ → Type 0
 HasNoRow t x = (row : Row) → HasRowAt t.plant (due_rows t) x row → ⊥
+
+-- the row of the state's cell for the turn, whose input is one of the input vectors
+abbrev pub IsDueRow : TextModel → List ℤ → Row → Type 0
+IsDueRow t x row = HasRowAt t.plant (due_rows t) x row × (row.input < vectors_of t.plant.inputs)
 
 -- a reply, by the numbers in the inputs before and after it
 abbrev pub IsReply : TextModel → List ℤ → List ℤ → List ℤ → Reply → Type 0

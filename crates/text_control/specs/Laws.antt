@@ -13,7 +13,7 @@ use Rattle.plant_refine.specs.Drives.{Drives}
 use Rattle.plant_refine.specs.Stays.{Stays}
 use Rattle.text_control.specs.declared.text_kind.TextKind.TheVariants.{Table, Stay, Patrol}
 use Rattle.text_control.specs.declared.text_fault.TextFault.{TextFault}
-use Rattle.text_control.specs.Texts.{TextModel, Tells, IsTextRefusedFor}
+use Rattle.text_control.specs.Texts.{TextModel, Tells, IsReadFrom, IsTextRefusedFor}
 use Rattle.text_control.specs.Control.{IsRank}
 use Rattle.text_control.specs.Visits.{HasArrivedInTurn}
 use Rattle.text_control.specs.Loops.{LoopSample, moved_by, AlwaysAnswers, IsLoop, IsPatrolLoop}
@@ -21,6 +21,10 @@ use Rattle.text_control.specs.Loops.{LoopSample, moved_by, AlwaysAnswers, IsLoop
 -- of a patrol the plant has few enough turns
 abbrev pub HasFewEnoughTurns : TextModel → Type 0
 HasFewEnoughTurns t = t.kind ≡ Patrol → HasFewTurns t.plant
+
+-- bytes tell what is read from them
+abbrev pub ReadTextsTell : Type 0
+ReadTextsTell = (bytes : List ℕ) (t : TextModel) → IsReadFrom bytes t → Tells bytes t
 
 -- bytes have one reason to be none of the three texts
 abbrev pub OneTextRefusal : Type 0

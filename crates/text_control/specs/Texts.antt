@@ -60,15 +60,12 @@ TellsAs Patrol bytes t = IsPatrolText bytes t.plant t.turns
 abbrev pub Tells : List ℕ → TextModel → Type 0
 Tells bytes t = TellsAs t.kind bytes t
 
--- what bytes tell that were read: a table in its version, and of a patrol the first turn is due
-abbrev pub IsReadAs : TextKind → List ℕ → TextModel → Type 0
-IsReadAs (Table version) bytes t = IsTableIn version bytes t.plant (due_rows t)
-IsReadAs Stay bytes t = IsStayText bytes t.plant (due_rows t)
-IsReadAs Patrol bytes t = IsPatrolText bytes t.plant t.turns × (t.turn ≡ 0)
-
--- the same, of whatever kind
+-- this is all that the bytes tell, which are a table, in its version, a stay text or a patrol text
 abbrev pub IsReadFrom : List ℕ → TextModel → Type 0
-IsReadFrom bytes t = IsReadAs t.kind bytes t
+IsReadFrom bytes t =
+    ((table : TableModel) × (t ≡ of_table table) × IsTableIn table.version bytes table.plant table.rows)
+    ⊎ ((stay : StayModel) × (t ≡ of_stay stay) × IsStayText bytes stay.plant stay.rows)
+    ⊎ ((patrol : PatrolModel) × (t ≡ of_patrol patrol) × IsPatrolText bytes patrol.plant patrol.rows)
 
 -- a table's fault, or a stay text's
 abbrev pub fault_of_table : TableFault → TextFault

@@ -23,6 +23,10 @@ pub record HasArrivedInTurn (t : TextModel) (x : List ℤ) : Type 0 where
   pub row : Row
   pub next : HasRowAt t.plant (rows_for t.turns (turn_after t)) x row
 
+-- a turn begins at a state: the state is an arrival, and the turn is the one after that which is due
+abbrev pub BeginsAt : TextModel → List ℤ → ℕ → Type 0
+BeginsAt t x turn = HasArrivedInTurn t x × (turn ≡ turn_after t)
+
 -- the same text where another turn is due
 abbrev pub with_turn : TextModel → ℕ → TextModel
 with_turn t j = record { kind = t.kind; plant = t.plant; turns = t.turns; turn = j }

@@ -1,7 +1,6 @@
 //! The inputs at a state.
 
 ghost use Rattle.std.specs.Prelude.{◌≡◌, ℕ, ◌<◌, ◌↔◌, length, IsTrue, IsFalse};
-ghost use Rattle.plant_record.specs.declared.aims.GoalKind.TheVariants.{Reach};
 ghost use Rattle.plant_record.specs.Description.{vector_of, vectors_of};
 ghost use Rattle.plant_record.specs.Limits.{IsWithinLimits};
 ghost use Rattle.text_control.specs.Control.{AreSized, AppliesAs, IsReply, IsReplyByText};
@@ -56,7 +55,7 @@ fn apply(plant: &Plant, vector: u32, input: &mut [i64])
     requires sizes { length input.old ≡ length plant.now.inputs }
     ensures { input.new ≡ vector_of plant.now.inputs vector }
 {
-    let inputs = plant.input_list();
+    let inputs = plant.parts().variables.inputs.as_slice();
     let mut rest = vector as usize;
     for j in (0..inputs.len()).rev() {
         let values = inputs[j].values.as_slice();

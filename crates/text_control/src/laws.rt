@@ -1,6 +1,11 @@
 //! What holds of every text, and what one that keeps its promise does to a plant whose loop applies the answers.
 
-ghost use Rattle.text_control.specs.Laws.{OneTextRefusal, TextOrRefused, NoBytesAreNeither, ReachLoopsArrive, KeepLoopsGoOn, StayLoopsSettle, PatrolLoopsGoOn};
+ghost use Rattle.text_control.specs.Laws.{ReadTextsTell, OneTextRefusal, TextOrRefused, NoBytesAreNeither, ReachLoopsArrive, KeepLoopsGoOn, StayLoopsSettle, PatrolLoopsGoOn};
+
+/// Bytes tell what is read from them.
+pub fn read_texts_tell()
+    ensures { ReadTextsTell }
+{}
 
 /// Bytes have one reason to be none of the three texts.
 pub fn one_text_refusal()

@@ -8,6 +8,7 @@ ghost use Rattle.plant_record.specs.Limits.{IsWithinLimits};
 ghost use Rattle.temporal_texts.specs.PatrolText.{rows_for};
 ghost use Rattle.base.specs.declared.limits.TheConstants.{CELLS_LIMIT};
 ghost use Rattle.text_control.specs.Texts.{TurnsFit, of_table, of_stay, of_patrol};
+ghost use Rattle.text_control.specs.Visits.{with_turn};
 
 use crate::text_kind::TextKind;
 use base::NoMemory;
@@ -118,7 +119,7 @@ impl PackedText {
 
     /// Begins another turn.
     pub(crate) fn set_turn(&mut self, turn: u32)
-        ensures { self.new ≡ record { kind = self.old.kind; plant = self.old.plant; turns = self.old.turns; turn = turn } }
+        ensures { self.new ≡ with_turn self.old turn }
     {
         self.turn = turn;
     }

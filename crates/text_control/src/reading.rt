@@ -1,6 +1,6 @@
 //! Reads a text of any kind.
 
-ghost use Rattle.std.specs.Prelude.{◌≡◌, ◌≢◌, ◌++◌, ◌↔◌, IsTrue, IfOk, IfErr};
+ghost use Rattle.std.specs.Prelude.{◌≡◌, ◌≢◌, ◌↔◌, IsTrue, IfOk, IfErr};
 ghost use Rattle.text_control.specs.declared.text_fault.TextFault.TheVariants.{Memory};
 ghost use Rattle.text_control.specs.Texts.{IsReadFrom, HasFirstLine, IsTextRefusedFor};
 

@@ -1,10 +1,7 @@
 //! The row and the rank at a state.
 
-ghost use Rattle.std.specs.Prelude.{◌≡◌, ◌<◌, length, MatchOption};
-ghost use Rattle.plant_record.specs.Description.{vectors_of};
-ghost use Rattle.controller_table.specs.Choice.{HasRowAt};
-ghost use Rattle.text_control.specs.Texts.{due_rows};
-ghost use Rattle.text_control.specs.Control.{HasNoRow, IsRank, IsUnranked};
+ghost use Rattle.std.specs.Prelude.{◌≡◌, length, MatchOption};
+ghost use Rattle.text_control.specs.Control.{HasNoRow, IsDueRow, IsRank, IsUnranked};
 
 use crate::packed_text::PackedText;
 use crate::state_cell::cell_at;
@@ -13,7 +10,7 @@ use game_core::Row;
 /// The row of the state's cell for the turn that is due.
 pub fn row_at(text: &PackedText, state: &[i64]) -> Option<Row>
     requires { length state.now ≡ length text.now.plant.states }
-    ensures { MatchOption result (HasNoRow text.now state.now) (λ row. HasRowAt text.now.plant (due_rows text.now) state.now row × (row.input < vectors_of text.now.plant.inputs)) }
+    ensures { MatchOption result (HasNoRow text.now state.now) (IsDueRow text.now state.now) }
 {
     let cell = cell_at(text.plant(), state)?;
     text.row(text.turn(), cell)

@@ -6,7 +6,7 @@ ghost use Rattle.plant_record.specs.Description.{axes_of};
 ghost use Rattle.plant_record.specs.Limits.{IsWithinLimits};
 ghost use Rattle.temporal_texts.specs.Targets.{IsInTarget};
 ghost use Rattle.text_control.specs.declared.text_kind.TextKind.TheVariants.{Patrol};
-ghost use Rattle.text_control.specs.Visits.{turn_after, with_turn, HasArrivedInTurn, IsVisit, IsVisitByText};
+ghost use Rattle.text_control.specs.Visits.{with_turn, HasArrivedInTurn, BeginsAt, IsVisit, IsVisitByText};
 
 use crate::packed_text::PackedText;
 use crate::state_cell::cell_at;
@@ -46,7 +46,7 @@ pub fn begin_turn(text: &mut PackedText, turn: u32) -> bool
 /// The turn that begins at a state, if the state is an arrival.
 fn turn_from(text: &PackedText, state: &[i64]) -> Option<u32>
     requires { length state.now ≡ length text.now.plant.states }
-    ensures { MatchOption result (HasArrivedInTurn text.now state.now → ⊥) (λ turn. HasArrivedInTurn text.now state.now × (turn ≡ turn_after text.now)) }
+    ensures { MatchOption result (HasArrivedInTurn text.now state.now → ⊥) (BeginsAt text.now state.now) }
 {
     if !is_patrol(text.kind()) {
         return None;

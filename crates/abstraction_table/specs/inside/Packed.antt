@@ -19,6 +19,7 @@ abbrev pub first_in : Option CellBox → ℕ
 first_in None = NO_BOX
 first_in (Some b) = b.first
 
+-- the last cell of a box as it is packed, NO_BOX where there is no box
 abbrev pub last_in : Option CellBox → ℕ
 last_in None = NO_BOX
 last_in (Some b) = b.last

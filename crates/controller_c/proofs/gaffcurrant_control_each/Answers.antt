@@ -5,8 +5,8 @@ use Rattle.text_control.specs.Each.{IsReplyEach}
 use Rattle.controller_c.specs.Exports.{AreReplied}
 use Rattle.controller_c.proofs.gaffcurrant_control_each.Goals as goal
 
-pub returns-then-told-clause-replies : goal.returns-then-told-clause-replies
-returns-then-told-clause-replies c =
+pub returns-then-told-clause-told : goal.returns-then-told-clause-told
+returns-then-told-clause-told c =
     let states = c.args.states.now in
     let before = c.args.inputs.now in
     let after = c.control_each-told.new.inputs in

@@ -15,5 +15,6 @@ pub record IsFilledAs (fields : Inside) (f : Filling) : Type 0 where
 abbrev pub filling_of : Inside → Filling
 filling_of fields = record { rows = rows_between fields.block fields.starts.items fields.ends.items; lengths = gaps fields.starts.items }
 
+-- the fields are those of the filling that they hold
 abbrev pub IsFilling : Inside → Type 0
 IsFilling fields = IsFilledAs fields (filling_of fields)

@@ -13,5 +13,6 @@ pub record IsStoredAs (fields : Inside) (rows : List (List ℕ)) : Type 0 where
 abbrev pub rows_of : Inside → List (List ℕ)
 rows_of fields = rows_between fields.block fields.starts.items (drop 1 fields.starts.items)
 
+-- the fields are those of the rows that they hold
 abbrev pub IsRows : Inside → Type 0
 IsRows fields = IsStoredAs fields (rows_of fields)

@@ -3,15 +3,21 @@ use Rattle.std.specs.Prelude.{◌≡◌, ℕ, ◌<◌, ℤ, pos, List, slice_ind
 use Rattle.fixed_expr.specs.declared.lanes.TheConstants.{LANES}
 use Rattle.fixed_expr.specs.declared.lane_eval.LaneValues.{LaneValues}
 use Rattle.fixed_expr.specs.declared.lane_eval.LaneValues.TheVariants.{Alike, Listed}
+use Rattle.fixed_expr.specs.declared.operation.Binary.{Binary}
 use Rattle.fixed_expr.specs.Expression.{Expression}
 use Rattle.fixed_expr.specs.Value.{value_of}
 use Rattle.fixed_expr.specs.Lanes.{AreNarrow}
 use Rattle.fixed_expr.specs.LaneEval.{lane_of, StaysNarrowInLanes}
+use Rattle.fixed_expr.specs.inside.Listing.{combined_number}
 
 -- the value in lane k: one that is the same in all lanes, or that in the list
 abbrev pub value_in : LaneValues → List ℤ → ℕ → ℤ
 value_in (Alike z) lanes k = z
 value_in Listed lanes k = slice_index_or lanes k (pos 0)
+
+-- the numbers that a binary operation makes of two values, lane by lane
+abbrev pub combined_numbers : Binary → LaneValues → List ℤ → LaneValues → List ℤ → (ℕ → ℤ)
+combined_numbers binary a lanes b others = λ k. combined_number binary (value_in a lanes k) (value_in b others k)
 
 -- the values are these numbers, and all lie in 64 bits
 abbrev pub AreNumbers : LaneValues → List ℤ → (ℕ → ℤ) → Type 0

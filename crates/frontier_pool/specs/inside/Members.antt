@@ -1,11 +1,11 @@
 -- Members during a sweep.
-use Rattle.std.specs.Prelude.{◌≡◌, ℕ, ◌<◌, List, [], ◌++◌, map, length, slice_index_or, All, Option, None, Some}
+use Rattle.std.specs.Prelude.{◌≡◌, ℕ, ◌+◌, ◌<◌, List, [], ◌∷◌, ◌++◌, map, length, slice_index_or, All, Option, None, Some}
 use Rattle.std.specs.List.{flat_map}
 use Rattle.atomic_table.specs.Seated.{TableId}
 use Rattle.frontier_pool.specs.declared.member.Member.{Member}
 use Rattle.frontier_pool.specs.declared.member.Local.{Local}
 use Rattle.frontier_pool.specs.declared.rule.ClaimList.{ClaimList}
-use Rattle.frontier_pool.specs.inside.ClaimProtocol.{with_items, member_view, with_member, IsAlone}
+use Rattle.frontier_pool.specs.inside.ClaimProtocol.{no_items, with_items, member_view, with_member, IsAlone}
 use Rattle.frontier_pool.specs.inside.Gains.{SeatOf}
 
 -- the caller's seat, with these parts of so many that were made
@@ -13,6 +13,14 @@ pub record IsCaller (table : TableId) (made : ℕ) (claim_lists : List ClaimList
   pub worker : seat.table_id ≡ table
   pub first : seat.id ≡ 0
   pub me : seat.me ≡ (record { made = made; claim_lists = claim_lists }, [])
+
+-- the caller's seat, where so many members have their own and no part is taken back
+abbrev pub IsCallerOf : TableId → ℕ → SeatOf → Type 0
+IsCallerOf table members seat = IsCaller table (1 + members) (no_items ∷ []) seat
+
+-- the caller's seat, after these parts of the members' seats are taken back
+abbrev pub HasJoined : TableId → List ClaimList → SeatOf → SeatOf → Type 0
+HasJoined table claim_lists was now = IsCaller table was.me.0.made (no_items ∷ claim_lists) now
 
 -- the caller's seat, after one more member has its own
 pub record HasAddedWorkers (was now : SeatOf) : Type 0 where

@@ -22,6 +22,7 @@ pub record HasPositions (left order : List ℕ) (found : ℕ) : Type 0 where
 abbrev pub is_live : Game → ℕ → Bool
 is_live g pair = nat_lt 0 (length (successors_at g pair)) && not (is_obstacle (mark_of g (pair / g.inputs)))
 
+-- the entry of a pair says that it is safe
 abbrev pub is_safe : List Bool → ℕ → Bool
 is_safe safe pair = slice_index_or safe pair false
 
@@ -29,12 +30,17 @@ is_safe safe pair = slice_index_or safe pair false
 abbrev pub safe_pairs : Game → List Bool → ℕ → ℕ
 safe_pairs g safe c = count_by (λ u. is_safe safe (pair_of g c u)) (range_with_len 0 g.inputs)
 
+-- how many pairs of each cell are safe
+abbrev pub safe_counts : Game → List Bool → List ℕ
+safe_counts g safe = map (safe_pairs g safe) (range_with_len 0 g.cells)
+
 -- each live pair is safe, and no cell has fallen
 abbrev pub safe_at_first : Game → List Bool
 safe_at_first g = map (is_live g) (all_pairs g)
 
+-- the progress before any cell has fallen, with each live pair safe
 abbrev pub first_progress : Game → Progress
-first_progress g = record { safe = safe_at_first g; left = map (safe_pairs g (safe_at_first g)) (range_with_len 0 g.cells); queue = [] }
+first_progress g = record { safe = safe_at_first g; left = safe_counts g (safe_at_first g); queue = [] }
 
 -- a cell falls
 abbrev pub with_fall : ℕ → Progress → Progress

@@ -37,6 +37,7 @@ abbrev pub with_offer_to : Option Row → ℕ → Row → Progress → Progress
 with_offer_to None c row p = with_row c row p
 with_offer_to (Some old) c row p = record { left = p.left; rows = slice_set p.rows c (Some (better old row)); queue = p.queue }
 
+-- the progress after a row is offered to a cell
 abbrev pub with_offer : ℕ → Row → Progress → Progress
 with_offer c row p = with_offer_to (row_of p.rows c) c row p
 
@@ -106,6 +107,7 @@ pub record IsTold (g : Game) (cut : ℕ → ℕ → Bool) (top : ℕ) (rows : Li
   pub sound : (c : ℕ) (row : Row) → row_of rows c ≡ Some row → IsSoundRow g rows c row.rank row.input
   pub best : (c v m : ℕ) → c < g.cells → mark_of g c ≡ Plain → IsEnabled g c v → All (λ s. cut (pair_of g c v) s ≡ true) (successors_of g c v) → All (HasRowBelow rows m) (successors_of g c v) → HasRowAtMost rows m v c
 
+-- a search is in order: its queue, and for the successors that are cut its counts and its rows
 pub record IsSearch (g : Game) (cut : ℕ → ℕ → Bool) (head top : ℕ) (p : Progress) : Type 0 where
   pub queue : IsQueue head top p.rows p.queue
   pub counted : IsCounted g cut p.left

@@ -25,3 +25,7 @@ HasOverlap overlap (a ∷ axes) [] hi c = ⊥
 HasOverlap overlap (a ∷ axes) (x ∷ lo) [] c = ⊥
 HasOverlap overlap (a ∷ axes) (x ∷ lo) (y ∷ hi) c =
     HasOverlapIn overlap a x y (c / cells_of axes) × HasOverlap overlap axes lo hi (c % cells_of axes)
+
+-- a cell of the grid has such an overlap in each state
+abbrev pub IsCellWith : Overlap → List Axis → List ℤ → List ℤ → ℕ → Type 0
+IsCellWith overlap axes lo hi c = (c < cells_of axes) × HasOverlap overlap axes lo hi c

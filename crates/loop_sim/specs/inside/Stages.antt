@@ -14,9 +14,13 @@ use Rattle.loop_sim.specs.Noise.{generator, noises_at}
 use Rattle.loop_sim.specs.Trace.{has_arrived, trace_lines}
 use Rattle.base.specs.declared.limits.TheConstants.{SAMPLES_LIMIT}
 
+-- the lines from a sample on
+abbrev pub lines_from : TableModel → Sample → List SimLine
+lines_from t s = trace_lines t.plant t.rows s.seed s.left s.time s.x
+
 -- the lines that are still to come
 abbrev pub lines_left : TableModel → Stage → List SimLine
-lines_left t (Due s) = trace_lines t.plant t.rows s.seed s.left s.time s.x
+lines_left t (Due s) = lines_from t s
 lines_left t (Ending line) = line ∷ []
 lines_left t Over = []
 
@@ -26,10 +30,14 @@ lines_on t seed zero time x row = Stopped time ∷ []
 lines_on t seed (suc left) time x row =
     trace_lines t.plant t.rows seed left (suc time) (point_of (step_of t.plant x row.input (noises_at t.plant seed time)))
 
+-- the lines after the first line of this sample, which has a row and does not end the trace
+abbrev pub lines_past : TableModel → Sample → Row → List SimLine
+lines_past t s row = lines_on t s.seed s.left s.time s.x row
+
 -- the lines after the first line of a sample that has a row
 abbrev pub lines_after : TableModel → Sample → Row → List SimLine
 lines_after t s row =
-    if has_arrived t.plant.goal row then Arrived s.time ∷ [] else lines_on t s.seed s.left s.time s.x row
+    if has_arrived t.plant.goal row then Arrived s.time ∷ [] else lines_past t s row
 
 -- A sample before whose noises the generator is at this state.
 pub record IsSample (p : Description) (s : Sample) : Type 0 where

@@ -13,7 +13,8 @@ use Rattle.plant_record.specs.Names.{is_digit}
 use Rattle.plant_record.specs.Numbers.{IsLiteral}
 use Rattle.plant_reading.specs.Words.{IsSpellingOf}
 use Rattle.plant_reading.specs.inside.TokenKinds.{parse_literal}
-use Rattle.plant_reading.proofs.lemmas.NumberBytes.{decimal_digits, first_digit}
+use Rattle.plant_record.proofs.lemmas.Spelling.{decimal_digits}
+use Rattle.plant_reading.proofs.lemmas.NumberBytes.{first_digit}
 use Rattle.plant_reading.proofs.lemmas.NumberWords.{one_number}
 
 -- ---- tests

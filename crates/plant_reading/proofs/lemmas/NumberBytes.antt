@@ -1,14 +1,14 @@
 -- The bytes of numbers: none is a separator, and no number is a name.
-use Rattle.std.proofs.Common.{◌≡◌, ℕ, suc, ◌+◌, ◌%◌, ◌^◌, ◌<◌, true, false, eqb, leb, List, [], ◌∷◌, length, get_or, refl, subst, ◌∙◌, arith, ◌&&◌, inl, inr}
+use Rattle.std.proofs.Common.{◌≡◌, ℕ, suc, ◌^◌, ◌<◌, true, false, eqb, leb, List, [], ◌∷◌, length, get_or, refl, subst, arith, ◌&&◌, inl, inr}
 use Rattle.std.specs.Prelude.{ℤ, pos, negsuc}
 use Rattle.std.specs.List.{list_all}
 use Rattle.std.specs.Fmt.{decimal, signed_decimal}
-use Rattle.std.proofs.lemmas.Bool.{eqb-true, leb-true, le-leb, and_parts, and_from, or_cases, false_from_ne_true}
-use Rattle.std.proofs.lemmas.List.Folds.{list_all-append}
-use Rattle.std.proofs.lemmas.Fmt.{decimal_by_steps, decimal_nonempty}
+use Rattle.std.proofs.lemmas.Bool.{eqb-true, leb-true, and_parts, or_cases, false_from_ne_true}
+use Rattle.std.proofs.lemmas.Fmt.{decimal_nonempty}
 use Rattle.plant_reading.specs.Separators.{is_separator, is_word}
 use Rattle.plant_record.specs.Names.{is_digit, is_letter, IsName}
 use Rattle.plant_record.specs.Numbers.{IsLiteral}
+use Rattle.plant_record.proofs.lemmas.Spelling.{decimal_digits}
 
 separator_is : (b : ℕ) → is_separator b ≡ true → (P : ℕ → Type 0) → P b → (Q : Type 0) → (P 32 → Q) → (P 10 → Q) → Q
 separator_is b separates P h Q space feed =
@@ -25,15 +25,6 @@ digit_bytes [] h = refl
 digit_bytes (b ∷ w) h =
     let parts = and_parts (is_digit b) (list_all is_digit w) h in
     rw (digit_byte b parts.0) (digit_bytes w parts.1)
-
-is_digit_of : (n : ℕ) → n < 10 → is_digit (48 + n) ≡ true
-is_digit_of n lt = and_from (leb 48 (48 + n)) (leb (48 + n) 57) (le-leb _ _ (omega arith)) (le-leb _ _ (omega arith))
-
-pub decimal_digits : (n : ℕ) → n < 2 ^ 64 → list_all is_digit (decimal n) ≡ true
-decimal_digits =
-    decimal_by_steps (λ n ds. list_all is_digit ds ≡ true)
-    (λ n lt. and_from (is_digit (48 + n)) true (is_digit_of n lt) refl)
-    (λ n ds le h. list_all-append is_digit ds ((48 + n % 10) ∷ []) ∙ and_from (list_all is_digit ds) (is_digit (48 + n % 10) && true) h (and_from (is_digit (48 + n % 10)) true (is_digit_of (n % 10) (omega arith)) refl))
 
 pub number_word : (z : ℤ) → IsLiteral z → is_word (signed_decimal z) ≡ true
 number_word (pos n) lt = digit_bytes (decimal n) (decimal_digits n (omega arith))

@@ -1,11 +1,14 @@
 -- How an expression is read, from left to right: what a sum, a term or a factor at the front of the tokens is, and the tokens
 -- after it. No public clause names this.
-use Rattle.std.specs.Prelude.{◌≡◌, ℕ, zero, suc, ◌-◌, ◌+◌, ◌≤◌, ◌==◌, ◌&&◌, nat_lt, nat_le, int_lt, ℤ, pos, neg_ℤ, Bool, true, List, [], ◌∷◌, ◌++◌, length, Option, Some, None, Result, Ok, Err, if◌then◌else◌}
+use denote.Ref.{Bor}
+use Rattle.std.specs.Prelude.{◌≡◌, ℕ, zero, suc, ◌-◌, ◌+◌, ◌≤◌, max, ◌==◌, ◌&&◌, nat_lt, nat_le, int_lt, ℤ, pos, neg_ℤ, Bool, true, List, [], ◌∷◌, ◌++◌, length, Option, Some, None, Result, Ok, Err, if◌then◌else◌}
 use Rattle.plant_reading.specs.declared.line_fault.LineFault.{LineFault}
 use Rattle.plant_reading.specs.declared.line_fault.LineFault.TheVariants as faults
 use Rattle.plant_reading.specs.declared.token_kind.TokenKind.{TokenKind}
 use Rattle.plant_reading.specs.declared.token_kind.TokenKind.TheVariants as kind
-use Rattle.fixed_expr.specs.Expression.{Expression, NumExpr, VarExpr, NegExpr, AddExpr, SubExpr, MulExpr, DivExpr, MinExpr, MaxExpr, AbsExpr, LutExpr}
+use Rattle.fixed_expr.specs.declared.expr.Expr.{Expr}
+use Rattle.plant_reading.specs.declared.expression.Budget.{Budget}
+use Rattle.fixed_expr.specs.Expression.{Expression, expression_of, NumExpr, VarExpr, NegExpr, AddExpr, SubExpr, MulExpr, DivExpr, MinExpr, MaxExpr, AbsExpr, LutExpr}
 use Rattle.plant_record.specs.Equations.{nodes_of, depth_of}
 use Rattle.base.specs.declared.limits.TheConstants.{BRACKETS_LIMIT, DEPTH_LIMIT, NODES_LIMIT, NUMBER_LIMIT, POINTS_LIMIT}
 
@@ -21,6 +24,7 @@ Gives view (Err e) read = Fails e read
 
 -- one reading after another
 infixl 10 ◌>>=◌
+-- the second reading, by what the first one gave; nothing where that gave nothing
 abbrev pub ◌>>=◌ : {A B : Type 0} → Option A → (A → Option B) → Option B
 None >>= f = None
 (Some x) >>= f = f x
@@ -28,6 +32,18 @@ None >>= f = None
 -- an expression and the tokens after it
 abbrev pub Read : Type 0
 Read = Option (Expression × List TokenKind)
+
+-- what a function returned, an expression in memory and the tokens after it, is what reading gives
+abbrev pub GivesExpression : Result (Expr × Bor (List TokenKind)) LineFault → Read → Type 0
+GivesExpression result read = Gives (λ x. (expression_of x.0, x.1.now)) result read
+
+-- the same of two expressions and the tokens after them
+abbrev pub GivesPair : Result (Expr × Expr × Bor (List TokenKind)) LineFault → Option (Expression × Expression × List TokenKind) → Type 0
+GivesPair result read = Gives (λ x. (expression_of x.0, expression_of x.1, x.2.now)) result read
+
+-- how many nodes an operation on two expressions has, and how many of them lie one below another
+abbrev pub nodes_and_depth : Expression → Expression → ℕ × ℕ
+nodes_and_depth a b = (suc (nodes_of a + nodes_of b), suc (max (depth_of a) (depth_of b)))
 
 -- At most 256 nodes, and at most 64 of them one below another.
 pub record IsSmall (e : Expression) : Type 0 where
@@ -40,18 +56,22 @@ kept e = if nat_le (nodes_of e) NODES_LIMIT && nat_le (depth_of e) DEPTH_LIMIT t
 
 -- ---- the tokens after one that has to be there: a bracket, a comma, a colon
 
+-- the tokens after a bracket that opens, where one comes first
 abbrev pub after_open : List TokenKind → Option (List TokenKind)
 after_open (kind.Open ∷ ts) = Some ts
 after_open ts = None
 
+-- the tokens after a bracket that closes, where one comes first
 abbrev pub after_close : List TokenKind → Option (List TokenKind)
 after_close (kind.Close ∷ ts) = Some ts
 after_close ts = None
 
+-- the tokens after a comma, where one comes first
 abbrev pub after_comma : List TokenKind → Option (List TokenKind)
 after_comma (kind.Comma ∷ ts) = Some ts
 after_comma ts = None
 
+-- the tokens after a colon, where one comes first
 abbrev pub after_colon : List TokenKind → Option (List TokenKind)
 after_colon (kind.Colon ∷ ts) = Some ts
 after_colon ts = None
@@ -100,6 +120,10 @@ abbrev pub rises : List (ℤ × ℤ) → Bool
 rises [] = true
 rises (p ∷ []) = true
 rises (p ∷ q ∷ points) = int_lt p.0 q.0 && rises (q ∷ points)
+
+-- the table through points, where there are two and they rise
+abbrev pub curve_through : List (ℤ × ℤ) → Option (List (ℤ × ℤ))
+curve_through points = if nat_le 2 (length points) && rises points then Some points else None
 
 -- 2 to 32 points that rise
 unfoldable pub curve_at : List TokenKind → Option (List (ℤ × ℤ) × List TokenKind)
@@ -211,6 +235,14 @@ step m r (RestOfTerm b a ts) = after_term m r b a ts
 unfoldable pub read_at : ℕ → ℕ → Ask → Read
 read_at m zero q = None
 read_at m (suc n) q = step m (read_at m n) q
+
+-- a reader of parts with the calls that a budget leaves
+abbrev pub reader_in : Budget → Ask → Read
+reader_in budget = read_at budget.variables budget.calls
+
+-- what a part gives with the variables, the calls and the brackets of a budget
+abbrev pub read_in : {Y : Type 0} → Budget → (ℕ → (Ask → Read) → ℕ → Y) → Y
+read_in budget part = part budget.variables (reader_in budget) budget.brackets
 
 -- all tokens as one sum
 unfoldable pub whole : ℕ → List TokenKind → Option Expression

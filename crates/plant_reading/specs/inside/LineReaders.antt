@@ -18,18 +18,23 @@ use Rattle.base.specs.declared.limits.TheConstants.{VALUES_LIMIT}
 abbrev pub SpellsVersion : List (List ℕ) → PlantVersion → Type 0
 SpellsVersion words v = words ≡ version_word v ∷ []
 
+-- the words after `state` spell a state: its name, its range and the width of its cells
 abbrev pub SpellsState : List (List ℕ) → StateVariable → Type 0
 SpellsState words s = (words ≡ s.name ∷ signed_decimal s.low ∷ signed_decimal s.high ∷ signed_decimal s.width ∷ []) × IsStateVariable s
 
+-- the words after `input` spell an input variable: its name and its values
 abbrev pub SpellsInput : List (List ℕ) → InputVariable → Type 0
 SpellsInput words i = (words ≡ i.name ∷ map signed_decimal i.values) × IsInputVariable i
 
+-- the words after `noise` spell a noise: its name and its range
 abbrev pub SpellsNoise : List (List ℕ) → NoiseVariable → Type 0
 SpellsNoise words w = (words ≡ w.name ∷ signed_decimal w.low ∷ signed_decimal w.high ∷ []) × IsNoiseVariable w
 
+-- the words after a box's keyword spell the box: its two ends in each of n states
 abbrev pub SpellsBox : ℕ → List (List ℕ) → StateBox → Type 0
 SpellsBox n words b = (words ≡ end_words n b.low b.high) × IsStateBox n b
 
+-- the word after `goal` spells the goal
 abbrev pub SpellsGoal : List (List ℕ) → GoalKind → Type 0
 SpellsGoal words kind = words ≡ goal_word kind ∷ []
 

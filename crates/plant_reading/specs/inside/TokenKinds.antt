@@ -34,6 +34,7 @@ parse_symbol token =
     else (if bytes_eq token (codes ",") then Some kind.Comma
     else (if bytes_eq token (codes ":") then Some kind.Colon else None)))))))
 
+-- the kind of a function's name
 abbrev pub parse_function : List ℕ → Option TokenKind
 parse_function token =
     if bytes_eq token (codes "min") then Some kind.Min

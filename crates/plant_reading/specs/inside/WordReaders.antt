@@ -20,5 +20,6 @@ Finds view Fits (Err e) = Refuses Fits e
 abbrev pub StartsWithName : List (List ℕ) → List ℕ × List (List ℕ) → Type 0
 StartsWithName words y = IsName y.0 × (words ≡ y.0 ∷ y.1)
 
+-- a number at the front of the words, and the words after it
 abbrev pub StartsWithNumber : List (List ℕ) → ℤ × List (List ℕ) → Type 0
 StartsWithNumber words y = IsLiteral y.0 × (words ≡ signed_decimal y.0 ∷ y.1)

@@ -1,8 +1,9 @@
 -- A plant exceeds one limit at most, and none where it is within all.
-use Rattle.std.proofs.Common.{◌≡◌, refl}
+use Rattle.std.proofs.Common.{◌≡◌, ◌^◌, ◌<◌, refl, arith}
+use Rattle.grid_quantiser.specs.Axes.{cells_of}
 use Rattle.plant_record.specs.declared.limit_kind.LimitKind.{LimitKind}
 use Rattle.plant_record.specs.declared.limit_kind.LimitKind.TheVariants.{PlantText, TableText, Vectors, Cells, Pairs, Edges}
-use Rattle.plant_record.specs.Description.{Description}
+use Rattle.plant_record.specs.Description.{Description, axes_of, vectors_of}
 use Rattle.plant_record.specs.Limits.{IsWithinLimits, Exceeds}
 
 pub one_limit : (r : Description) (a b : LimitKind) → Exceeds r a → Exceeds r b → a ≡ b
@@ -36,3 +37,10 @@ exceeds_none p Vectors within e = e within.vectors
 exceeds_none p Cells within e = e.1 within.cells
 exceeds_none p Pairs within e = e.2 within.pairs
 exceeds_none p Edges within e = e
+
+-- the numbers of cells and of vectors have 32 bits
+pub small_cells : (p : Description) → IsWithinLimits p → cells_of (axes_of p) < 2 ^ 32
+small_cells p within = let few = within.cells in omega (arith, few)
+
+pub small_vectors : (p : Description) → IsWithinLimits p → vectors_of p.inputs < 2 ^ 32
+small_vectors p within = let few = within.vectors in omega (arith, few)

@@ -19,7 +19,7 @@ use Rattle.plant_record.specs.StateBoxes.{AreEnds, IsStateBox}
 use Rattle.plant_record.specs.declared.aims.StateBox.{StateBox}
 use Rattle.plant_writing.specs.ExpressionText.{expression_text, point_text}
 use Rattle.plant_record.specs.Spelling.{version_word, end_words, goal_word}
-use Rattle.plant_reading.proofs.lemmas.NumberBytes.{decimal_digits}
+use Rattle.plant_record.proofs.lemmas.Spelling.{decimal_digits}
 use Rattle.plant_reading.proofs.lemmas.OneScan.{name_byte_above}
 use Rattle.plant_reading.proofs.lemmas.PutTogether.{is_dark, is_printable, IsDarkWord, dark_printable, printable_both}
 

@@ -14,7 +14,7 @@ use Rattle.plant_reading.specs.Words.{is_blank}
 use Rattle.plant_record.specs.Equations.{HasLiterals}
 use Rattle.plant_writing.specs.ExpressionText.{expression_text, point_text}
 use Rattle.plant_reading.specs.SyntaxTrees.{Syntax, NumTree, VarTree, NegTree, AddTree, SubTree, MulTree, DivTree, MinTree, MaxTree, AbsTree, LutTree, ParenTree, signed_tokens, point_tokens, yield_of}
-use Rattle.plant_reading.proofs.lemmas.NumberBytes.{decimal_digits}
+use Rattle.plant_record.proofs.lemmas.Spelling.{decimal_digits}
 use Rattle.plant_reading.proofs.lemmas.OneScan.{scan, is_break, is_run, symbol_front, run_front, name_front, digits_front}
 
 -- ---- texts and their tokens

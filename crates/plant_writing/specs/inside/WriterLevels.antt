@@ -4,6 +4,7 @@ use Rattle.fixed_expr.specs.Expression.{Expression, NumExpr, VarExpr, NegExpr, A
 use Rattle.plant_writing.specs.declared.expression_writer.Level.{Level}
 use Rattle.plant_writing.specs.declared.expression_writer.Level.TheVariants as level
 
+-- the number of a level, from 1 for sums to 3 for factors
 abbrev pub number_of : Level → ℕ
 number_of level.Sum = 1
 number_of level.Product = 2

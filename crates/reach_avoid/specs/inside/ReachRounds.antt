@@ -80,6 +80,7 @@ pub record IsReached (g : Game) (rank : ℕ) (list : List ℕ) (accounts : List 
   pub cells : (c : ℕ) → c < g.cells → times c list ≡ one_if (rank_is rank (row_of (decoded_rows g accounts) c))
   pub within : All (λ c. c < g.cells) list
 
+-- a mark is that of a goal
 abbrev pub is_goal : Mark → Bool
 is_goal Goal = true
 is_goal Obstacle = false

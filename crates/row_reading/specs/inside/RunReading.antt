@@ -19,6 +19,7 @@ pub record IsSpelledRow (format : RowFormat) (row : Row) : Type 0 where
   pub input : row.input < 2 ^ 32
   pub tells : Determines format row
 
+-- a run that a line can spell: it has cells, and its numbers fit in 32 bits
 pub record IsSpelled (version : TableVersion) (format : RowFormat) (r : Run) : Type 0 where
   pub first : r.first < 2 ^ 32
   pub last : r.last < 2 ^ 32

@@ -16,9 +16,11 @@ traps = record {
   successors = (0 ∷ []) ∷ (1 ∷ 2 ∷ []) ∷ (2 ∷ []) ∷ [] ∷ [] ∷ [] ∷ (1 ∷ []) ∷ (2 ∷ []) ∷ (1 ∷ 4 ∷ []) ∷ (3 ∷ 4 ∷ []) ∷ (4 ∷ 5 ∷ []) ∷ (0 ∷ []) ∷ [];
 }
 
+-- the solution of the traps as a keep game
 abbrev pub traps_rows : List (Option Row)
 traps_rows = Some (record { rank = 0; input = 0 }) ∷ None ∷ None ∷ None ∷ None ∷ Some (record { rank = 0; input = 1 }) ∷ []
 
+-- the tally of the traps' keep solution
 abbrev pub traps_tally : Tally
 traps_tally = record { cuts = 16; offers = 0; rounds = 3 }
 

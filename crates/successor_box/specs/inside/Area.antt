@@ -19,6 +19,7 @@ variables_of p = length p.states + length p.inputs + length p.noises
 abbrev pub axis_along : Description → ℕ → Axis
 axis_along p i = slice_index_or (axes_of p) i no_axis
 
+-- the interval that has 0 alone
 abbrev pub no_range : Interval
 no_range = record { lo = pos 0; hi = pos 0 }
 

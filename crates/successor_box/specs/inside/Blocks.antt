@@ -38,6 +38,7 @@ next_interval_at p i c u = next_interval_of p.version p c u (equation_at p i)
 abbrev pub index_in_lane : Description → ℕ → List ℕ → ℕ → ℕ
 index_in_lane p k inputs lane = value_index p.inputs k (slice_index_or inputs lane 0)
 
+-- the value of an input variable in the input vector of a lane
 abbrev pub value_in_lane : Description → ℕ → List ℕ → ℕ → ℤ
 value_in_lane p k inputs lane = slice_index_or (vector_of p.inputs (slice_index_or inputs lane 0)) k (pos 0)
 

@@ -12,7 +12,7 @@ use Rattle.run_devices.specs.declared.transfer.ReadFault.{ReadFault}
 use Rattle.run_devices.specs.declared.transfer.ReadFault.TheVariants as reads
 use Rattle.command_line.specs.declared.outcome.Failure.TheVariants.{Read, Write, Memory}
 use Rattle.command_line.specs.declared.outcome.Refusal.{Refusal}
-use Rattle.command_line.specs.declared.outcome.Refusal.TheVariants.{Malformed, Overflow, Limit}
+use Rattle.command_line.specs.declared.outcome.Refusal.TheVariants.{Malformed, Overflow, Limit, NoRow}
 use Rattle.command_line.specs.declared.outcome.Outcome.{Outcome}
 use Rattle.command_line.specs.declared.outcome.Outcome.TheVariants as ends
 use Rattle.synth_run.specs.declared.stop.Stop.{Stop}
@@ -21,6 +21,10 @@ use Rattle.synth_run.specs.declared.stop.Stop.TheVariants.{Refused, Failed}
 -- there is no memory left
 abbrev pub without_memory : Stop
 without_memory = Failed Memory
+
+-- the table has no row where the trace would begin
+abbrev pub without_row : Stop
+without_row = Refused NoRow
 
 -- of the reader of plants
 abbrev pub of_plant : PlantFault → Stop

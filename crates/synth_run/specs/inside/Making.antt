@@ -1,9 +1,8 @@
 -- What a command makes of the bytes that it works on.
-use Rattle.std.specs.Prelude.{◌≡◌, ℕ, List, take, Option, IfSome}
-use Rattle.cell_counters.specs.BoardModels.{BoardModel, RootModel}
+use Rattle.std.specs.Prelude.{◌≡◌, ℕ, List, take, IfSome}
 use Rattle.command_line.specs.declared.command.Command.{Command}
 use Rattle.run_devices.specs.Devices.{Reading, TakesAtMost}
-use Rattle.synth_run.specs.declared.text.Text.{Text}
+use Rattle.synth_run.specs.declared.work.Work.{Work}
 use Rattle.synth_run.specs.Sources.{bytes_for, most_read, LeavesAlone}
 use Rattle.synth_run.specs.Headline.{IsAnswer}
 use Rattle.synth_run.specs.Played.{IsPlayed}
@@ -19,7 +18,7 @@ pub record IsReadFor (command : Command) (bytes : List ℕ) (source : Reading) :
   pub no_fault : source.faults_after ≡ source.faults_before
 
 -- A command has made its answer of bytes, and what it is to leave.
-pub record IsMade (command : Command) (bytes : List ℕ) (text : Text) (played : Option (BoardModel × RootModel)) : Type 0 where
-  pub can_be_written : CanBeWritten text
-  pub answer : IsAnswer command bytes (bytes_of text)
-  pub leaves : IsPlayed command bytes played
+pub record IsMade (command : Command) (bytes : List ℕ) (work : Work) : Type 0 where
+  pub can_be_written : CanBeWritten work.text
+  pub answer : IsAnswer command bytes (bytes_of work.text)
+  pub leaves : IsPlayed command bytes work.played

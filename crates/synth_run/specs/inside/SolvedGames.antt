@@ -6,6 +6,7 @@ use Rattle.plant_game.specs.PlantSolution.{Solves}
 use Rattle.abstraction_table.specs.Table.{game_of}
 use Rattle.command_line.specs.declared.command.Command.{Command}
 use Rattle.synth_run.specs.declared.solved_game.SolvedGame.{SolvedGame}
+use Rattle.synth_run.specs.declared.work.Work.{Work}
 use Rattle.run_devices.specs.Devices.{Reading}
 use Rattle.synth_run.specs.Sources.{bytes_for}
 use Rattle.synth_run.specs.Played.{IsBoardFor, IsReckonedFor, IsPlayed, LeavesAGame, SolvesNothing}
@@ -24,3 +25,7 @@ pub record IsToBeLeft (command : Command) (played : Option (BoardModel × RootMo
   pub leaves : IfSome (bytes_for command source.before) (λ bytes. IsPlayed command bytes played)
   pub leaves_a_game : LeavesAGame command played
   pub solves_nothing : SolvesNothing command played
+
+-- a work has what its command is to leave
+abbrev pub HasItsGame : Command → Reading → Work → Type 0
+HasItsGame command source work = IsToBeLeft command work.played source

@@ -15,6 +15,7 @@ use Rattle.synth_run.specs.IsOutcomeFor.{IsAnswerable, IsRefusalFor}
 use Rattle.synth_run.specs.Headline.{IsAnswer}
 use Rattle.synth_run.specs.RunClauses.{IsRead, CanEnd}
 use Rattle.synth_run.specs.declared.text.Text.{Text}
+use Rattle.synth_run.specs.declared.work.Work.{Work}
 use Rattle.synth_run.specs.inside.Causes.{outcome_of}
 use Rattle.synth_run.specs.inside.Texts.{bytes_of, CanBeWritten}
 
@@ -28,8 +29,12 @@ pub record IsWorkedOut (command : Command) (text : Text) (source : Reading) : Ty
   pub leaves_alone : LeavesAlone command source
   pub no_fault : source.faults_after ≡ source.faults_before
 
+-- the text of a work is that of the command's answer
+abbrev pub HasItsAnswer : Command → Reading → Work → Type 0
+HasItsAnswer command source work = IsWorkedOut command work.text source
+
 -- There is no answer, for this reason.
-pub record IsStopped (command : Command) (stop : Stop) (source : Reading) : Type 0 where
+pub record IsStopped (command : Command) (source : Reading) (stop : Stop) : Type 0 where
   pub can_end : CanEnd command (outcome_of stop)
   pub not_write : stop ≢ Failed Write
   pub cause : (refusal : Refusal) → stop ≡ Refused refusal → IfSome (bytes_for command source.before) (λ bytes. IsRefusalFor command bytes refusal)

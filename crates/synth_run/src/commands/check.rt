@@ -1,15 +1,13 @@
 //! From the bytes of a table's text to the verdict on its rows.
 
-ghost use Rattle.std.specs.Prelude.{◌≡◌, ℕ, IfOk, IfErr, OnOk};
+ghost use Rattle.std.specs.Prelude.{◌≡◌, IfOk, IfErr, OnOk};
 ghost use Rattle.command_line.specs.declared.command.Command.{Command};
-ghost use Rattle.command_line.specs.declared.outcome.Refusal.TheVariants as refusals;
-ghost use Rattle.table_check.specs.declared.verdict.Verdict.TheVariants.{Valid, Invalid};
+ghost use Rattle.table_check.specs.declared.verdict.Verdict.TheVariants.{Valid};
 ghost use Rattle.plant_record.specs.declared.aims.GoalKind.TheVariants.{Reach, Keep};
 ghost use Rattle.plant_game.specs.PlantSolution.{IsSolutionOf};
-ghost use Rattle.synth_run.specs.declared.stop.Stop.TheVariants.{Refused};
 ghost use Rattle.synth_run.specs.IsOutcomeFor.{IsRefusalFor, IsRowsRefusal, IsSolvable};
 ghost use Rattle.synth_run.specs.inside.Causes.{IsStopFor};
-ghost use Rattle.synth_run.specs.inside.Judging.{IsJudged};
+ghost use Rattle.synth_run.specs.inside.Judging.{IsJudged, IsStopBy};
 ghost use Rattle.synth_run.specs.inside.Making.{IsMade};
 
 use crate::abstraction::forward_of;
@@ -26,7 +24,7 @@ use table_check::{Verdict, check_keep, check_reach};
 
 /// That the bytes are the table of their plant.
 pub fn check<R: Threads + Sync>(rt: &R, alloc: Global, bytes: &[u8]) -> Result<Work, Stop>
-    ensures made { IfOk result (λ work. IsMade Command.Check bytes.now work.text work.played) }
+    ensures made { IfOk result (IsMade Command.Check bytes.now) }
     ensures refused { IfErr result (IsStopFor (IsRefusalFor Command.Check bytes.now)) }
 {
     let table = read_table(alloc, bytes)?;
@@ -47,7 +45,7 @@ fn check_table<R: Threads + Sync>(rt: &R, alloc: Global, table: &Table) -> Resul
 /// Refuses rows of which one isn't right, for the first such cell.
 fn refuse_invalid(verdict: Verdict) -> Result<(), Stop>
     ensures valid { OnOk result (verdict ≡ Valid) }
-    ensures invalid { IfErr result (λ stop. (cell : ℕ) × (verdict ≡ Invalid cell) × (stop ≡ Refused (refusals.Invalid cell))) }
+    ensures invalid { IfErr result (IsStopBy verdict) }
 {
     match verdict {
         Verdict::Valid => Ok(()),

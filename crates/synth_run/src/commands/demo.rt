@@ -32,7 +32,7 @@ pub fn demo<R: Threads + Sync, G: Gate>(
 ) -> Result<Work, Stop>
     requires number { IsDemoNumber number }
     requires workers { AreWorkers workers }
-    ensures made { IfOk result (λ work. (bytes : List ℕ) → IsMade (Command.Demo number workers) bytes work.text work.played) }
+    ensures made { IfOk result (λ work. (bytes : List ℕ) → IsMade (Command.Demo number workers) bytes work) }
     ensures memory { IfErr result (λ stop. stop ≡ without_memory) }
 {
     let forward = demo_forward(rt, alloc, number)?;

@@ -31,7 +31,7 @@ pub fn patrol<R: Threads + Sync, G: Gate>(
     gate: &G,
 ) -> Result<Work, Stop>
     requires { AreWorkers workers }
-    ensures made { IfOk result (λ work. IsMade (Command.Patrol workers) bytes.now work.text work.played) }
+    ensures made { IfOk result (IsMade (Command.Patrol workers) bytes.now) }
     ensures refused { IfErr result (IsStopFor (IsRefusalFor (Command.Patrol workers) bytes.now)) }
 {
     let (plant, forward) = forward_of_text(rt, alloc, bytes)?;

@@ -3,11 +3,9 @@
 ghost use Rattle.std.specs.Prelude.{◌≡◌, ◌≤◌, IfSome, IfNone, IfOk, IfErr, OnOk};
 ghost use Rattle.successor_box.specs.Deviations.{HasNoOverflow, deviations_of};
 ghost use Rattle.command_line.specs.declared.command.Command.{Command};
-ghost use Rattle.command_line.specs.declared.outcome.Refusal.TheVariants.{NoRow};
-ghost use Rattle.synth_run.specs.declared.stop.Stop.TheVariants.{Refused};
 ghost use Rattle.synth_run.specs.IsOutcomeFor.{IsRefusalFor, IsStartRefusal};
 ghost use Rattle.synth_run.specs.Traces.{HasRowFor, HasNoRowFor};
-ghost use Rattle.synth_run.specs.inside.Causes.{IsStopFor};
+ghost use Rattle.synth_run.specs.inside.Causes.{without_row, IsStopFor};
 ghost use Rattle.synth_run.specs.inside.Making.{IsMade};
 ghost use Rattle.base.specs.declared.limits.TheConstants.{SAMPLES_LIMIT};
 
@@ -30,7 +28,7 @@ pub fn sim(
     start: &StateNumbers,
 ) -> Result<Work, Stop>
     requires { samples ≤ SAMPLES_LIMIT }
-    ensures made { IfOk result (λ work. IsMade (Command.Sim samples seed start.now) bytes.now work.text work.played) }
+    ensures made { IfOk result (IsMade (Command.Sim samples seed start.now) bytes.now) }
     ensures refused { IfErr result (IsStopFor (IsRefusalFor (Command.Sim samples seed start.now) bytes.now)) }
 {
     let table = read_table(alloc, bytes)?;
@@ -59,7 +57,7 @@ fn slopes_of(alloc: Global, table: &Table, start: &StateNumbers) -> Result<Slope
 /// Refuses a start at which a table has no row.
 fn refuse_no_row(table: &Table, start: &StateNumbers) -> Result<(), Stop>
     ensures found { OnOk result (HasRowFor table.now.plant table.now.rows start.now) }
-    ensures none { IfErr result (λ stop. (stop ≡ Refused NoRow) × HasNoRowFor table.now.plant table.now.rows start.now) }
+    ensures none { IfErr result (λ stop. (stop ≡ without_row) × HasNoRowFor table.now.plant table.now.rows start.now) }
 {
     match row_for(table, start) {
         Some(_) => Ok(()),

@@ -25,7 +25,7 @@ pub fn synth<R: Threads + Sync, G: Gate>(
     gate: &G,
 ) -> Result<Work, Stop>
     requires { AreWorkers workers }
-    ensures made { IfOk result (λ work. IsMade (Command.Synth workers) bytes.now work.text work.played) }
+    ensures made { IfOk result (IsMade (Command.Synth workers) bytes.now) }
     ensures refused { IfErr result (IsStopFor (IsRefusalFor (Command.Synth workers) bytes.now)) }
 {
     let (plant, forward) = forward_of_text(rt, alloc, bytes)?;

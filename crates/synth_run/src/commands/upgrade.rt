@@ -15,7 +15,7 @@ use successor_box::find_slopes;
 
 /// The table that the bytes are, of a plant whose numbers stay in the range.
 pub fn upgrade(alloc: Global, bytes: &[u8]) -> Result<Work, Stop>
-    ensures made { IfOk result (λ work. IsMade Command.Upgrade bytes.now work.text work.played) }
+    ensures made { IfOk result (IsMade Command.Upgrade bytes.now) }
     ensures refused { IfErr result (IsStopFor (IsRefusalFor Command.Upgrade bytes.now)) }
 {
     let table = read_table(alloc, bytes)?;

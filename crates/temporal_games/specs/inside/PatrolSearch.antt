@@ -41,6 +41,14 @@ pub record AreTurnMarks (g : Game) (In : ℕ → Type 0) (marks : List Mark) : T
   pub inside : (c : ℕ) → c < g.cells → mark_at marks c ≡ Goal → In c
   pub obstacles : (c : ℕ) → c < g.cells → (mark_at marks c ≡ Obstacle) ↔ (mark_of g c ≡ Obstacle)
 
+-- each turn has marks, rows and a test, and there are fewer than 2^32 of them
+abbrev pub HasOneEach : PatrolProgress → Type 0
+HasOneEach t = (length t.marks ≡ length t.due) × (length t.rows ≡ length t.due) × (length t.due < 2 ^ 32)
+
+-- the marks of each turn have the obstacles of the game
+abbrev pub HaveObstacles : Game → PatrolProgress → Type 0
+HaveObstacles g t = (j : ℕ) → j < length t.due → AreTurnMarks g (λ _. Unit {0}) (marks_for t.marks j)
+
 -- Marks in which all cells of a turn's target are goals.
 pub record AreTargetMarks (p : Description) (g : Game) (j : ℕ) (marks : List Mark) : Type 0 where
   pub turn_marks : AreTurnMarks g (IsInTarget p j) marks
@@ -127,3 +135,7 @@ pub record IsStableAt (g : Game) (turn before : ℕ) (p q : PatrolProgress) : Ty
   pub same : again ≡ false → withdrawn (marks_for p.marks before) rows ≡ marks_for p.marks before
   pub fewer : again ≡ true → count_by is_goal (withdrawn (marks_for p.marks before) rows) < count_by is_goal (marks_for p.marks before)
   pub due_are : q.due ≡ cond again (slice_set (slice_set p.due turn false) before true) (slice_set p.due turn false)
+
+-- a turn is solved, whichever turn is before it
+abbrev pub IsSolvedAt : Game → ℕ → PatrolProgress → PatrolProgress → Type 0
+IsSolvedAt g turn p q = (before : ℕ) × IsBefore (length p.due) turn before × IsStableAt g turn before p q

@@ -4,6 +4,7 @@ use Rattle.controller_table.specs.declared.table_fault.TableFault.TheVariants as
 use Rattle.temporal_texts.specs.declared.patrol_fault.PatrolFault.{PatrolFault}
 use Rattle.temporal_texts.specs.declared.patrol_fault.PatrolFault.TheVariants as faults
 
+-- the fault of a patrol text for a fault of a table
 abbrev pub of_table : TableFault → PatrolFault
 of_table (tables.Malformed line) = faults.Malformed line
 of_table (tables.Limit what) = faults.Limit what

@@ -12,7 +12,7 @@ use Rattle.controller_table.specs.HeadedTexts.{alone, HasNoFirstLine, IsHeading,
 use Rattle.controller_table.specs.inside.TableReading.{BeginsWith}
 use Rattle.controller_table.proofs.Fitting.{rows_fit}
 use Rattle.controller_table.proofs.HeadedLaws.{after_heading, rows_refused, heading_refused}
-use Rattle.controller_table.proofs.Headings.{passed_on}
+use Rattle.base.proofs.Results.{passed_on}
 use Rattle.controller_table.proofs.OneRefusal.{no_version, table_told, line_bound}
 use Rattle.controller_table.proofs.SameRules.{told_by, refused_by}
 use Rattle.controller_table.proofs.table_reader.read_table.Goals as goal

@@ -4,7 +4,7 @@ use Rattle.live_script.specs.LiveText.{IsLiveText}
 use Rattle.live_run.specs.declared.live_stop.LiveStop.TheVariants.{Unread, Unanswered}
 use Rattle.live_run.specs.inside.Answering.{IsUnanswered}
 use Rattle.live_run.specs.inside.LiveWorking.{IsStopped}
-use Rattle.live_run.proofs.Ending.{exits}
+use Rattle.base.proofs.Results.{passed_on}
 use Rattle.live_run.proofs.live_top.answers_on_source.Goals as goal
 
 pub returns-clause-answer : goal.returns-clause-answer
@@ -17,7 +17,7 @@ returns-clause-answer g c = record {
 pub returns-in_err-script-clause-stopped : goal.returns-in_err-script-clause-stopped
 returns-in_err-script-clause-stopped g c =
     let source = reading g.S.Source.left g.S.Source.faults g.S.Source.is_sound c.args.source.now c.read_up_to.new.source in
-    exits c.from_residual.result (Unread c.in_err-script.field-0.0) (λ stop. IsStopped stop source) c.from_residual.ensures.1
+    passed_on c.from_residual.result (Unread c.in_err-script.field-0.0) (λ stop. IsStopped stop source) c.from_residual.ensures.1
     (record {
       never_past = c.read_up_to.ensures.never_past;
       failed = λ e. c.in_err-script.ensures.fault (cc);
@@ -28,7 +28,7 @@ returns-in_err-script-clause-stopped g c =
 pub returns-in_err-text-clause-stopped : goal.returns-in_err-text-clause-stopped
 returns-in_err-text-clause-stopped g c =
     let source = reading g.S.Source.left g.S.Source.faults g.S.Source.is_sound c.args.source.now c.read_up_to.new.source in
-    exits c.from_residual-in_err-text.result (Unanswered c.in_err-text.field-0.0) (λ stop. IsStopped stop source) c.from_residual-in_err-text.ensures.1
+    passed_on c.from_residual-in_err-text.result (Unanswered c.in_err-text.field-0.0) (λ stop. IsStopped stop source) c.from_residual-in_err-text.ensures.1
     (record {
       script = c.in_ok-script.script.items;
       read = record { up_to = c.in_ok-script.ensures.read; never_past = c.read_up_to.ensures.never_past; no_fault = c.in_ok-script.ensures.no_fault (λ e. cc) };

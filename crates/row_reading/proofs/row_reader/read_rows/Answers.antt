@@ -1,11 +1,8 @@
-use Rattle.std.proofs.Common.{◌≡◌, ◌+◌, ◌≤◌, ◌<◌, List, [], ◌∷◌, ◌++◌, length, ℕ, ap, ◌∙◌, refl, arith}
+use Rattle.std.proofs.Common.{◌≡◌, ◌+◌, List, [], ◌++◌, length, ℕ, ap, ◌∙◌, arith}
 use Rattle.std.specs.Prelude.{codes}
+use Rattle.std.proofs.lemmas.List.{nil_from_length}
 use Rattle.row_reading.proofs.RefusedRows.{no_count, no_row, no_end, more_after, whole_text, few_refused}
 use Rattle.row_reading.proofs.row_reader.read_rows.Goals as goal
-
-length_zero : (xs : List ℕ) → length xs < 1 → xs ≡ []
-length_zero [] lt = refl
-length_zero (x ∷ xs) lt = absurd (omega (arith, lt))
 
 pub returns-in_default-clause-refused : goal.returns-in_default-clause-refused
 returns-in_default-clause-refused c = no_count c.args.rules c.args.bytes.now c.in_default.ensures
@@ -17,7 +14,7 @@ overflow_add-result-in-Err-Malformed c =
 
 pub returns-in-Some-empty-clause-read : goal.returns-in-Some-empty-clause-read
 returns-in-Some-empty-clause-read c =
-    let none : c.in-Some-empty.field-0.now ≡ [] = length_zero c.in-Some-empty.field-0.now c.in-Some-empty.len_below in
+    let none : c.in-Some-empty.field-0.now ≡ [] = nil_from_length c.in-Some-empty.field-0.now (omega (arith, c.in-Some-empty.len_below)) in
     whole_text c.args.rules c.args.bytes.now c.in-Some.count c.in-Some.ensures.0 c.in-Some.rest.now c.in-Some.ensures.1 c.in-Ok.answer c.in-Ok.rest.now c.in-Ok.ensures.read
     (c.in-Some-empty.ensures ∙ ap (λ (x : List ℕ). codes "end\n" ++ x) none)
 

@@ -2,7 +2,7 @@ use Rattle.std.proofs.Common.{ℕ, subst}
 use Rattle.run_devices.specs.Devices.{TakesAtMost, reading}
 use Rattle.run_devices.specs.Transfers.{ReadUpTo}
 use Rattle.synth_run.specs.inside.Causes.{of_read}
-use Rattle.synth_run.proofs.Reporting.{exits}
+use Rattle.base.proofs.Results.{passed_on}
 use Rattle.synth_run.proofs.Working.{demo_is_read, reads_unless_demo, is_read, is_unread}
 use Rattle.synth_run.proofs.top.read_for.Goals as goal
 
@@ -22,7 +22,7 @@ pub returns-in_err-bytes-clause-stopped : goal.returns-in_err-bytes-clause-stopp
 returns-in_err-bytes-clause-stopped g c =
     let source = reading g.S.Source.left g.S.Source.faults g.S.Source.is_sound c.args.source.now c.read_up_to.new.source in
     let fault = c.in_err-bytes.field-0.0 in
-    exits c.from_residual.result (of_read fault) _ c.from_residual.ensures.1
+    passed_on c.from_residual.result (of_read fault) _ c.from_residual.ensures.1
     (is_unread c.args.command.now (reads_unless_demo c.args.command.now (λ number workers e. c.in_default.not-Demo number workers e)) source fault
     (subst (λ (most : ℕ). TakesAtMost source.before source.after most) c.most_read.ensures c.read_up_to.ensures.never_past)
     (λ e. c.in_err-bytes.ensures.fault (cc))

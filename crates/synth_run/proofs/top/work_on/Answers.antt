@@ -30,7 +30,7 @@ pub returns-in-Demo-clause-made : goal.returns-in-Demo-clause-made
 returns-in-Demo-clause-made g c =
     let command = Demo c.in-Demo.number c.in-Demo.workers in
     rw c.in-Demo.is
-    (IfOk-weaker c.demo.result (λ (work : Work). (bytes : List ℕ) → IsMade command bytes work.text work.played) (λ (work : Work). IsMade command c.args.bytes.now work.text work.played)
+    (IfOk-weaker c.demo.result (λ (work : Work). (bytes : List ℕ) → IsMade command bytes work) (IsMade command c.args.bytes.now)
     (λ work made. made c.args.bytes.now) c.demo.ensures.made)
 
 pub returns-in-Demo-clause-refused : goal.returns-in-Demo-clause-refused

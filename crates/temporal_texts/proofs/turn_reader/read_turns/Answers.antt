@@ -1,15 +1,12 @@
-use Rattle.std.proofs.Common.{◌≡◌, ◌+◌, ◌<◌, List, [], ◌∷◌, ◌++◌, length, length-append, ℕ, Option, ap, subst, sym, ◌∙◌, refl, rules, arith}
+use Rattle.std.proofs.Common.{◌≡◌, ◌+◌, List, [], ◌∷◌, ◌++◌, length, length-append, ℕ, Option, ap, subst, sym, ◌∙◌, rules, arith}
 use Rattle.std.specs.Prelude.{codes}
+use Rattle.std.proofs.lemmas.List.{nil_from_length}
 use Rattle.game_core.specs.declared.game.Row.{Row}
 use Rattle.row_reading.specs.declared.row_rules.RowRules.{RowRules}
 use Rattle.temporal_texts.specs.TurnSteps.{patrol_rules, EncodeTurns}
 use Rattle.temporal_texts.specs.inside.ReadTurns.{IsTurnRead, IsTurnRefused, AreTurnsRead}
 use Rattle.temporal_texts.proofs.TurnsRead.{lines_are_few, turn_read, turn_refused, no_end, more_after, whole_text, line_bound}
 use Rattle.temporal_texts.proofs.turn_reader.read_turns.Goals as goal
-
-length_zero : (xs : List ℕ) → length xs < 1 → xs ≡ []
-length_zero [] lt = refl
-length_zero (x ∷ xs) lt = absurd (omega (arith, lt))
 
 -- a turn is read by equal rules, at an equal number
 read_by : (r s : RowRules) (j k count : ℕ) (bytes after : List ℕ) (rows : List (Option Row)) → r ≡ s → j ≡ k → IsTurnRead r j count bytes rows after → IsTurnRead s k count bytes rows after
@@ -87,7 +84,7 @@ returns-in-Some-empty-clause-read c =
     let past = c.loop-turn-test.false in
     let within = c.loop-turn.auto.turn-end in
     let all = c.targets-turn-end.ensures in
-    let none : c.in-Some-empty.field-0.now ≡ [] = length_zero c.in-Some-empty.field-0.now c.in-Some-empty.len_below in
+    let none : c.in-Some-empty.field-0.now ≡ [] = nil_from_length c.in-Some-empty.field-0.now (omega (arith, c.in-Some-empty.len_below)) in
     let told = whole_text c.args.p.now c.args.bytes.now c.loop-turn.lines c.loop-turn.rest.now c.loop-turn.answers.items c.loop-turn.invariant.read (omega (arith, turns, past, within, all)) (c.in-Some-empty.ensures ∙ ap (λ (x : List ℕ). codes "end\n" ++ x) none) in
     subst (λ (x : List (List (Option Row))). EncodeTurns c.args.p.now c.args.bytes.now x) (sym c.new.ensures) told
 

@@ -5,7 +5,7 @@ use Rattle.std.proofs.lemmas.Bool.{cases_lt}
 use Rattle.std.proofs.lemmas.Int.{to_z-of_z}
 use Rattle.std.proofs.lemmas.List.{ext_get_or}
 use Rattle.plant_record.specs.declared.variables.InputVariable.{InputVariable}
-use Rattle.plant_record.specs.Description.{vector_of}
+use Rattle.plant_record.specs.Description.{Description, vector_of}
 use Rattle.plant_record.proofs.lemmas.VariableValues.{vector_length}
 use Rattle.text_control.proofs.Literals.{value_literal}
 use Rattle.text_control.proofs.Vectors.{value_here, left_next}
@@ -22,7 +22,7 @@ loop-j-preserved c =
     let u : ℕ = c.args.vector in
     let j : ℕ = c.loop-j.j in
     let rest : ℕ = c.loop-j.rest in
-    let same = c.input_list-inputs.ensures in
+    let same = c.as_slice-inputs.ensures.value ∙ ap (λ (p : Description). p.inputs) c.parts.ensures.parts in
     let x : InputVariable = c.index-inputs-j.result in
     let values : List ℤ = c.as_slice-values.result.now in
     let x-is : x ≡ get_or inputs (j - 1) x = c.index-inputs-j.is ∙ ap (λ (l : List InputVariable). get_or l (j - 1) x) same in

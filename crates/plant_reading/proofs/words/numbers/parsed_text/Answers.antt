@@ -1,5 +1,5 @@
 use Rattle.std.proofs.Common.{◌∙◌}
-use Rattle.plant_reading.proofs.lemmas.NumberWords.{parsed_number}
+use Rattle.plant_record.proofs.lemmas.Spelling.{parsed_number}
 use Rattle.plant_reading.proofs.words.numbers.parsed_text.Goals as goal
 
 pub returns : goal.returns

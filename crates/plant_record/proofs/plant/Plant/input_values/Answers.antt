@@ -7,4 +7,4 @@ pub returns : goal.returns
 returns c =
     let i : InputVariable = c.index.result.now in
     rw (← c.self.view_is)
-    (c.len.ensures ∙ sym (count_is c.self.inside.inputs.items c.args.variable i (rw (← c.self.view_is) at c.requires) ∙ ap (λ (j : InputVariable). length j.values) (sym c.index.ensures)))
+    (c.len.ensures ∙ sym (count_is c.self.inside.parts.variables.inputs.items c.args.variable i (rw (← c.self.view_is) at c.requires) ∙ ap (λ (j : InputVariable). length j.values) (sym c.index.ensures)))

@@ -13,4 +13,4 @@ returns c =
     let low : FitsSigned w128 w.low = search rules in
     let high : FitsSigned w128 w.high = search rules in
     rw (to_z-of_z w128 w.low low, to_z-of_z w128 w.high high, ← c.self.view_is)
-    (ap (option_map (λ (w : NoiseVariable). (w.low, w.high))) (slice_get_read c.self.inside.noises.items (length c.self.inside.noises.items) c.args.k w refl (rw (← c.self.view_is) at c.requires) c.index-noise.ensures))
+    (ap (option_map (λ (w : NoiseVariable). (w.low, w.high))) (slice_get_read c.self.inside.parts.variables.noises.items (length c.self.inside.parts.variables.noises.items) c.args.k w refl (rw (← c.self.view_is) at c.requires) c.index-noise.ensures))

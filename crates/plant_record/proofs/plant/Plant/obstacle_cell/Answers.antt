@@ -7,7 +7,7 @@ use Rattle.plant_record.proofs.plant.Plant.obstacle_cell.Goals as goal
 pub touches_one-requires-clause-ordered : goal.touches_one-requires-clause-ordered
 touches_one-requires-clause-ordered c =
     rw (c.deref.ensures.value, c.self.invariant.grid)
-    (boxes_ordered (length c.self.inside.states.items) (map axis_of c.self.inside.states.items) c.self.inside.obstacles.items (length-map c.self.inside.states.items axis_of) c.self.invariant.limits.plant.obstacles)
+    (boxes_ordered (length c.self.inside.parts.variables.states.items) (map axis_of c.self.inside.parts.variables.states.items) c.self.inside.parts.obstacles.items (length-map c.self.inside.parts.variables.states.items axis_of) c.self.invariant.limits.plant.obstacles)
 
 pub returns : goal.returns
 returns c = rw (← c.self.view_is) (rw (c.deref.ensures.value, c.self.invariant.grid) at c.touches_one.ensures)

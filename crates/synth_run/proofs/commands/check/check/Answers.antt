@@ -2,7 +2,7 @@ use Rattle.std.proofs.Common.{refl}
 use Rattle.plant_refine.proofs.SolutionTables.{tables_control}
 use Rattle.synth_run.specs.IsOutcomeFor.{IsRowsRefusal}
 use Rattle.synth_run.specs.inside.Causes.{of_table}
-use Rattle.synth_run.proofs.Reporting.{exits}
+use Rattle.base.proofs.Results.{passed_on}
 use Rattle.synth_run.proofs.Tables.{table_stop, rows_stop}
 use Rattle.synth_run.proofs.commands.check.check.Goals as goal
 
@@ -31,10 +31,10 @@ returns-clause-made g c =
 
 pub returns-in_err-table-clause-refused : goal.returns-in_err-table-clause-refused
 returns-in_err-table-clause-refused g c =
-    exits c.from_residual.result (of_table c.in_err-table.field-0.0) _ c.from_residual.ensures.1 (table_stop IsRowsRefusal c.args.bytes.now c.in_err-table.field-0.0 c.in_err-table.ensures.refused)
+    passed_on c.from_residual.result (of_table c.in_err-table.field-0.0) _ c.from_residual.ensures.1 (table_stop IsRowsRefusal c.args.bytes.now c.in_err-table.field-0.0 c.in_err-table.ensures.refused)
 
 pub returns-in_err-check_table-clause-refused : goal.returns-in_err-check_table-clause-refused
 returns-in_err-check_table-clause-refused g c =
     let table = c.in_ok-table.table in
-    exits c.from_residual-in_err-check_table.result c.in_err-check_table.field-0.0 _ c.from_residual-in_err-check_table.ensures.1
+    passed_on c.from_residual-in_err-check_table.result c.in_err-check_table.field-0.0 _ c.from_residual-in_err-check_table.ensures.1
     (rows_stop IsRowsRefusal c.args.bytes.now table.plant table.rows c.in_err-check_table.field-0.0 c.in_ok-table.ensures.read.0 c.in_err-check_table.ensures.refused)

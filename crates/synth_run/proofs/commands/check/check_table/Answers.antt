@@ -1,10 +1,9 @@
-use Rattle.std.proofs.Common.{inr, ◌≡◌, ℕ, refl, sym, subst}
-use Rattle.table_check.specs.declared.verdict.Verdict.TheVariants.{Valid, Invalid}
-use Rattle.command_line.specs.declared.outcome.Refusal.TheVariants as refusals
+use Rattle.std.proofs.Common.{inr, ◌≡◌, refl, sym, subst}
+use Rattle.table_check.specs.declared.verdict.Verdict.TheVariants.{Valid}
 use Rattle.synth_run.specs.declared.stop.Stop.{Stop}
-use Rattle.synth_run.specs.declared.stop.Stop.TheVariants.{Refused}
 use Rattle.synth_run.specs.IsOutcomeFor.{IsRowsRefusal}
 use Rattle.synth_run.specs.inside.Causes.{IsStopFor}
+use Rattle.synth_run.specs.inside.Judging.{IsStopBy}
 use Rattle.synth_run.proofs.Reporting.{on_ok_both}
 use Rattle.synth_run.proofs.commands.check.check_table.Goals as goal
 use Rattle.std.proofs.lemmas.Result.{IfErr-weaker}
@@ -26,7 +25,7 @@ returns-clause-refused g c =
     let judged = c.in_ok-verdict.ensures.verdict in
     let verdict = c.in_ok-verdict.verdict in
     let table = c.args.table.now in
-    IfErr-weaker c.refuse_invalid.result (λ stop. (cell : ℕ) × (verdict ≡ Invalid cell) × (stop ≡ Refused (refusals.Invalid cell))) _
+    IfErr-weaker c.refuse_invalid.result (IsStopBy verdict) _
     (λ stop found. subst (λ (s : Stop). IsStopFor (IsRowsRefusal table.plant table.rows) s) (sym found.2)
     (inr (found.0, refl, c.in_ok-verdict.ensures.solvable, record { game = judged.game; abstraction = judged.abstraction; wrong = (judged.judged.invalid found.0).0 found.1 })))
     c.refuse_invalid.ensures.invalid

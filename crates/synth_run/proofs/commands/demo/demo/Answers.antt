@@ -6,7 +6,7 @@ use Rattle.demo_plants.specs.Demo.{demo_plant_of}
 use Rattle.synth_run.specs.inside.Causes.{without_memory}
 use Rattle.synth_run.specs.declared.stop.Stop.{Stop}
 use Rattle.synth_run.proofs.Leaving.{left, solved_on}
-use Rattle.synth_run.proofs.Reporting.{exits}
+use Rattle.base.proofs.Results.{passed_on}
 use Rattle.synth_run.proofs.commands.demo.demo.Goals as goal
 
 is_to_reach : (n : ℕ) → Reach ≡ (demo_plant_of n).goal
@@ -25,4 +25,4 @@ returns-clause-made g c =
     λ bytes. record { can_be_written = tt; answer = c.in_ok-line.ensures; leaves = left (demo_plant_of n) solved.board solved.root on }
 
 pub returns-in_err-forward-clause-memory : goal.returns-in_err-forward-clause-memory
-returns-in_err-forward-clause-memory g c = exits c.from_residual.result c.in_err-forward.field-0.0 (λ (stop : Stop). stop ≡ without_memory) c.from_residual.ensures.1 c.in_err-forward.ensures.memory
+returns-in_err-forward-clause-memory g c = passed_on c.from_residual.result c.in_err-forward.field-0.0 (λ (stop : Stop). stop ≡ without_memory) c.from_residual.ensures.1 c.in_err-forward.ensures.memory

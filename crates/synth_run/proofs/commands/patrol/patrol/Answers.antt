@@ -5,7 +5,7 @@ use Rattle.synth_run.specs.declared.stop.Stop.{Stop}
 use Rattle.synth_run.specs.IsOutcomeFor.{turns_of, IsPatrolRefusal, IsTextRefusal}
 use Rattle.synth_run.specs.inside.Causes.{IsStopFor}
 use Rattle.synth_run.proofs.PatrolTables.{patrol_table, patrol_stop}
-use Rattle.synth_run.proofs.Reporting.{exits}
+use Rattle.base.proofs.Results.{passed_on}
 use Rattle.synth_run.proofs.commands.patrol.patrol.Goals as goal
 
 pub patrol-requires-clause-size : goal.patrol-requires-clause-size
@@ -31,10 +31,10 @@ returns-in_err-limit_turns-clause-refused g c =
     let p = c.in_ok-plant.plant in
     let refused = c.in_err-limit_turns.ensures.many in
     let many : 2 ^ 22 < turns_of p = omega (arith, c.turns_of.ensures, refused.1) in
-    exits c.from_residual-in_err-limit_turns.result c.in_err-limit_turns.field-0.0 _ c.from_residual-in_err-limit_turns.ensures.1
+    passed_on c.from_residual-in_err-limit_turns.result c.in_err-limit_turns.field-0.0 _ c.from_residual-in_err-limit_turns.ensures.1
     (subst (λ (stop : Stop). IsStopFor (IsTextRefusal IsPatrolRefusal c.args.bytes.now) stop) (sym refused.0) (inr (p, c.in_ok-plant.ensures.accepted, inr (refl, c.in_ok-plant.ensures.solvable, many))))
 
 pub returns-in_err-plant-clause-refused : goal.returns-in_err-plant-clause-refused
 returns-in_err-plant-clause-refused g c =
     let stop = c.in_err-plant.field-0.0 in
-    exits c.from_residual.result stop _ c.from_residual.ensures.1 (patrol_stop c.args.bytes.now stop c.in_err-plant.ensures.refused)
+    passed_on c.from_residual.result stop _ c.from_residual.ensures.1 (patrol_stop c.args.bytes.now stop c.in_err-plant.ensures.refused)

@@ -4,7 +4,7 @@ use Rattle.loop_sim.specs.Trace.{row_at}
 use Rattle.loop_sim.specs.TraceText.{trace_text}
 use Rattle.synth_run.specs.IsOutcomeFor.{IsStartRefusal}
 use Rattle.synth_run.specs.inside.Causes.{of_table}
-use Rattle.synth_run.proofs.Reporting.{exits}
+use Rattle.base.proofs.Results.{passed_on}
 use Rattle.synth_run.proofs.Tables.{table_stop, rows_stop}
 use Rattle.synth_run.proofs.commands.sim.sim.Goals as goal
 
@@ -34,10 +34,10 @@ returns-clause-made c =
 
 pub returns-in_err-table-clause-refused : goal.returns-in_err-table-clause-refused
 returns-in_err-table-clause-refused c =
-    exits c.from_residual.result (of_table c.in_err-table.field-0.0) _ c.from_residual.ensures.1 (table_stop (IsStartRefusal c.args.start.now) c.args.bytes.now c.in_err-table.field-0.0 c.in_err-table.ensures.refused)
+    passed_on c.from_residual.result (of_table c.in_err-table.field-0.0) _ c.from_residual.ensures.1 (table_stop (IsStartRefusal c.args.start.now) c.args.bytes.now c.in_err-table.field-0.0 c.in_err-table.ensures.refused)
 
 pub returns-in_err-slopes-clause-refused : goal.returns-in_err-slopes-clause-refused
 returns-in_err-slopes-clause-refused c =
     let table = c.in_ok-table.table in
-    exits c.from_residual-in_err-slopes.result c.in_err-slopes.field-0.0 _ c.from_residual-in_err-slopes.ensures.1
+    passed_on c.from_residual-in_err-slopes.result c.in_err-slopes.field-0.0 _ c.from_residual-in_err-slopes.ensures.1
     (rows_stop (IsStartRefusal c.args.start.now) c.args.bytes.now table.plant table.rows c.in_err-slopes.field-0.0 c.in_ok-table.ensures.read.0 c.in_err-slopes.ensures.refused)

@@ -2,7 +2,7 @@ use Rattle.std.proofs.Common.{refl, sym, subst}
 use Rattle.plant_game.specs.Abstraction.{IsGameOf}
 use Rattle.abstraction_table.specs.Table.{game_of}
 use Rattle.synth_run.proofs.StayTables.{stay_table}
-use Rattle.synth_run.proofs.Reporting.{exits}
+use Rattle.base.proofs.Results.{passed_on}
 use Rattle.synth_run.proofs.commands.stay.stay.Goals as goal
 
 pub returns-clause-made : goal.returns-clause-made
@@ -17,4 +17,4 @@ returns-clause-made g c =
     })
 
 pub returns-in_err-plant-clause-refused : goal.returns-in_err-plant-clause-refused
-returns-in_err-plant-clause-refused g c = exits c.from_residual.result c.in_err-plant.field-0.0 _ c.from_residual.ensures.1 c.in_err-plant.ensures.refused
+returns-in_err-plant-clause-refused g c = passed_on c.from_residual.result c.in_err-plant.field-0.0 _ c.from_residual.ensures.1 c.in_err-plant.ensures.refused

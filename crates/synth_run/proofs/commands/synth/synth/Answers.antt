@@ -5,7 +5,7 @@ use Rattle.abstraction_table.specs.Table.{game_of}
 use Rattle.controller_table.specs.TableText.{written_version, table_text}
 use Rattle.plant_refine.proofs.SolutionTables.{tables_control}
 use Rattle.synth_run.proofs.Leaving.{left, solved_on}
-use Rattle.synth_run.proofs.Reporting.{exits}
+use Rattle.base.proofs.Results.{passed_on}
 use Rattle.synth_run.proofs.Tables.{is_solution, solution_fits}
 use Rattle.synth_run.proofs.commands.synth.synth.Goals as goal
 
@@ -39,4 +39,4 @@ returns-clause-made g c =
     }
 
 pub returns-in_err-plant-clause-refused : goal.returns-in_err-plant-clause-refused
-returns-in_err-plant-clause-refused g c = exits c.from_residual.result c.in_err-plant.field-0.0 _ c.from_residual.ensures.1 c.in_err-plant.ensures.refused
+returns-in_err-plant-clause-refused g c = passed_on c.from_residual.result c.in_err-plant.field-0.0 _ c.from_residual.ensures.1 c.in_err-plant.ensures.refused

@@ -1,12 +1,9 @@
-use Rattle.std.proofs.Common.{◌≡◌, Bool, true, false, arith, sym, ◌∙◌}
+use Rattle.std.proofs.Common.{arith, sym, ◌∙◌}
 use Rattle.std.proofs.lemmas.Bool.{false≢true}
 use Rattle.std.proofs.lemmas.Bool.Decides.{Decides-ltb}
 use Rattle.table_check.proofs.Best.{right_ranked, ranked_some, ranked_leads, ranked_lesser, ranked_further}
 use Rattle.table_check.proofs.judge.Judge.is_best.Goals as goal
 use Rattle.table_check.proofs.judge.Judge.is_best.Goals.{then-row-gt0, else-row-gt0, then-leads_below, else-leads_below}
-
-apart : (b : Bool) → b ≡ true → b ≡ false → ⊥
-apart b holds fails = false≢true (sym fails ∙ holds)
 
 pub returns-then-none_leads_below : goal.returns-then-none_leads_below
 returns-then-none_leads_below g c =
@@ -30,7 +27,7 @@ returns-then-none_leads_below g c =
                 let none = v.if-row-gt0.false in
                 absurd (omega (arith, some, none))
           ]
-      | else-leads_below w ↦ absurd (apart c.if-leads_below.value c.if-none_leads_below.true (w.value-is ∙ w.if-leads_below.false))
+      | else-leads_below w ↦ absurd (false≢true (sym (w.value-is ∙ w.if-leads_below.false) ∙ c.if-none_leads_below.true))
     ]
 
 pub returns-else-none_leads_below : goal.returns-else-none_leads_below
@@ -41,14 +38,14 @@ returns-else-none_leads_below g c =
     let row = c.args.row in
     let inputs = c.inputs-inputs.result in
     let no = c.if-none_leads_below.false in (
-      λ e. absurd (apart c.if-leads_below.value e no),
+      λ e. absurd (false≢true (sym no ∙ e)),
       λ r. elim c.if-leads_below.branch [
         | then-leads_below w ↦
             w.value-is ∙ w.none_leads_below.ensures.1 (ranked_lesser game rows c.args.c row.input inputs c.requires.input c.inputs-inputs.ensures row.rank r)
         | else-leads_below w ↦
             elim c.if-row-gt0.branch [
               | then-row-gt0 v ↦
-                  absurd (apart c.if-row-gt0.value (v.value-is ∙ v.leads_below.ensures.1 (ranked_leads game rows c.args.c row.input inputs c.requires.input c.inputs-inputs.ensures row.rank r)) w.if-leads_below.false)
+                  absurd (false≢true (sym w.if-leads_below.false ∙ v.value-is ∙ v.leads_below.ensures.1 (ranked_leads game rows c.args.c row.input inputs c.requires.input c.inputs-inputs.ensures row.rank r)))
               | else-row-gt0 v ↦
                   let some = ranked_some game rows c.args.c row.input inputs c.requires.input c.inputs-inputs.ensures row.rank r in
                   let none = v.if-row-gt0.false in
