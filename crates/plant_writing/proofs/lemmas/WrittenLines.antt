@@ -14,8 +14,8 @@ use Rattle.plant_record.specs.declared.variables.InputVariable.{InputVariable}
 use Rattle.plant_record.specs.declared.variables.NoiseVariable.{NoiseVariable}
 use Rattle.plant_record.specs.declared.aims.StateBox.{StateBox}
 use Rattle.plant_record.specs.Description.{Description, names_of}
-use Rattle.plant_writing.specs.CanonicalText.{text_of, state_line, input_line, noise_line, equation_line, equation_lines, box_line}
-use Rattle.plant_record.specs.Spelling.{end_words, goal_word, line, version_word}
+use Rattle.plant_writing.specs.CanonicalText.{state_line, input_line, noise_line, equation_line, equation_lines, box_line}
+use Rattle.plant_record.specs.Spelling.{end_words, line}
 use Rattle.plant_writing.specs.ExpressionText.{expression_text, point_text}
 use Rattle.base.proofs.Words.{spaced, joined_words}
 
@@ -124,19 +124,3 @@ equations_more text names states equations i s e same lt e-is =
     append_assoc text before (equation_line names (get_or states i s).name (expression_of e))
     ∙ ap (λ (f : Expr). text ++ (before ++ equation_line names (get_or states i s).name (expression_of f))) e-is
     ∙ ap (λ (x : List ℕ). text ++ x) (sym (ap (λ n. equation_lines names (take n states) (map expression_of (take n equations))) (add-one i) ∙ lines_more names states equations i s e (omega (arith, lt, same)) lt))
-
--- ---- the whole
-
--- the text but its last two lines
-abbrev pub front_text : Description → List ℕ
-front_text p =
-    line (codes "plant" ∷ version_word p.version ∷ [])
-    ++ flat_map state_line p.states
-    ++ flat_map input_line p.inputs
-    ++ flat_map noise_line p.noises
-    ++ equation_lines (names_of p) p.states p.equations
-    ++ flat_map (box_line (codes "target") (length p.states)) p.targets
-    ++ flat_map (box_line (codes "obstacle") (length p.states)) p.obstacles
-
-pub whole_text : (p : Description) → (front_text p ++ line (codes "goal" ∷ goal_word p.goal ∷ [])) ++ line (codes "end" ∷ []) ≡ text_of p
-whole_text p = refl

@@ -4,7 +4,6 @@ use Rattle.plant_record.specs.Parts.{description_of}
 use Rattle.plant_record.specs.Limits.{IsWithinLimits}
 use Rattle.plant_record.proofs.lemmas.NextPoints.{formed_below}
 use Rattle.plant_record.proofs.lemmas.SoundPlants.{all_formed}
-use Rattle.plant_writing.proofs.lemmas.WrittenLines.{whole_text}
 use Rattle.plant_writing.proofs.plant_writer.text_of.Goals as goal
 
 pub push_equations-requires-clause-formed : goal.push_equations-requires-clause-formed
@@ -35,4 +34,4 @@ returns c =
       c.deref-4.ensures.value,
       c.deref-5.ensures.value,
       ← c.parts-parts.ensures.parts,
-    ) (whole_text (description_of c.parts-parts.result.now))
+    ) refl
