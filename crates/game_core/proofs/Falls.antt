@@ -13,7 +13,7 @@ use Rattle.std.proofs.lemmas.List.Sums.{list_all-from_AllPass}
 use Rattle.std.proofs.lemmas.Nat.{div-add-mod', mod_below, same_from_place}
 use Rattle.game_core.specs.Game.{Game, mark_of, pair_of, pairs_of, successors_at, successors_of}
 use Rattle.game_core.specs.Fallen.{is_obstacle, is_useless, is_helpless, has_fallen, Falls}
-use Rattle.game_core.specs.inside.Falling.{Progress, first_progress, with_fall, is_live, is_safe, safe_pairs, safe_at_first, AreSafe, AreFallenBelow, IsFalling}
+use Rattle.game_core.specs.inside.Falling.{FallingProgress, falling_at_first, with_fall, is_live, is_safe, safe_pairs, safe_at_first, AreSafe, AreFallenBelow, IsFalling}
 use Rattle.base.proofs.Counts.{none_from_count, below_end}
 use Rattle.game_core.proofs.Edges.{pair_below}
 use Rattle.base.proofs.Times.{length_of_distinct_below}
@@ -82,7 +82,7 @@ falls_blocked : (g : Game) (c : ℕ) → is_obstacle (mark_of g c) ≡ true → 
 falls_blocked g c e = (0, ap (λ b. b || is_helpless g (λ s. false) c) e)
 
 -- a cell without a safe pair falls
-module _ (g : Game) (p : Progress) (h : AreSafe g p) (queue : (s : ℕ) → Contains p.queue s → Falls g s) (c : ℕ) (lt : c < g.cells) (none : get_or p.left c 0 ≡ 0) where
+module _ (g : Game) (p : FallingProgress) (h : AreSafe g p) (queue : (s : ℕ) → Contains p.queue s → Falls g s) (c : ℕ) (lt : c < g.cells) (none : get_or p.left c 0 ≡ 0) where
   unsafe : (u : ℕ) → u < g.inputs → is_safe p.safe (pair_of g c u) ≡ false
   unsafe u lu =
       let count = h.counted c lt in
@@ -117,7 +117,7 @@ module _ (g : Game) (p : Progress) (h : AreSafe g p) (queue : (s : ℕ) → Cont
   falls_now = by_mark (is_obstacle (mark_of g c)) refl
 
 -- at first each live pair is safe
-pub begun_falling : (g : Game) → IsFalling g 0 0 (first_progress g)
+pub begun_falling : (g : Game) → IsFalling g 0 0 (falling_at_first g)
 begun_falling g = record {
   safe = record {
     one_test_each = length-map-range_with_len (is_live g) 0 (pairs_of g);
@@ -140,7 +140,7 @@ begun_falling g = record {
     first pair lt = get_or-map-range_with_len (is_live g) 0 (pairs_of g) pair pair false lt (omega arith)
 
 -- a cell that falls is put at the end of the queue
-module _ (g : Game) (bound c : ℕ) (q : Progress) (safe : AreSafe g q) (cell : c < g.cells) (none : get_or q.left c 0 ≡ 0)
+module _ (g : Game) (bound c : ℕ) (q : FallingProgress) (safe : AreSafe g q) (cell : c < g.cells) (none : get_or q.left c 0 ≡ 0)
     (queued : (d : ℕ) → d < bound → d ≢ c → get_or q.left d 0 ≡ 0 → Contains q.queue d)
     (others : (d : ℕ) → Contains q.queue d → (d < bound) × (get_or q.left d 0 ≡ 0) × (d ≢ c)) (lt : c < bound)
     (once : AllPairs (λ a b. a ≢ b) q.queue) (falls : (d : ℕ) → Contains q.queue d → Falls g d) where
@@ -182,11 +182,11 @@ module _ (g : Game) (bound c : ℕ) (q : Progress) (safe : AreSafe g q) (cell : 
   }
 
 -- the queue has room while a cell isn't in it
-pub queue_below : (g : Game) (bound : ℕ) (p : Progress) → AreFallenBelow g bound p → length p.queue ≤ bound
+pub queue_below : (g : Game) (bound : ℕ) (p : FallingProgress) → AreFallenBelow g bound p → length p.queue ≤ bound
 queue_below g bound p h = length_of_distinct_below bound p.queue h.once (λ i d lt. (h.empty (get_or p.queue i d) (Contains-get_or p.queue i d lt)).0)
 
 -- the next cell is looked at
-module _ (g : Game) (c : ℕ) (lt : c < g.cells) (p : Progress) (h : IsFalling g c 0 p) where
+module _ (g : Game) (c : ℕ) (lt : c < g.cells) (p : FallingProgress) (h : IsFalling g c 0 p) where
   pub gather_fall : get_or p.left c 0 ≡ 0 → IsFalling g (c + 1) 0 (with_fall c p)
   gather_fall none = fall_step g (c + 1) c p h.safe lt none
       (λ d ld ne z. h.fallen.queued d (omega arith) z)

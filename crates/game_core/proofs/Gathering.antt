@@ -13,7 +13,7 @@ use Rattle.game_core.specs.declared.game.Mark.TheVariants.{Goal}
 use Rattle.game_core.specs.declared.game.Row.{Row}
 use Rattle.game_core.specs.Game.{Game, IsGame, mark_of, pair_of, successors_at, successors_of}
 use Rattle.game_core.specs.Solution.{row_of, HasRowBelow}
-use Rattle.game_core.specs.inside.Search.{Progress, first_progress, with_row, IsSoundRow, IsConsistent, IsSearched, IsGathered, is_taken}
+use Rattle.game_core.specs.inside.Search.{SearchProgress, search_at_first, with_row, IsSoundRow, IsConsistent, IsSearched, IsGathered, is_taken}
 use Rattle.base.proofs.Lists.{some_element}
 
 pub no_row : (n c : ℕ) → row_of (replicate n None) c ≡ None
@@ -23,7 +23,7 @@ no_row n c =
       | inr ge ↦ let l = length-replicate n (let x : Option Row = None in x) in get_or_past (replicate n None) c None (omega arith)
     ]
 
-pub gathered_none : (g : Game) → IsGathered g 0 (first_progress g)
+pub gathered_none : (g : Game) → IsGathered g 0 (search_at_first g)
 gathered_none g = record {
   left = refl;
   one_each = length-replicate g.cells None;
@@ -44,7 +44,7 @@ gathered_none g = record {
 abbrev pub goal_row : Row
 goal_row = record { rank = 0; input = 0 }
 
-module _ (g : Game) (c : ℕ) (lt : c < g.cells) (p : Progress) (h : IsGathered g c p) where
+module _ (g : Game) (c : ℕ) (lt : c < g.cells) (p : SearchProgress) (h : IsGathered g c p) where
   pub not_yet : row_of p.rows c ≡ None
   not_yet = by_row (row_of p.rows c) refl
     where
@@ -86,7 +86,7 @@ module _ (g : Game) (c : ℕ) (lt : c < g.cells) (p : Progress) (h : IsGathered 
   }
 
 -- with every goal gathered the search begins
-pub searched_none : (g : Game) → IsGame g → (p : Progress) → IsGathered g g.cells p → IsSearched g 0 p
+pub searched_none : (g : Game) → IsGame g → (p : SearchProgress) → IsGathered g g.cells p → IsSearched g 0 p
 searched_none g a p h = record {
   top = 0;
   search = record {
@@ -108,7 +108,7 @@ searched_none g a p h = record {
 }
 
 -- with every cell taken the rows agree
-pub consistent_all : (g : Game) → IsGame g → (p : Progress) (head : ℕ) → length p.queue ≤ head → IsSearched g head p → IsConsistent g p.rows
+pub consistent_all : (g : Game) → IsGame g → (p : SearchProgress) (head : ℕ) → length p.queue ≤ head → IsSearched g head p → IsConsistent g p.rows
 consistent_all g a p head long h = record {
   one_each = h.search.told.one_each;
   goals = h.search.told.goals;

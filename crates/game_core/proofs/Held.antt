@@ -10,7 +10,7 @@ use Rattle.game_core.specs.declared.game.Row.{Row}
 use Rattle.game_core.specs.Game.{Game, IsGame, mark_of, pair_of, successors_of}
 use Rattle.game_core.specs.Solution.{row_of, HasRow}
 use Rattle.game_core.specs.Fallen.{is_obstacle, LeadsToRows, IsStable, AreStable}
-use Rattle.game_core.specs.inside.Falling.{Progress, is_live, is_safe, IsFirstSafe, AreFirstSafe, IsFalling}
+use Rattle.game_core.specs.inside.Falling.{FallingProgress, is_live, is_safe, IsFirstSafe, AreFirstSafe, IsFalling}
 use Rattle.base.proofs.Counts.{count_none, none_from_count, below_end}
 use Rattle.game_core.proofs.Edges.{pair_below}
 use Rattle.game_core.proofs.Falls.{cell_of_pair}
@@ -20,7 +20,7 @@ both_true : (a b : Bool) → (a && b) ≡ true → (a ≡ true) × (b ≡ true)
 both_true true b e = (refl, e)
 both_true false b e = absurd (cc)
 
-module _ (g : Game) (a : IsGame g) (head : ℕ) (p : Progress) (h : IsFalling g g.cells head p) (all : length p.queue ≤ head) (rows : List (Option Row)) (first : AreFirstSafe g p.safe rows) where
+module _ (g : Game) (a : IsGame g) (head : ℕ) (p : FallingProgress) (h : IsFalling g g.cells head p) (all : length p.queue ≤ head) (rows : List (Option Row)) (first : AreFirstSafe g p.safe rows) where
   -- a cell has a row exactly where it isn't in the queue
   no_safe_pair : (c : ℕ) → c < g.cells → ((u : ℕ) → u < g.inputs → is_safe p.safe (pair_of g c u) ≡ false) → Contains p.queue c
   no_safe_pair c lt none =

@@ -9,14 +9,14 @@ use Rattle.std.proofs.lemmas.List.FromFn.{length-range_with_len, get_or-range_wi
 use Rattle.std.proofs.lemmas.List.Kept.{AllPairs-cons}
 use Rattle.std.proofs.lemmas.Nat.{same_from_place}
 use Rattle.game_core.specs.Game.{Game, AreSources, pair_of, pairs_of, successors_at}
-use Rattle.game_core.specs.inside.Falling.{Progress, with_fall, without_pair, after_check, after_loss, is_safe, safe_pairs, AreSafe, IsFalling}
+use Rattle.game_core.specs.inside.Falling.{FallingProgress, with_fall, without_pair, after_check, after_loss, is_safe, safe_pairs, AreSafe, IsFalling}
 use Rattle.base.proofs.Counts.{count_same, count_less, range_apart}
 use Rattle.game_core.proofs.Edges.{HasParts, parts_of}
 use Rattle.game_core.proofs.Falls.{fall_step}
 use Rattle.base.proofs.Times.{length_of_distinct_below}
 
 -- one safe pair closes, since it may lead to a fallen cell
-module _ (g : Game) (head : ℕ) (p : Progress) (h : IsFalling g g.cells head p) (pair : ℕ) (lt : pair < pairs_of g) (safe : is_safe p.safe pair ≡ true) where
+module _ (g : Game) (head : ℕ) (p : FallingProgress) (h : IsFalling g g.cells head p) (pair : ℕ) (lt : pair < pairs_of g) (safe : is_safe p.safe pair ≡ true) where
   abbrev cell : ℕ
   cell = pair / g.inputs
 
@@ -66,7 +66,7 @@ module _ (g : Game) (head : ℕ) (p : Progress) (h : IsFalling g g.cells head p)
   pub some_left : 1 ≤ get_or p.left cell 0
   some_left = let n = h.safe.counted cell parts.cell in let l = one_less in omega arith
 
-  abbrev q : Progress
+  abbrev q : FallingProgress
   q = without_pair pair (pair / g.inputs) p
 
   left_here : suc (get_or q.left cell 0) ≡ get_or p.left cell 0
@@ -147,7 +147,7 @@ module _ (g : Game) (head : ℕ) (p : Progress) (h : IsFalling g g.cells head p)
     lessened_then = checked (get_or q.left cell 0 == 0) refl
 
 -- the same, whether the pair was safe or not
-module _ (g : Game) (head : ℕ) (p : Progress) (h : IsFalling g g.cells head p) (pair : ℕ) (lt : pair < pairs_of g) (s : ℕ) (leads : Contains (successors_at g pair) s) (gone : Contains p.queue s) where
+module _ (g : Game) (head : ℕ) (p : FallingProgress) (h : IsFalling g g.cells head p) (pair : ℕ) (lt : pair < pairs_of g) (s : ℕ) (leads : Contains (successors_at g pair) s) (gone : Contains p.queue s) where
   loss_by : (b : Bool) → is_safe p.safe pair ≡ b → IsFalling g g.cells head (cond b (after_check (pair / g.inputs) (without_pair pair (pair / g.inputs) p)) p)
   loss_by true e = lessened_then g head p h pair lt e s leads gone
   loss_by false e = h
@@ -156,11 +156,11 @@ module _ (g : Game) (head : ℕ) (p : Progress) (h : IsFalling g g.cells head p)
   after_one = loss_by (is_safe p.safe pair) refl
 
 -- what a loss leaves as it was
-checked_safe : (b : Bool) (c : ℕ) (p : Progress) → (cond b (with_fall c p) p).safe ≡ p.safe
+checked_safe : (b : Bool) (c : ℕ) (p : FallingProgress) → (cond b (with_fall c p) p).safe ≡ p.safe
 checked_safe true c p = refl
 checked_safe false c p = refl
 
-pub closed_by_loss : (g : Game) (pair : ℕ) (p : Progress) → pair < length p.safe → is_safe (after_loss g pair p).safe pair ≡ false
+pub closed_by_loss : (g : Game) (pair : ℕ) (p : FallingProgress) → pair < length p.safe → is_safe (after_loss g pair p).safe pair ≡ false
 closed_by_loss g pair p lt = by_test (is_safe p.safe pair) refl
   where
     by_test : (b : Bool) → is_safe p.safe pair ≡ b → is_safe (cond b (after_check (pair / g.inputs) (without_pair pair (pair / g.inputs) p)) p).safe pair ≡ false
@@ -169,7 +169,7 @@ closed_by_loss g pair p lt = by_test (is_safe p.safe pair) refl
         ∙ get_or-set_same p.safe pair false false lt
     by_test false e = e
 
-pub closed_stays : (g : Game) (pair q : ℕ) (p : Progress) → is_safe p.safe q ≡ false → is_safe (after_loss g pair p).safe q ≡ false
+pub closed_stays : (g : Game) (pair q : ℕ) (p : FallingProgress) → is_safe p.safe q ≡ false → is_safe (after_loss g pair p).safe q ≡ false
 closed_stays g pair q p f = by_test (is_safe p.safe pair) refl
   where
     by_test : (b : Bool) → is_safe p.safe pair ≡ b → is_safe (cond b (after_check (pair / g.inputs) (without_pair pair (pair / g.inputs) p)) p).safe q ≡ false
@@ -181,11 +181,11 @@ closed_stays g pair q p f = by_test (is_safe p.safe pair) refl
         ]
     by_test false e = f
 
-checked_queue : (b : Bool) (c : ℕ) (p : Progress) (i : ℕ) → i < length p.queue → (get_or (cond b (with_fall c p) p).queue i 0 ≡ get_or p.queue i 0) × (i < length (cond b (with_fall c p) p).queue)
+checked_queue : (b : Bool) (c : ℕ) (p : FallingProgress) (i : ℕ) → i < length p.queue → (get_or (cond b (with_fall c p) p).queue i 0 ≡ get_or p.queue i 0) × (i < length (cond b (with_fall c p) p).queue)
 checked_queue true c p i lt = (get_or_append_left p.queue (c ∷ []) 0 i lt, let n = length_push p.queue c in omega arith)
 checked_queue false c p i lt = (refl, lt)
 
-pub queue_stays : (g : Game) (pair : ℕ) (p : Progress) (i : ℕ) → i < length p.queue → (get_or (after_loss g pair p).queue i 0 ≡ get_or p.queue i 0) × (i < length (after_loss g pair p).queue)
+pub queue_stays : (g : Game) (pair : ℕ) (p : FallingProgress) (i : ℕ) → i < length p.queue → (get_or (after_loss g pair p).queue i 0 ≡ get_or p.queue i 0) × (i < length (after_loss g pair p).queue)
 queue_stays g pair p i lt = by_test (is_safe p.safe pair)
   where
     by_test : (b : Bool) → (get_or (cond b (after_check (pair / g.inputs) (without_pair pair (pair / g.inputs) p)) p).queue i 0 ≡ get_or p.queue i 0) × (i < length (cond b (after_check (pair / g.inputs) (without_pair pair (pair / g.inputs) p)) p).queue)
@@ -193,13 +193,13 @@ queue_stays g pair p i lt = by_test (is_safe p.safe pair)
     by_test false = (refl, lt)
 
 -- What stands as the cell c is taken, with j of its sources done.
-pub record IsTaking (g : Game) (head c : ℕ) (sources : List ℕ) (j : ℕ) (p : Progress) : Type 0 where
+pub record IsTaking (g : Game) (head c : ℕ) (sources : List ℕ) (j : ℕ) (p : FallingProgress) : Type 0 where
   pub falling : IsFalling g g.cells head p
   pub at : head < length p.queue
   pub is : get_or p.queue head 0 ≡ c
   pub done : (i : ℕ) → i < j → is_safe p.safe (get_or sources i 0) ≡ false
 
-module _ (g : Game) (head c : ℕ) (sources : List ℕ) (are : AreSources g c sources) (p : Progress) where
+module _ (g : Game) (head c : ℕ) (sources : List ℕ) (are : AreSources g c sources) (p : FallingProgress) where
   module _ (j : ℕ) (lj : j < length sources) (h : IsTaking g head c sources j p) where
     abbrev pair : ℕ
     pair = get_or sources j 0

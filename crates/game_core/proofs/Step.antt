@@ -14,20 +14,20 @@ use Rattle.game_core.specs.declared.game.Mark.TheVariants.{Goal, Obstacle, Plain
 use Rattle.game_core.specs.declared.game.Row.{Row}
 use Rattle.game_core.specs.Game.{Game, IsGame, IsEnabled, mark_of, pair_of, pairs_of, successors_at, successors_of}
 use Rattle.game_core.specs.Solution.{row_of, HasRowBelow}
-use Rattle.game_core.specs.inside.Search.{Progress, with_row, with_offer_to, with_offer_at, with_pair_done, with_one_less, after_cut, HasRowAtMost, IsSoundRow, IsGoalRow, IsCounted, IsTold, IsSearch}
+use Rattle.game_core.specs.inside.Search.{SearchProgress, with_row, with_offer_to, with_offer_at, with_pair_done, with_one_less, after_cut, HasRowAtMost, IsSoundRow, IsGoalRow, IsCounted, IsTold, IsSearch}
 
 -- the queue gets cells at its end alone
-pub record Grows (p q : Progress) : Type 0 where
+pub record Grows (p q : SearchProgress) : Type 0 where
   pub more : List ℕ
   pub is : q.queue ≡ p.queue ++ more
 
 -- what one cut leads to
-pub record IsStep (g : Game) (cut : ℕ → ℕ → Bool) (head top : ℕ) (p q : Progress) : Type 0 where
+pub record IsStep (g : Game) (cut : ℕ → ℕ → Bool) (head top : ℕ) (p q : SearchProgress) : Type 0 where
   pub search : IsSearch g cut head top q
   pub refines : Refines p.rows q.rows
   pub grows : Grows p q
 
-module _ (g : Game) (a : IsGame g) (cut : ℕ → ℕ → Bool) (head top : ℕ) (p : Progress) (h : IsSearch g cut head top p) (pair c : ℕ) (lt : pair < pairs_of g) (leads : Contains (successors_at g pair) c) (whole : cut pair c ≡ false) (row : Row) (has : row_of p.rows c ≡ Some row) (rank : suc row.rank ≡ top) (long : top ≤ length p.queue) where
+module _ (g : Game) (a : IsGame g) (cut : ℕ → ℕ → Bool) (head top : ℕ) (p : SearchProgress) (h : IsSearch g cut head top p) (pair c : ℕ) (lt : pair < pairs_of g) (leads : Contains (successors_at g pair) c) (whole : cut pair c ≡ false) (row : Row) (has : row_of p.rows c ≡ Some row) (rank : suc row.rank ≡ top) (long : top ≤ length p.queue) where
   abbrev after : ℕ → ℕ → Bool
   after = with_edge cut pair c
 

@@ -15,7 +15,7 @@ use Rattle.game_core.proofs.Step.{Grows, IsStep, cut_step}
 use Rattle.game_core.specs.declared.game.Row.{Row}
 use Rattle.game_core.specs.Game.{Game, IsGame, AreSources, pair_of, pairs_of, successors_at}
 use Rattle.game_core.specs.Solution.{row_of, rank_at, rank_in}
-use Rattle.game_core.specs.inside.Search.{Progress, after_cut, IsTold, IsSearch, IsSearched, is_taken}
+use Rattle.game_core.specs.inside.Search.{SearchProgress, after_cut, IsTold, IsSearch, IsSearched, is_taken}
 
 -- cuts that agree on the successors tell alike
 pub told_alike : (g : Game) (cut other : ℕ → ℕ → Bool) (top : ℕ) (rows : List (Option Row)) → IsTold g cut top rows → ((pair s : ℕ) → pair < pairs_of g → Contains (successors_at g pair) s → cut pair s ≡ other pair s) → IsTold g other top rows
@@ -27,7 +27,7 @@ told_alike g cut other top rows h alike = record {
   best = λ c v m lc plain enabled all each. h.best c v m lc plain enabled (λ i d li. let q = pair_of g c v in alike q (get_or (successors_at g q) i d) (pair_below g c v lc enabled.0) (Contains-get_or (successors_at g q) i d li) ∙ all i d li) each;
 }
 
-pub search_alike : (g : Game) (cut other : ℕ → ℕ → Bool) (head top : ℕ) (p : Progress) → IsSearch g cut head top p → ((pair s : ℕ) → pair < pairs_of g → Contains (successors_at g pair) s → cut pair s ≡ other pair s) → IsSearch g other head top p
+pub search_alike : (g : Game) (cut other : ℕ → ℕ → Bool) (head top : ℕ) (p : SearchProgress) → IsSearch g cut head top p → ((pair s : ℕ) → pair < pairs_of g → Contains (successors_at g pair) s → cut pair s ≡ other pair s) → IsSearch g other head top p
 search_alike g cut other head top p h alike = record {
   queue = h.queue;
   counted = counted_alike g cut other p.left h.counted alike;
@@ -35,7 +35,7 @@ search_alike g cut other head top p h alike = record {
 }
 
 -- rows of one rank more may come
-raise_search : (g : Game) (cut : ℕ → ℕ → Bool) (head top : ℕ) (p : Progress) → IsSearch g cut head top p → head < length p.queue → IsSearch g cut head (suc (rank_at p.rows (get_or p.queue head 0))) p
+raise_search : (g : Game) (cut : ℕ → ℕ → Bool) (head top : ℕ) (p : SearchProgress) → IsSearch g cut head top p → head < length p.queue → IsSearch g cut head (suc (rank_at p.rows (get_or p.queue head 0))) p
 raise_search g cut head top p h lt =
     let up = raised_top head top p.rows p.queue h.queue 0 lt in
     record {
@@ -55,7 +55,7 @@ abbrev pub taking : ℕ → List ℕ → ℕ → List ℕ → ℕ → ℕ → �
 taking head queue c sources j pair s = list_any (◌==◌ s) (take head queue) || (list_any (◌==◌ pair) (take j sources) && s == c)
 
 -- What stands as the cell c is taken, with j of its sources done, since the progress was `first`.
-pub record IsTaking (g : Game) (head top c : ℕ) (sources : List ℕ) (j : ℕ) (first p : Progress) : Type 0 where
+pub record IsTaking (g : Game) (head top c : ℕ) (sources : List ℕ) (j : ℕ) (first p : SearchProgress) : Type 0 where
   pub search : IsSearch g (taking head first.queue c sources j) head top p
   pub row : Row
   pub has : row_of p.rows c ≡ Some row
@@ -63,7 +63,7 @@ pub record IsTaking (g : Game) (head top c : ℕ) (sources : List ℕ) (j : ℕ)
   pub long : top ≤ length p.queue
   pub grows : Grows first p
 
-module _ (g : Game) (head c : ℕ) (sources : List ℕ) (first : Progress) (lt : head < length first.queue) (at : get_or first.queue head 0 ≡ c) where
+module _ (g : Game) (head c : ℕ) (sources : List ℕ) (first : SearchProgress) (lt : head < length first.queue) (at : get_or first.queue head 0 ≡ c) where
   taking_none : (pair s : ℕ) → is_taken head first.queue pair s ≡ taking head first.queue c sources 0 pair s
   taking_none pair s = sym (or-false (list_any (◌==◌ s) (take head first.queue)))
 
@@ -92,8 +92,8 @@ both false true true false = refl
 both false true false false = refl
 both false false d b = refl
 
-module _ (g : Game) (a : IsGame g) (head top c : ℕ) (sources : List ℕ) (are : AreSources g c sources) (first : Progress) (lt : head < length first.queue) (at : get_or first.queue head 0 ≡ c) where
-  module _ (p : Progress) (j : ℕ) (lj : j < length sources) (h : IsTaking g head top c sources j first p) where
+module _ (g : Game) (a : IsGame g) (head top c : ℕ) (sources : List ℕ) (are : AreSources g c sources) (first : SearchProgress) (lt : head < length first.queue) (at : get_or first.queue head 0 ≡ c) where
+  module _ (p : SearchProgress) (j : ℕ) (lj : j < length sources) (h : IsTaking g head top c sources j first p) where
     abbrev pair : ℕ
     pair = get_or sources j 0
 
@@ -156,10 +156,10 @@ module _ (g : Game) (a : IsGame g) (head top c : ℕ) (sources : List ℕ) (are 
           grows = record { more = h.grows.more ++ s.grows.more; is = s.grows.is ∙ (ap (λ (q : List ℕ). q ++ s.grows.more) h.grows.is ∙ append_assoc first.queue h.grows.more s.grows.more) };
         }
 
-    pub taking_step : (q : Progress) → q ≡ after_cut g pair top p → IsTaking g head top c sources (j + 1) first q
+    pub taking_step : (q : SearchProgress) → q ≡ after_cut g pair top p → IsTaking g head top c sources (j + 1) first q
     taking_step q e = subst (IsTaking g head top c sources (j + 1) first) (sym e) one_more
 
-  module _ (p : Progress) (j : ℕ) (e : j ≡ length sources) (h : IsTaking g head top c sources j first p) where
+  module _ (p : SearchProgress) (j : ℕ) (e : j ≡ length sources) (h : IsTaking g head top c sources j first p) where
     taken_then : take (head + 1) p.queue ≡ take head first.queue ++ c ∷ []
     taken_then = ap (take (head + 1)) h.grows.is ∙ (take-append-le (head + 1) first.queue h.grows.more (omega arith) ∙ (take_more first.queue head 0 lt ∙ ap (λ d. take head first.queue ++ d ∷ []) at))
 

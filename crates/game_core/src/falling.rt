@@ -1,6 +1,6 @@
 ghost use Rattle.std.specs.Prelude.{◌≡◌, ℕ, ◌+◌, ◌<◌, length, slice_index, IfOk};
 ghost use Rattle.game_core.specs.Game.{pairs_of};
-ghost use Rattle.game_core.specs.inside.Falling.{first_progress, with_fall, without_pair, after_loss, is_live, is_safe, safe_at_first, safe_pairs, IsFalling, IsFirstSafe, AreFirstSafe, safe_counts};
+ghost use Rattle.game_core.specs.inside.Falling.{falling_at_first, with_fall, without_pair, after_loss, is_live, is_safe, safe_at_first, safe_pairs, IsFalling, IsFirstSafe, AreFirstSafe, safe_counts};
 
 use crate::answer::Answer;
 use crate::game::{Graph, Mark, Row};
@@ -21,10 +21,10 @@ pub(crate) struct Falling {
 }
 
 impl Model for Falling {
-    ghost use Rattle.game_core.specs.inside.Falling.{Progress, HasPositions};
+    ghost use Rattle.game_core.specs.inside.Falling.{FallingProgress, HasPositions};
     ghost use Rattle.std.specs.Prelude.{take};
 
-    ghost Value = { Progress };
+    ghost Value = { FallingProgress };
 
     ghost view = { λ f. record { safe = f.safe.items; left = f.left.items; queue = take f.found f.order.items } };
 
@@ -82,7 +82,7 @@ fn counts<G: Graph>(alloc: Global, g: &G, safe: &[bool]) -> Result<Vec<u32>, NoM
 impl Falling {
     /// Each live pair is safe, and no cell has fallen yet.
     pub(crate) fn new<G: Graph>(alloc: Global, g: &G) -> Result<Falling, NoMemory>
-        ensures { IfOk result (λ f. f ≡ first_progress (G.game g.now)) }
+        ensures { IfOk result (λ f. f ≡ falling_at_first (G.game g.now)) }
     {
         let safe = live_pairs(alloc, g)?;
         let left = counts(alloc, g, &safe)?;
@@ -104,7 +104,7 @@ impl Falling {
 
     /// The cells without a safe pair fall: the obstacles, and those without an enabled input.
     pub(crate) fn gather<G: Graph>(&mut self, g: &G)
-        requires { self.old ≡ first_progress (G.game g.now) }
+        requires { self.old ≡ falling_at_first (G.game g.now) }
         ensures { IsFalling (G.game g.now) (G.game g.now).cells 0 self.new }
     {
         for c in 0..g.cells() {

@@ -1,7 +1,7 @@
 ghost use Rattle.std.specs.Prelude.{◌≡◌, ◌+◌, ◌*◌, ◌<◌, None, length, slice_index, IfOk};
 ghost use Rattle.game_core.specs.Game.{pairs_of};
 ghost use Rattle.game_core.specs.Solution.{row_of, rank_at};
-ghost use Rattle.game_core.specs.inside.Search.{first_progress, with_row, with_offer, with_pair_done, after_cut, IsGathered, IsSearched};
+ghost use Rattle.game_core.specs.inside.Search.{search_at_first, with_row, with_offer, with_pair_done, after_cut, IsGathered, IsSearched};
 
 use crate::answer::Answer;
 use crate::fan_counts::fans;
@@ -22,10 +22,10 @@ pub(crate) struct Search {
 }
 
 impl Model for Search {
-    ghost use Rattle.game_core.specs.inside.Search.{Progress, HasCapacity};
+    ghost use Rattle.game_core.specs.inside.Search.{SearchProgress, HasCapacity};
     ghost use Rattle.std.specs.Prelude.{take};
 
-    ghost Value = { Progress };
+    ghost Value = { SearchProgress };
 
     ghost view = { λ s. record { left = s.left.items; rows = s.answer; queue = take s.found s.order.items } };
 
@@ -35,7 +35,7 @@ impl Model for Search {
 impl Search {
     /// Nothing is taken yet, and no cell has a row.
     pub(crate) fn new<G: Graph>(alloc: Global, g: &G) -> Result<Search, NoMemory>
-        ensures { IfOk result (λ s. s ≡ first_progress (G.game g.now)) }
+        ensures { IfOk result (λ s. s ≡ search_at_first (G.game g.now)) }
     {
         let cells = g.cells();
         let left = fans(alloc, g)?;
@@ -64,7 +64,7 @@ impl Search {
 
     /// Gives each goal its row.
     pub(crate) fn gather<G: Graph>(&mut self, g: &G)
-        requires { self.old ≡ first_progress (G.game g.now) }
+        requires { self.old ≡ search_at_first (G.game g.now) }
         ensures { IsGathered (G.game g.now) (G.game g.now).cells self.new }
     {
         for c in 0..g.cells() {

@@ -10,7 +10,7 @@ use Rattle.game_core.specs.Solution.{row_of, rank_at, HasRowBelow}
 
 -- How far a search has come: for each pair the successors that are still to be taken, the rows, and the
 -- cells that have one, in the order of their ranks.
-pub record Progress : Type 0 where
+pub record SearchProgress : Type 0 where
   pub left : List ℕ
   pub rows : List (Option Row)
   pub queue : List ℕ
@@ -20,12 +20,12 @@ pub record HasCapacity (rows : List (Option Row)) (order : List ℕ) (found : �
   pub one_position_each : length order ≡ length rows
   pub counted : found ≡ count_by is_some rows
 
--- nothing is taken, and no cell has a row
-abbrev pub first_progress : Game → Progress
-first_progress g = record { left = map length g.successors; rows = replicate g.cells None; queue = [] }
+-- a search in which nothing is taken yet, and no cell has a row
+abbrev pub search_at_first : Game → SearchProgress
+search_at_first g = record { left = map length g.successors; rows = replicate g.cells None; queue = [] }
 
 -- a cell without a row gets one
-abbrev pub with_row : ℕ → Row → Progress → Progress
+abbrev pub with_row : ℕ → Row → SearchProgress → SearchProgress
 with_row c row p = record { left = p.left; rows = slice_set p.rows c (Some row); queue = p.queue ++ c ∷ [] }
 
 -- of two inputs at one rank the lesser stands
@@ -33,30 +33,30 @@ abbrev pub better : Row → Row → Row
 better old new = if (old.rank == new.rank) && nat_lt new.input old.input then new else old
 
 -- a row is offered to a cell, by the row that it has
-abbrev pub with_offer_to : Option Row → ℕ → Row → Progress → Progress
+abbrev pub with_offer_to : Option Row → ℕ → Row → SearchProgress → SearchProgress
 with_offer_to None c row p = with_row c row p
 with_offer_to (Some old) c row p = record { left = p.left; rows = slice_set p.rows c (Some (better old row)); queue = p.queue }
 
 -- the progress after a row is offered to a cell
-abbrev pub with_offer : ℕ → Row → Progress → Progress
+abbrev pub with_offer : ℕ → Row → SearchProgress → SearchProgress
 with_offer c row p = with_offer_to (row_of p.rows c) c row p
 
 -- the same, by the cell's mark: a plain cell alone takes it
-abbrev pub with_offer_at : Mark → ℕ → Row → Progress → Progress
+abbrev pub with_offer_at : Mark → ℕ → Row → SearchProgress → SearchProgress
 with_offer_at Goal c row p = p
 with_offer_at Obstacle c row p = p
 with_offer_at Plain c row p = with_offer c row p
 
 -- the last successor of a pair is taken
-abbrev pub with_pair_done : Game → ℕ → ℕ → Progress → Progress
+abbrev pub with_pair_done : Game → ℕ → ℕ → SearchProgress → SearchProgress
 with_pair_done g pair rank p = with_offer_at (mark_of g (pair / g.inputs)) (pair / g.inputs) (record { rank = rank; input = pair % g.inputs }) p
 
 -- one less is left of a pair
-abbrev pub with_one_less : ℕ → Progress → Progress
+abbrev pub with_one_less : ℕ → SearchProgress → SearchProgress
 with_one_less pair p = record { left = slice_set p.left pair (slice_index p.left pair - 1); rows = p.rows; queue = p.queue }
 
 -- a successor of a pair is taken
-abbrev pub after_cut : Game → ℕ → ℕ → Progress → Progress
+abbrev pub after_cut : Game → ℕ → ℕ → SearchProgress → SearchProgress
 after_cut g pair rank p = if slice_index p.left pair - 1 == 0 then with_pair_done g pair rank (with_one_less pair p) else with_one_less pair p
 
 -- a row is true: rank 0 stands at a goal, and a higher one leads to lower ones
@@ -108,7 +108,7 @@ pub record IsTold (g : Game) (cut : ℕ → ℕ → Bool) (top : ℕ) (rows : Li
   pub best : (c v m : ℕ) → c < g.cells → mark_of g c ≡ Plain → IsEnabled g c v → All (λ s. cut (pair_of g c v) s ≡ true) (successors_of g c v) → All (HasRowBelow rows m) (successors_of g c v) → HasRowAtMost rows m v c
 
 -- a search is in order: its queue, and for the successors that are cut its counts and its rows
-pub record IsSearch (g : Game) (cut : ℕ → ℕ → Bool) (head top : ℕ) (p : Progress) : Type 0 where
+pub record IsSearch (g : Game) (cut : ℕ → ℕ → Bool) (head top : ℕ) (p : SearchProgress) : Type 0 where
   pub queue : IsQueue head top p.rows p.queue
   pub counted : IsCounted g cut p.left
   pub told : IsTold g cut top p.rows
@@ -118,12 +118,12 @@ abbrev pub is_taken : ℕ → List ℕ → ℕ → ℕ → Bool
 is_taken head queue pair s = list_any (◌==◌ s) (take head queue)
 
 -- the first cells of the queue are taken
-pub record IsSearched (g : Game) (head : ℕ) (p : Progress) : Type 0 where
+pub record IsSearched (g : Game) (head : ℕ) (p : SearchProgress) : Type 0 where
   pub top : ℕ
   pub search : IsSearch g (is_taken head p.queue) head top p
 
 -- The goals below a bound have their rows, and no other cell has one.
-pub record IsGathered (g : Game) (bound : ℕ) (p : Progress) : Type 0 where
+pub record IsGathered (g : Game) (bound : ℕ) (p : SearchProgress) : Type 0 where
   pub left : p.left ≡ map length g.successors
   pub one_each : length p.rows ≡ g.cells
   pub queue : IsQueue 0 0 p.rows p.queue

@@ -3,16 +3,16 @@ use Rattle.std.proofs.lemmas.List.Sums.{count_by-le-length}
 use Rattle.game_core.proofs.Gathering.{searched_none, consistent_all}
 use Rattle.game_core.proofs.Reach.{solution_from_consistent}
 use Rattle.game_core.specs.Game.{Game, IsGame}
-use Rattle.game_core.specs.inside.Search.{Progress, IsSearched}
+use Rattle.game_core.specs.inside.Search.{SearchProgress, IsSearched}
 use Rattle.game_core.specs.Solution.{IsReachSolution}
 use Rattle.game_core.proofs.plain.solve_plain.Goals as goal
 
 -- with every cell taken the rows are the solution
-solution_from_searched : (g : Game) → IsGame g → (p : Progress) (head : ℕ) → length p.queue ≤ head → IsSearched g head p → IsReachSolution g p.rows
+solution_from_searched : (g : Game) → IsGame g → (p : SearchProgress) (head : ℕ) → length p.queue ≤ head → IsSearched g head p → IsReachSolution g p.rows
 solution_from_searched g a p head long h = solution_from_consistent g p.rows a (consistent_all g a p head long h)
 
 -- a cell is left for each step to come
-nearer : (g : Game) (head : ℕ) (p q : Progress) → IsSearched g head p → IsSearched g (head + 1) q → head < length q.queue → length q.rows - (head + 1) < length p.rows - head
+nearer : (g : Game) (head : ℕ) (p q : SearchProgress) → IsSearched g head p → IsSearched g (head + 1) q → head < length q.queue → length q.rows - (head + 1) < length p.rows - head
 nearer g head p q h k lt =
     let size = k.search.queue.size in
     let most = count_by-le-length is_some q.rows in

@@ -4,18 +4,18 @@ use Rattle.std.proofs.lemmas.List.Sums.{count_by-le-length}
 use Rattle.game_core.proofs.Rows.{below_from_row}
 use Rattle.game_core.proofs.Taking.{taking_start, taking_step, taking_end, left_to_cut}
 use Rattle.game_core.specs.Game.{Game, IsGraph}
-use Rattle.game_core.specs.inside.Search.{Progress, IsSearched}
+use Rattle.game_core.specs.inside.Search.{SearchProgress, IsSearched}
 use Rattle.game_core.specs.Solution.{rank_at}
 use Rattle.game_core.proofs.search.Search.take.Goals as goal
 
 -- the cell at the head has a row
-cell_below : (g : Game) (head : ℕ) (p : Progress) → IsSearched g head p → head < length p.queue → (c : ℕ) → c ≡ get_or p.queue head 0 → c < length p.rows
+cell_below : (g : Game) (head : ℕ) (p : SearchProgress) → IsSearched g head p → head < length p.queue → (c : ℕ) → c ≡ get_or p.queue head 0 → c < length p.rows
 cell_below g head p h lt c e =
     let has = h.search.queue.has_row c (subst (Contains p.queue) (sym e) (Contains-get_or p.queue head 0 lt)) in
     below_from_row p.rows c has.0 has.1
 
 -- its rank is below the number of cells
-rank_below : (g : Game) → IsGraph g → (head : ℕ) (p : Progress) → IsSearched g head p → head < length p.queue → (c : ℕ) → c ≡ get_or p.queue head 0 → rank_at p.rows c < 2 ^ 20
+rank_below : (g : Game) → IsGraph g → (head : ℕ) (p : SearchProgress) → IsSearched g head p → head < length p.queue → (c : ℕ) → c ≡ get_or p.queue head 0 → rank_at p.rows c < 2 ^ 20
 rank_below g a head p h lt c e =
     let q = h.search.queue in
     let short = q.short head 0 lt in
