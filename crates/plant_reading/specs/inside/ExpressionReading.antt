@@ -1,6 +1,6 @@
 -- How an expression is read, from left to right: what a sum, a term or a factor at the front of the tokens is, and the tokens
 -- after it. No public clause names this.
-use denote.Ref.{Bor}
+use Rattle.std.specs.Borrow.{Bor}
 use Rattle.std.specs.Prelude.{◌≡◌, ℕ, zero, suc, ◌-◌, ◌+◌, ◌≤◌, max, ◌==◌, ◌&&◌, nat_lt, nat_le, int_lt, ℤ, pos, neg_ℤ, Bool, true, List, [], ◌∷◌, ◌++◌, length, Option, Some, None, Result, Ok, Err, if◌then◌else◌}
 use Rattle.plant_reading.specs.declared.line_fault.LineFault.{LineFault}
 use Rattle.plant_reading.specs.declared.line_fault.LineFault.TheVariants as faults

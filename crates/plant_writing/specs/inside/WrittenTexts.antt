@@ -1,5 +1,5 @@
 -- The texts of expressions as they lie in memory. No public clause names this.
-use denote.Ref.{Bor}
+use Rattle.std.specs.Borrow.{Bor}
 use Rattle.std.specs.Prelude.{ℕ, ℤ, List, ◌++◌, codes}
 use Rattle.std.specs.List.{flat_map}
 use Rattle.fixed_expr.specs.declared.expr.Expr.{Expr}
