@@ -12,6 +12,7 @@ use Rattle.grid_quantiser.specs.Axes.{cells_of, end_of}
 use Rattle.grid_quantiser.specs.Cells.{IsInDomain, index_of, cell_of, point_of}
 use Rattle.plant_record.specs.declared.aims.GoalKind.{GoalKind}
 use Rattle.plant_record.specs.Description.{Description, axis_of, axes_of, vector_of}
+use Rattle.plant_record.specs.States.{state_point}
 use Rattle.plant_record.specs.Steps.{step_of}
 use Rattle.row_runs.specs.RunText.{line, rank_field, input_field}
 use Rattle.controller_table.specs.TableText.{format_of}
@@ -43,7 +44,7 @@ axes_many p = length-map p.states axis_of
 
 module _ (p : Description) (rows : List (Option Row)) (x : List ℤ) (long : length p.states ≤ length x) where
   abbrev start : List ℤ
-  start = point_of (take (length p.states) x)
+  start = state_point p x
 
   abbrev past : List ℤ
   past = replicate (6 - length (take (length p.states) x)) (pos 0)

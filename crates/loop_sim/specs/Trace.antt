@@ -1,5 +1,5 @@
 -- The trace of a plant in closed loop with the rows of a table.
-use Rattle.std.specs.Prelude.{ℕ, zero, suc, ◌==◌, ◌&&◌, Bool, true, false, ℤ, int_le, int_lt, List, [], ◌∷◌, length, take, Option, Some, None, if◌then◌else◌}
+use Rattle.std.specs.Prelude.{ℕ, zero, suc, ◌==◌, ◌&&◌, Bool, true, false, ℤ, int_le, int_lt, List, [], ◌∷◌, Option, Some, None, if◌then◌else◌}
 use Rattle.game_core.specs.declared.game.Row.{Row}
 use Rattle.game_core.specs.Solution.{row_of}
 use Rattle.grid_quantiser.specs.declared.axis.Axis.{Axis}
@@ -8,6 +8,7 @@ use Rattle.grid_quantiser.specs.Cells.{cell_of, point_of}
 use Rattle.plant_record.specs.declared.aims.GoalKind.{GoalKind}
 use Rattle.plant_record.specs.declared.aims.GoalKind.TheVariants.{Reach, Keep}
 use Rattle.plant_record.specs.Description.{Description, axes_of}
+use Rattle.plant_record.specs.States.{state_point}
 use Rattle.plant_record.specs.Steps.{step_of}
 use Rattle.controller_table.specs.Tables.{TableModel}
 use Rattle.controller_table.specs.Choice.{HasRowAt}
@@ -45,10 +46,6 @@ trace_lines p rows seed (suc left) t x =
 -- a table has a row at a state
 abbrev pub HasSomeRowAt : TableModel → List ℤ → Type 0
 HasSomeRowAt t x = (row : Row) × HasRowAt t.plant t.rows x row
-
--- a state of a plant as a point, with 0 in the places past the states
-abbrev pub state_point : Description → List ℤ → List ℤ
-state_point p x = point_of (take (length p.states) x)
 
 -- the lines of the trace from a state's point, with at most n samples after the first
 abbrev pub trace_from : TableModel → ℕ → ℕ → List ℤ → List SimLine

@@ -1,6 +1,6 @@
 ghost use Rattle.std.specs.Prelude.{◌≡◌, ◌≤◌, ◌∷◌, [], IfSome, IfNone, SomeIff};
 ghost use Rattle.successor_box.specs.Deviations.{HasNoOverflow, deviations_of};
-ghost use Rattle.loop_sim.specs.Trace.{HasSomeRowAt, state_point, trace_from};
+ghost use Rattle.loop_sim.specs.Trace.{HasSomeRowAt, trace_from};
 ghost use Rattle.base.specs.declared.limits.TheConstants.{SAMPLES_LIMIT};
 
 use crate::closed_loop::{Sample, Stage, first_line, row_at};
@@ -51,7 +51,7 @@ impl<'a> Sim<'a> {
             equations: Equations::new(t.plant()),
             stage: Stage::Due(Sample {
                 time: 0,
-                x: start_of(t, x),
+                x: t.plant().state_point(x),
                 left: steps,
                 state: seed,
                 seed,
@@ -73,15 +73,4 @@ impl<'a> Sim<'a> {
         self.stage = stage;
         Some(line)
     }
-}
-
-/// A state as a point, with 0 in the places past the states.
-fn start_of(t: &Table, x: &Point) -> Point
-    ensures { result ≡ state_point t.now.plant x.now }
-{
-    let mut at = [0; 6];
-    for i in 0..t.plant().grid().states() as usize {
-        at[i] = x[i];
-    }
-    at
 }

@@ -11,6 +11,7 @@ ghost use Rattle.plant_record.specs.Plants.{IsPlant};
 ghost use Rattle.plant_record.specs.Limits.{IsWithinLimits, Exceeds};
 ghost use Rattle.plant_record.specs.CellMarks.{IsGoalCell, IsObstacleCell};
 ghost use Rattle.plant_record.specs.Parts.{description_of};
+ghost use Rattle.plant_record.specs.States.{state_point};
 ghost use Rattle.plant_record.specs.Versions.{version_number};
 ghost use Rattle.base.specs.declared.limits.TheConstants.{VARIABLES_LIMIT};
 
@@ -20,7 +21,7 @@ use crate::limit_kind::LimitKind;
 use crate::plant_parts::{PlantParts, grid_of, vectors_of};
 use crate::variables::Name;
 use crate::version::PlantVersion;
-use base::limits::{PAIRS_LIMIT, VECTORS_LIMIT};
+use base::limits::{PAIRS_LIMIT, STATES_LIMIT, VECTORS_LIMIT};
 use fixed_expr::Expr;
 use grid_quantiser::{Grid, Point};
 use std::marker::Model;
@@ -143,6 +144,17 @@ impl Plant {
         ensures { result.now ≡ axes_of self.now }
     {
         &self.grid
+    }
+
+    /// A state as a point, with 0 in the places past the states.
+    pub fn state_point(&self, x: &Point) -> Point
+        ensures { result ≡ state_point self.now x.now }
+    {
+        let mut at = [0; STATES_LIMIT];
+        for i in 0..self.parts.variables.states.len() {
+            at[i] = x[i];
+        }
+        at
     }
 
     /// The equation of a state.

@@ -13,7 +13,7 @@ use Rattle.plant_record.specs.Description.{Description, axes_of, axis_of}
 use Rattle.plant_record.specs.Steps.{step_of}
 use Rattle.successor_box.proofs.Padding.{point_lies}
 use Rattle.controller_table.specs.Choice.{Chooses, HasRowAt}
-use Rattle.plant_record.specs.States.{LiesInSome, IsClear}
+use Rattle.plant_record.specs.States.{state_point, LiesInSome, IsClear}
 use Rattle.plant_refine.specs.Trajectories.{StepsTo, IsStateAt, ArrivesFirst}
 use Rattle.plant_refine.specs.inside.Descents.{HasLowerRow, LeadDown}
 use Rattle.controller_table.proofs.OneTable.{one_choice_at}
@@ -31,7 +31,7 @@ cell_take (a ∷ axes) [] = refl
 cell_take (a ∷ axes) (x ∷ xs) = ap (λ (n : ℕ). index_of a x * cells_of axes + n) (cell_take axes xs)
 
 -- a row stands at the start as at the state
-at_start : (p : Description) (rows : List (Option Row)) (x : List ℤ) (row : Row) → HasRowAt p rows x row → HasRowAt p rows (point_of (take (length p.states) x)) row
+at_start : (p : Description) (rows : List (Option Row)) (x : List ℤ) (row : Row) → HasRowAt p rows x row → HasRowAt p rows (state_point p x) row
 at_start p rows x row has =
     let count : length (axes_of p) ≡ length p.states = length-map p.states axis_of in
     let inside = inside_take (axes_of p) x has.inside in
@@ -74,7 +74,7 @@ module _ {p : Description} {rows : List (Option Row)} (down : LeadDown p rows) (
             subst (IsClear p) (one_state n y z at (subst (λ (m : ℕ). IsStateAt p rows x ws m z) same h)) (down.clear y row has)
       ]
 
-  pub begins : (row : Row) → HasRowAt p rows x row → (y : List ℤ) → y ≡ point_of (take (length p.states) x) → IsUnderWay p rows x ws 0 y
+  pub begins : (row : Row) → HasRowAt p rows x row → (y : List ℤ) → y ≡ state_point p x → IsUnderWay p rows x ws 0 y
   begins row has y is =
       let there : HasRowAt p rows y row = subst (λ (s : List ℤ). HasRowAt p rows s row) (sym is) (at_start p rows x row has) in
       record {

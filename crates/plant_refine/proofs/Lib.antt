@@ -3,7 +3,6 @@ pub mod Landing
 pub mod Leading
 pub mod Down
 pub mod InBoxes
-pub mod Points
 pub mod Choosing
 pub mod Arriving
 pub mod RightTables

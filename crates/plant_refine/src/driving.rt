@@ -1,7 +1,6 @@
-ghost use Rattle.std.specs.Prelude.{◌≡◌, ◌≤◌, ◌<◌, length, take};
+ghost use Rattle.std.specs.Prelude.{◌≡◌, ◌≤◌, ◌<◌, length};
 ghost use Rattle.std.specs.List.{All};
 ghost use Rattle.game_core.specs.declared.game.Row.{Row};
-ghost use Rattle.grid_quantiser.specs.Cells.{point_of};
 ghost use Rattle.plant_record.specs.declared.aims.GoalKind.TheVariants.{Reach};
 ghost use Rattle.plant_record.specs.Limits.{IsWithinLimits};
 ghost use Rattle.plant_record.specs.Steps.{IsNoise};
@@ -39,7 +38,7 @@ pub fn drive(p: &Plant, s: &Slopes, t: &Table, x: &Point, noises: &[Point]) -> D
     ensures bound { (row : Row) → HasRowAt p.now t.now.rows x.now row → result.arrived_at ≤ row.rank }
 {
     every_table_fits(t);
-    let mut at = start_of(p, x);
+    let mut at = p.state_point(x);
     for (sample, noise) in noises.iter().enumerate() {
         if lies_in_target(p, &at) {
             return Driven {
@@ -73,16 +72,4 @@ fn next_state(p: &Plant, s: &Slopes, t: &Table, x: &Point, noise: &Point) -> Poi
     };
     let (next, _) = next_cell(p, s, x, input, noise);
     next
-}
-
-/// A state as a point, with 0 in the places past the states.
-fn start_of(p: &Plant, x: &Point) -> Point
-    requires plant { IsWithinLimits p.now }
-    ensures { result ≡ point_of (take (length p.now.states) x.now) }
-{
-    let mut at = [0; 6];
-    for i in 0..p.states() as usize {
-        at[i] = x[i];
-    }
-    at
 }

@@ -6,7 +6,7 @@ use Rattle.std.proofs.lemmas.List.{take_all}
 use Rattle.grid_quantiser.specs.Cells.{point_of}
 use Rattle.loop_sim.specs.Noise.{generator, next_state, noises_from}
 use Rattle.loop_sim.proofs.Draws.{noise_count, noise_at}
-use Rattle.successor_box.proofs.Padding.{point_more}
+use Rattle.plant_record.proofs.lemmas.NextPoints.{point_more}
 use Rattle.loop_sim.proofs.noise_generator.draw.Goals as goal
 
 pub loop-k-preserved : goal.loop-k-preserved

@@ -26,7 +26,7 @@ rank_fits c =
 pub loop-sample-init : goal.loop-sample-init
 loop-sample-init c =
     let lead = down (goal.at.loop-sample-init c).After-every_table_fits in
-    begins lead c.args.x.now c.args.noises.now c.requires.start.0 c.requires.start.1 c.start_of-at.result c.start_of-at.ensures
+    begins lead c.args.x.now c.args.noises.now c.requires.start.0 c.requires.start.1 c.state_point-at.result c.state_point-at.ensures
 
 pub overflow_cast-result : goal.overflow_cast-result
 overflow_cast-result c = let start = c.requires.start in omega (arith, c.loop-sample.invariant.falls start.0 start.1, rank_fits (goal.at.overflow_cast-result c).After-every_table_fits)

@@ -5,7 +5,7 @@ use Rattle.std.proofs.lemmas.Int.{to_z-of_z}
 use Rattle.std.proofs.lemmas.List.{length-map, take_all}
 use Rattle.grid_quantiser.specs.Cells.{point_of}
 use Rattle.successor_box.specs.SuccessorBoxes.{noise_centre}
-use Rattle.successor_box.proofs.Padding.{point_more}
+use Rattle.plant_record.proofs.lemmas.NextPoints.{point_more}
 use Rattle.successor_box.proofs.Ranges.{noise_bounds, noise_centre_at}
 use Rattle.successor_box.proofs.noise_centres.noise_centres.Goals as goal
 
