@@ -42,7 +42,7 @@ pub record IsTalliedBy (accounts : List Account) (tally : Tally) : Type 0 where
 abbrev pub IsFresh : BoardModel → Member HandModel → Type 0
 IsFresh board m = m.hand ≡ fresh_hand board
 
--- the accounts of some members, and all that they noted
+-- the accounts of some members
 abbrev pub accounts_of : List (Member HandModel) → List Account
 accounts_of members = map (λ (m : Member HandModel). m.hand.account) members
 

@@ -24,12 +24,12 @@ abbrev pub is_none_listed : List ℕ → Bool
 is_none_listed [] = true
 is_none_listed (n ∷ fails) = false
 
--- the room that is left where no call is to fail, and otherwise none that could be relied upon
+-- the capacity that is left where no call is to fail, and otherwise none that could be relied upon
 abbrev pub capacity_of : List ℕ → ℕ → List ℕ → ℕ
 capacity_of [] capacity got = capacity - length got
 capacity_of (n ∷ fails) capacity got = 0
 
--- the room of a sink that could be relied upon
+-- the capacity of a sink that could be relied upon
 abbrev pub sure_capacity : MemoryTaken → ℕ
 sure_capacity s = capacity_of s.fails s.capacity s.got
 

@@ -77,7 +77,7 @@ abbrev pub next_interval_of : PlantVersion → Description → ℕ → ℕ → E
 next_interval_of One p c u e = growth_of p c u e
 next_interval_of Two p c u e = intersection_of (growth_of p c u e) (span_of e (cell_area_of p c u))
 
--- the ends of the successor box, one for each state
+-- the lower ends of the successor box, one for each state
 abbrev pub low_corner : Description → ℕ → ℕ → List ℤ
 low_corner p c u = map (λ e. (next_interval_of p.version p c u e).lo) p.equations
 

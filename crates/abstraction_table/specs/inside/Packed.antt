@@ -14,7 +14,7 @@ box_in first last = if eqb first NO_BOX then None else Some (record { first = fi
 abbrev pub IsPacked : ℕ → ℕ → Type 0
 IsPacked first last = (first ≤ last) × (last ≤ NO_BOX)
 
--- the numbers of a box, or of none
+-- the first cell of a box as it is packed, NO_BOX where there is no box
 abbrev pub first_in : Option CellBox → ℕ
 first_in None = NO_BOX
 first_in (Some b) = b.first

@@ -14,7 +14,7 @@ use Rattle.plant_record.specs.StateBoxes.{IsStateBox, AreEnds}
 use Rattle.plant_record.specs.Spelling.{version_word, end_words, goal_word}
 use Rattle.base.specs.declared.limits.TheConstants.{VALUES_LIMIT}
 
--- what the words after `plant`, `state`, `input`, `noise`, a box's keyword and `goal` spell
+-- the word after `plant` spells the version
 abbrev pub SpellsVersion : List (List ℕ) → PlantVersion → Type 0
 SpellsVersion words v = words ≡ version_word v ∷ []
 

@@ -22,7 +22,7 @@ abbrev pub or_else : {A B : Type 0} → Option A → B → (A → B) → B
 or_else None d f = d
 or_else (Some x) d f = f x
 
--- the kind of a symbol, and that of a function's name
+-- the kind of a symbol
 abbrev pub parse_symbol : List ℕ → Option TokenKind
 parse_symbol token =
     if bytes_eq token (codes "+") then Some kind.Plus

@@ -16,7 +16,7 @@ abbrev pub Finds : {X Y : Type 0} → (X → Y) → (Y → Type 0) → Result X 
 Finds view Fits (Ok x) = Fits (view x)
 Finds view Fits (Err e) = Refuses Fits e
 
--- a word with the words after it: a name, a number
+-- a name at the front of the words, and the words after it
 abbrev pub StartsWithName : List (List ℕ) → List ℕ × List (List ℕ) → Type 0
 StartsWithName words y = IsName y.0 × (words ≡ y.0 ∷ y.1)
 

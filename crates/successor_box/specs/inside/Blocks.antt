@@ -34,7 +34,7 @@ deviation_along p i u = deviation_at p u (equation_at p i)
 abbrev pub next_interval_at : Description → ℕ → ℕ → ℕ → Interval
 next_interval_at p i c u = next_interval_of p.version p c u (equation_at p i)
 
--- the index and the value of an input variable in the input vector of a lane
+-- the index of an input variable's value in the input vector of a lane
 abbrev pub index_in_lane : Description → ℕ → List ℕ → ℕ → ℕ
 index_in_lane p k inputs lane = value_index p.inputs k (slice_index_or inputs lane 0)
 

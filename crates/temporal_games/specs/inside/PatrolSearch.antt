@@ -136,6 +136,6 @@ pub record IsStableAt (g : Game) (turn before : ℕ) (p q : PatrolProgress) : Ty
   pub fewer : again ≡ true → count_by is_goal (withdrawn (marks_for p.marks before) rows) < count_by is_goal (marks_for p.marks before)
   pub due_are : q.due ≡ cond again (slice_set (slice_set p.due turn false) before true) (slice_set p.due turn false)
 
--- a turn is solved, whichever turn is before it
+-- there is a turn before this one, and with it this one is solved
 abbrev pub IsSolvedAt : Game → ℕ → PatrolProgress → PatrolProgress → Type 0
 IsSolvedAt g turn p q = (before : ℕ) × IsBefore (length p.due) turn before × IsStableAt g turn before p q
