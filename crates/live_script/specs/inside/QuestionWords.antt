@@ -33,7 +33,7 @@ IsQuestionAt bytes y = AreStateNumbers y.0 × (bytes ≡ ask_line y.0 ++ y.1)
 
 -- a question that stands at the front after so many tables, one at least, and the bytes after it
 abbrev pub IsQuestionAfter : ℕ → List ℕ → List ℤ × List ℕ → Type 0
-IsQuestionAfter tables bytes y = (0 < tables) × AreStateNumbers y.0 × (bytes ≡ ask_line y.0 ++ y.1)
+IsQuestionAfter tables bytes y = (0 < tables) × IsQuestionAt bytes y
 
 -- the number is a size that a table's text may have
 abbrev pub IsTableSize : ℤ → ℕ → Type 0

@@ -20,7 +20,7 @@ returns-in_default-question_after-clause-refused c = λ _.
       record {
         unfinished = unfinished;
         no_table = λ size after told _. c.in_default.ensures (size, after) told;
-        no_question = λ numbers after some question at. c.in_default-question_after.ensures (numbers, after) (some, question, at);
+        no_question = λ numbers after some question at. c.in_default-question_after.ensures (numbers, after) (some, (question, at));
       },
     ))
 
@@ -28,5 +28,5 @@ pub returns-clause-taken : goal.returns-clause-taken
 returns-clause-taken c =
     let s = c.self.inside in
     let found = c.in-Some-question_after in
-    let taken = question_taken s.tables s.line s.rest.now found.rest.now found.question found.ensures.0 found.ensures.1 found.ensures.2 in
+    let taken = question_taken s.tables s.line s.rest.now found.rest.now found.question found.ensures.0 found.ensures.1.0 found.ensures.1.1 in
     rw (← c.self.view_is) (search (rules, taken))
