@@ -18,4 +18,5 @@ pub mod PairExtents
 pub mod InputNumbers
 pub mod Middles
 pub mod Columns
+mod LaneCentres
 pub mod CellColumns

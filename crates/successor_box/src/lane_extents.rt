@@ -155,7 +155,7 @@ fn intersections(first: &[Interval; LANES], second: &[Interval; LANES]) -> [Inte
 }
 
 /// The number of each pair's input vector.
-fn input_numbers(p: &Plant, indices: &IndexColumns) -> [u32; LANES]
+pub(crate) fn input_numbers(p: &Plant, indices: &IndexColumns) -> [u32; LANES]
     requires plant { IsWithinLimits p.now }
     requires pairs { HasPairInEachLane p.now indices.now }
     ensures { AreInputNumbers p.now indices.now result }
@@ -222,7 +222,7 @@ fn wide_values_in_lanes(e: &Expr, columns: &[[i64; LANES]]) -> [i128; LANES]
 }
 
 /// The value of an expression in one lane.
-fn value_in_lane(e: &Expr, columns: &[[i64; LANES]], j: usize) -> i128
+pub(crate) fn value_in_lane(e: &Expr, columns: &[[i64; LANES]], j: usize) -> i128
     requires formed { IsWellFormed (expression_of e.now) (length columns.now) }
     requires few { length columns.now ≤ VARIABLES_LIMIT }
     requires lane { j < LANES }

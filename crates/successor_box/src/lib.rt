@@ -7,6 +7,7 @@
 
 mod area;
 mod block;
+mod cell_columns;
 mod cell_spans;
 mod extents;
 mod index_columns;
@@ -19,6 +20,7 @@ mod slope_fault;
 mod slopes;
 mod variable_columns;
 
+pub use cell_columns::CentralColumns;
 pub use index_columns::{INDEX_COLUMNS, IndexColumns};
 pub use one_pair::successors;
 pub use sampled::Sampled;
