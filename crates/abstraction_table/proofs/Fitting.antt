@@ -1,8 +1,6 @@
 -- Numbers that fit, as those of a plant within the limits are small.
-use Rattle.std.proofs.Common.{◌≡◌, ◌≢◌, ℕ, ◌+◌, ◌-◌, ◌*◌, ◌/◌, ◌%◌, ◌^◌, ◌<◌, ◌≤◌, ◌∙◌, List, Option, Fits, w32, w64, length, take, drop, sym, ap, arith}
-use Rattle.std.proofs.lemmas.List.{length-take-le, length-drop}
+use Rattle.std.proofs.Common.{◌≡◌, ◌≢◌, ℕ, ◌+◌, ◌-◌, ◌*◌, ◌/◌, ◌%◌, ◌^◌, ◌<◌, ◌≤◌, ◌∙◌, Fits, w32, w64, sym, ap, arith}
 use Rattle.std.proofs.lemmas.Nat.{mul-le, mod_below}
-use Rattle.grid_quantiser.specs.declared.boxes.CellBox.{CellBox}
 use Rattle.abstraction_table.proofs.LineBoxes.{cell_count}
 use Rattle.base.proofs.Products.{part_fits}
 
@@ -29,11 +27,6 @@ module _ (states n : ℕ) (is : n ≡ states) (some : 1 ≤ states) (few : state
   pub last_in : (axes : ℕ) → axes ≡ states → n - 1 < axes
   last_in axes long = omega (arith, is, long, some)
 
--- a term that is as long as one cell has inputs
-pub term_long : (from v : ℕ) (boxes : List (Option CellBox)) → from + v ≤ length boxes → length (take (from + v - from) (drop from boxes)) ≡ v
-term_long from v boxes within =
-    let whole : from + v - from ≡ v = omega arith in length-take-le (from + v - from) (drop from boxes) (omega (arith, whole, length-drop from boxes, within)) ∙ whole
-
 -- boxes, as many as there are inputs for each of so many cells from one on
 module _ (boxes n v w c cells : ℕ) (long : boxes ≡ n * w) (same : v ≡ w) (some : 1 ≤ v) (within : c + n ≤ cells) (pairs : cells * w ≤ 2 ^ 22) where
   boxes_few : boxes ≤ 2 ^ 22
@@ -47,32 +40,6 @@ module _ (boxes n v w c cells : ℕ) (long : boxes ≡ n * w) (same : v ≡ w) (
 
   pub first_in : 1 ≤ n → v ≤ boxes
   first_in any = omega (arith, long_by, part_fits 0 n v any)
-
-  -- the boxes of the last cell that is left, as cells are taken from the end
-  module _ (cell : ℕ) (few : cell ≤ boxes / v) (left : 0 < cell) where
-    cell_below : cell - 1 < n
-    cell_below = omega (arith, few, left, cells_are)
-
-    pub cell_in : (cell - 1) * v + v ≤ boxes
-    cell_in = omega (arith, long_by, part_fits (cell - 1) n v cell_below)
-
-    pub copied_in : (cell - 1) * v + (v - 0) ≤ boxes
-    copied_in = omega (arith, cell_in)
-
-    pub cell_fits : cells ≤ 2 ^ 20 → Fits w32 (cell - 1)
-    cell_fits limit = omega (arith, limit, cell_below, within)
-
-    pub slot_fits : (first : ℕ) → first ≤ c → cells ≤ 2 ^ 20 → Fits w32 (first + (cell - 1))
-    slot_fits first early limit = omega (arith, limit, cell_below, within, early)
-
-    pub start_fits : Fits w64 ((cell - 1) * v)
-    start_fits = omega (arith, boxes_few, cell_in)
-
-    pub end_fits : Fits w64 ((cell - 1) * v + v)
-    end_fits = omega (arith, boxes_few, cell_in)
-
-    pub offset_fits : Fits w64 ((cell - 1) * v * 8)
-    offset_fits = omega (arith, boxes_few, cell_in)
 
   -- the boxes of the cells from one of these on
   module _ (done : ℕ) (lt : done < boxes / v) where

@@ -19,6 +19,7 @@ pub mod TermTables
 mod LineCells
 mod WrittenTerms
 mod LineBoxes
+mod CellBlocks
 mod CellLineLists
 mod Fitting
 mod AddedTerms

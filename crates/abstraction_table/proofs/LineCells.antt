@@ -48,7 +48,7 @@ last_slot axes last c long =
     index_along_is axes last c ∙ ap (λ (later : List Axis). c / cells_of later % (get_or axes last no_axis).count) none ∙ ap (λ (n : ℕ). n % (get_or axes last no_axis).count) (div-one c)
 
 -- a cell some indices further in the row
-line_step : (c k r : ℕ) → c % r + k < r → ((c + k) / r ≡ c / r) × ((c + k) % r ≡ c % r + k)
+pub line_step : (c k r : ℕ) → c % r + k < r → ((c + k) / r ≡ c / r) × ((c + k) % r ≡ c % r + k)
 line_step c k r within =
     let terms : c / r * r + (c % r + k) ≡ c + k = omega (arith, div-add-mod' c r) in
     (ap (λ (n : ℕ). n / r) (sym terms) ∙ div-mul-add (c / r) r (c % r + k) within, ap (λ (n : ℕ). n % r) (sym terms) ∙ mod-mul-add (c / r) r (c % r + k) within)
@@ -88,23 +88,30 @@ module _ (p : Description) (plant : IsPlant p) where
     moves = brought.moves ∙ same_moves i c d (moves_along p i) lt row.1 (λ moves. stays.moves (subst IsTrue (sym held.moves) moves));
   }
 
+  -- the slot along another axis of a cell further in the row, and that along the last one
+  pub same_place : (c k n j : ℕ) → AreInLine p c n → k < n → j ≢ last_state p → index_in p c 0 j ≡ index_in p (c + k) 0 j
+  same_place c k n j row lt other = same_slot c (c + k) j (line_step c k (line_length p) (omega (arith, row.row, lt))).0 other
+
+  pub later_place : (c k n : ℕ) → AreInLine p c n → k < n → index_in p c 0 (last_state p) + k ≡ index_in p (c + k) 0 (last_state p)
+  later_place c k n row lt =
+      let last : last_state p < length p.states = omega (arith, plant.some_state) in
+      omega (arith, state_slot p c 0 (last_state p) last, state_slot p (c + k) 0 (last_state p) last, last_slot (axes_of p) (last_state p) c long, last_slot (axes_of p) (last_state p) (c + k) long, (line_step c k (line_length p) (omega (arith, row.row, lt))).1)
+
   -- the indices of a cell further in the row
   pub indices_in_line : (c k n first : ℕ) (indices : List ℕ) → AreInLine p c n → k < n → last_state p < length indices → first ≡ index_in p c 0 (last_state p) →
       ((j : ℕ) → j < length p.states + length p.inputs → j ≢ last_state p → get_or indices j 0 ≡ index_in p c 0 j) → AreIndicesOf p (c + k) (set indices (last_state p) (first + k))
   indices_in_line c k n first indices row lt wide is others = λ j within.
-      let step = line_step c k (line_length p) (omega (arith, row.row, lt)) in
-      let last : last_state p < length p.states = omega (arith, plant.some_state) in
+      let elsewhere : j ≢ last_state p → get_or (set indices (last_state p) (first + k)) j 0 ≡ index_in p (c + k) 0 j =
+      λ other. get_or-set_other indices (last_state p) j (first + k) 0 other ∙ others j within other ∙ same_place c k n j row lt other
+      in
       elim (cases_lt j (last_state p)) [
-        | inl before ↦ let other : j ≢ last_state p = omega (arith, before) in get_or-set_other indices (last_state p) j (first + k) 0 other ∙ others j within other ∙ same_slot c (c + k) j step.0 other
+        | inl before ↦ elsewhere (omega (arith, before))
         | inr past ↦
             elim (cases_lt (last_state p) j) [
-              | inl after ↦ let other : j ≢ last_state p = omega (arith, after) in get_or-set_other indices (last_state p) j (first + k) 0 other ∙ others j within other ∙ same_slot c (c + k) j step.0 other
+              | inl after ↦ elsewhere (omega (arith, after))
               | inr at ↦
                   let here : j ≡ last_state p = omega (arith, past, at) in
-                  let there : first + k ≡ index_in p (c + k) 0 (last_state p) =
-                  omega (arith, is, state_slot p c 0 (last_state p) last, state_slot p (c + k) 0 (last_state p) last, last_slot (axes_of p) (last_state p) c long, last_slot (axes_of p) (last_state p) (c + k) long, step.1)
-                  in
-                  subst (λ (i : ℕ). get_or (set indices (last_state p) (first + k)) i 0 ≡ index_in p (c + k) 0 i) (sym here) (get_or-set_same indices (last_state p) (first + k) 0 wide ∙ there)
+                  subst (λ (i : ℕ). get_or (set indices (last_state p) (first + k)) i 0 ≡ index_in p (c + k) 0 i) (sym here) (get_or-set_same indices (last_state p) (first + k) 0 wide ∙ ap (λ (n : ℕ). n + k) is ∙ later_place c k n row lt)
             ]
       ]
 

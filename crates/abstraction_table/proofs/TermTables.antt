@@ -13,25 +13,26 @@ use Rattle.plant_record.specs.Plants.{IsPlant}
 use Rattle.plant_record.specs.Soundness.{IsSound}
 use Rattle.successor_box.specs.PairExtents.{index_in, moves_along, shifted_by}
 use Rattle.abstraction_table.specs.declared.digits.Digit.{Digit}
+use Rattle.abstraction_table.specs.declared.terms.StateTerms.{StateTerms}
 use Rattle.abstraction_table.specs.declared.terms.TermTable.{TermTable}
 use Rattle.abstraction_table.specs.inside.ExtentTables.{first_of}
-use Rattle.abstraction_table.specs.inside.Terms.{AreIndicesOf, first_in, count_of, HasTermAt, Brings, BringAs, IsTermTableOf}
+use Rattle.abstraction_table.specs.inside.Terms.{AreIndicesOf, first_in, count_of, HasTermAt, Brings, BringAs, IsTermTableOf, AreTermsOf}
 use Rattle.abstraction_table.proofs.PairDigits.{state_slot, some_vectors}
 
 -- a digit is that of a state or an input variable
 abbrev pub HasVariable : Description → Digit → Type 0
 HasVariable p d = d.variable < length p.states + length p.inputs
 
--- one table more
-pub tables_more : (p : Description) (tables : List TermTable) (n : ℕ) (t : TermTable) → length tables ≡ n → ((i : ℕ) (d : TermTable) → i < n → IsTermTableOf p i (get_or tables i d)) → IsTermTableOf p n t → (i : ℕ) (d : TermTable) → i < n + 1 → IsTermTableOf p i (get_or (tables ++ t ∷ []) i d)
+-- the terms of one state more
+pub tables_more : (p : Description) (tables : List StateTerms) (n : ℕ) (t : StateTerms) → length tables ≡ n → ((i : ℕ) (d : StateTerms) → i < n → AreTermsOf p i (get_or tables i d)) → AreTermsOf p n t → (i : ℕ) (d : StateTerms) → i < n + 1 → AreTermsOf p i (get_or (tables ++ t ∷ []) i d)
 tables_more p tables n t long each here i d lt =
     elim (cases_lt i n) [
-      | inl before ↦ subst (IsTermTableOf p i) (sym (get_or_append_left tables (t ∷ []) d i (omega (arith, before, long)))) (each i d before)
+      | inl before ↦ subst (AreTermsOf p i) (sym (get_or_append_left tables (t ∷ []) d i (omega (arith, before, long)))) (each i d before)
       | inr past ↦
           let last : i ≡ n = omega (arith, lt, past) in
           let slot : i - n ≡ 0 = omega (arith, last) in
           let found : get_or (tables ++ t ∷ []) i d ≡ t = get_or-append_right tables (t ∷ []) n i d long (omega (arith, last)) ∙ ap (λ (k : ℕ). get_or (t ∷ []) k d) slot in
-          subst (IsTermTableOf p i) (sym found) (subst (λ (k : ℕ). IsTermTableOf p k t) (sym last) here)
+          subst (AreTermsOf p i) (sym found) (subst (λ (k : ℕ). AreTermsOf p k t) (sym last) here)
     ]
 
 -- a cell moves an extent along by less than the axis is long

@@ -1,49 +1,61 @@
 //! The boxes of the cells in a row.
-ghost use Rattle.std.specs.Prelude.{◌≡◌, ℕ, ◌+◌, ◌*◌, ◌<◌, ◌≤◌, length, slice_index_or, None, IsTrue, IfSome};
-ghost use Rattle.std.specs.List.{All};
+ghost use Rattle.std.specs.Prelude.{◌≡◌, ℕ, ◌+◌, ◌*◌, ◌<◌, ◌≤◌, length, replicate, slice_index_or, None, IsTrue, IfSome};
+ghost use Rattle.std.specs.List.{All, SameBelow, SameFrom};
+ghost use Rattle.fixed_expr.specs.declared.lanes.TheConstants.{LANES};
 ghost use Rattle.grid_quantiser.specs.declared.boxes.CellBox.{CellBox};
 ghost use Rattle.grid_quantiser.specs.Axes.{cells_of};
 ghost use Rattle.grid_quantiser.specs.ExtentBoxes.{one_cell};
 ghost use Rattle.plant_record.specs.Description.{axes_of, vectors_of};
 ghost use Rattle.plant_record.specs.Limits.{IsWithinLimits};
 ghost use Rattle.abstraction_table.specs.inside.Sums.{plus, term_under, AreChangedBy};
-ghost use Rattle.abstraction_table.specs.inside.CellLines.{AreInLine, AreSumsOfLine, BecomeBoxes, AreBoxesFrom};
-ghost use Rattle.abstraction_table.specs.inside.Terms.{AreIndicesOf, Brings, BringAs, IsFreeTerm, AreSumsAlong, HasCell, HasSums, AddsTerms, AddsState, IsTermTableOf, AreTermTablesOf};
+ghost use Rattle.abstraction_table.specs.inside.CellLines.{AreInLine, AreSumsOfLine, AreCopiedTo, AreSumsOfCells, HaveCells, AddsToCells, BecomeBoxes, AreBoxesFrom};
+ghost use Rattle.abstraction_table.specs.inside.Terms.{AreIndicesOf, Brings, BringAs, IsFreeTerm, AreSumsAlong, HasSums, AddsTerms, AddsState, IsTermTableOf, AreTermTablesOf};
 ghost use Rattle.abstraction_table.specs.declared.pair_box.TheConstants.{SUMS_LIMIT};
 
 use crate::pair_box::PairBox;
-use crate::terms::{TermTable, Terms};
+use crate::per_pair::add_per_pair;
+use crate::terms::{StateTerms, TermTable, Terms};
+use fixed_expr::LANES;
 use grid_quantiser::CellBox;
 use plant_record::Plant;
-use successor_box::INDEX_COLUMNS;
+use successor_box::{INDEX_COLUMNS, Sampled};
 
 /// The boxes of cells in a row, one for each input, which differ in the place along the last state alone. What the
 /// first states bring is the same along the row, and is found once: the first cell's boxes keep it for the others.
-pub(crate) fn boxes_in_line(p: &Plant, tables: &[TermTable], c: u32, boxes: &mut [PairBox])
-    requires plant { IsWithinLimits p.now }
-    requires tables { AreTermTablesOf p.now tables.now }
-    requires row { (n : ℕ) × (length boxes.old ≡ n * vectors_of p.now.inputs) × AreInLine p.now c n }
+pub(crate) fn boxes_in_line(
+    sampled: &Sampled<'_>,
+    tables: &[StateTerms],
+    c: u32,
+    boxes: &mut [PairBox],
+)
+    requires tables { AreTermTablesOf sampled.now.plant.now tables.now }
+    requires row { (n : ℕ) × (length boxes.old ≡ n * vectors_of sampled.now.plant.now.inputs) × AreInLine sampled.now.plant.now c n }
     requires start { All (λ b. b ≡ one_cell) boxes.old }
     ensures long { length boxes.new ≡ length boxes.old }
-    ensures each { AreBoxesFrom p.now c boxes.new }
+    ensures each { AreBoxesFrom sampled.now.plant.now c boxes.new }
 {
+    let p = sampled.plant;
     let inputs = p.vectors() as usize;
     let last = p.states() as usize - 1;
     let mut indices = indices_of(p, c);
     let first = indices[last];
     let early = add_early(p, tables, &indices, &mut boxes[..inputs]);
-    for cell in (0..boxes.len() / inputs).rev() {
-        indices[last] = first + cell as u32;
-        let at = cell * inputs;
-        boxes.copy_within(..inputs, at);
-        add_late(p, tables, early, &indices, &mut boxes[at..at + inputs]);
+    let cells = boxes.len() / inputs;
+    let size = cells_at_once(&tables[early..]);
+    for block in (0..cells.div_ceil(size)).rev() {
+        let start = block * size;
+        let end = cells.min(start + size);
+        indices[last] = first + start as u32;
+        copy_first(inputs, start, end, boxes);
+        let block = &mut boxes[start * inputs..end * inputs];
+        add_late(sampled, tables, early, &indices, block);
     }
 }
 
 /// Adds the terms of the first states, as far as they are the same all along a line, and answers how many.
 fn add_early(
     p: &Plant,
-    tables: &[TermTable],
+    tables: &[StateTerms],
     indices: &[u32; INDEX_COLUMNS],
     boxes: &mut [PairBox],
 ) -> usize
@@ -57,36 +69,115 @@ fn add_early(
     ensures along { AreSumsOfLine p.now result indices.now boxes.new }
 {
     let last = p.states() - 1;
-    let mut state: usize = 0;
-    while state < tables.len() && tables[state].stays_along_lines(state as u32, last) {
-        add_terms(p, &tables[state], state as u32, indices, boxes);
-        state += 1;
+    for state in 0..tables.len() {
+        let StateTerms::Table(table) = &tables[state] else {
+            return state;
+        };
+        if !table.stays_along_lines(state as u32, last) {
+            return state;
+        }
+        add_terms(p, table, state as u32, indices, boxes);
     }
-    state
+    tables.len()
 }
 
-/// Adds the terms of the states from one on to the boxes of a cell. Those that depend on no input are summed apart, and
-/// added to all boxes once.
+/// How many cells are gone over at once: as many as have their extents found at once, where a state is without a table.
+fn cells_at_once(late: &[StateTerms]) -> usize
+    ensures some { 1 ≤ result }
+    ensures few { result ≤ LANES }
+{
+    for terms in late {
+        if let StateTerms::PerPair { .. } = terms {
+            return LANES;
+        }
+    }
+    1
+}
+
+/// Copies the boxes of the first cell to the cells from one up to another.
+fn copy_first(inputs: usize, start: usize, end: usize, boxes: &mut [PairBox])
+    requires some { start ≤ end }
+    requires first { inputs ≤ length boxes.old }
+    requires cells { end * inputs ≤ length boxes.old }
+    ensures long { length boxes.new ≡ length boxes.old }
+    ensures copied { AreCopiedTo inputs start end boxes.old boxes.new }
+    ensures before { SameBelow boxes.old boxes.new (start * inputs) }
+    ensures after { SameFrom boxes.old boxes.new (end * inputs) }
+{
+    for cell in start..end {
+        boxes.copy_within(..inputs, cell * inputs);
+    }
+}
+
+/// Adds the terms of the states from one on to the boxes of cells in a row, from the one with these indices on. Those that
+/// depend on no input are summed apart, in a base for each cell, and added to its boxes once.
 fn add_late(
-    p: &Plant,
-    tables: &[TermTable],
+    sampled: &Sampled<'_>,
+    tables: &[StateTerms],
     from: usize,
     indices: &[u32; INDEX_COLUMNS],
     boxes: &mut [PairBox],
 )
-    requires plant { IsWithinLimits p.now }
-    requires tables { AreTermTablesOf p.now tables.now }
-    requires from { from ≤ length p.now.equations }
-    requires cell { HasCell p.now from indices.now boxes.old }
-    requires one_each { length boxes.old ≡ vectors_of p.now.inputs }
+    requires tables { AreTermTablesOf sampled.now.plant.now tables.now }
+    requires from { from ≤ length sampled.now.plant.now.equations }
+    requires cells { HaveCells sampled.now.plant.now from indices.now (replicate LANES one_cell) boxes.old }
     ensures long { length boxes.new ≡ length boxes.old }
-    ensures each { BecomeBoxes p.now from indices.now boxes.old boxes.new }
+    ensures each { BecomeBoxes sampled.now.plant.now from indices.now boxes.old boxes.new }
 {
-    let mut base = PairBox::new(Some(CellBox { first: 0, last: 0 }));
+    let p = sampled.plant;
+    let mut bases = [PairBox::new(Some(CellBox { first: 0, last: 0 })); LANES];
     for state in from..tables.len() {
-        base = add_state(p, &tables[state], state as u32, indices, base, boxes);
+        match &tables[state] {
+            StateTerms::Table(table) => {
+                add_table(p, table, state as u32, indices, &mut bases, boxes);
+            }
+            StateTerms::PerPair { stride } => {
+                add_per_pair(sampled, *stride, state as u32, indices, boxes);
+            }
+        }
     }
-    add_base(base, boxes);
+    add_bases(p, &bases, boxes);
+}
+
+/// Adds the terms of a state to the boxes of cells in a row, from the one with these indices on, or to their bases.
+fn add_table(
+    p: &Plant,
+    table: &TermTable,
+    state: u32,
+    indices: &[u32; INDEX_COLUMNS],
+    bases: &mut [PairBox; LANES],
+    boxes: &mut [PairBox],
+)
+    requires plant { IsWithinLimits p.now }
+    requires table { IsTermTableOf p.now state table.now }
+    requires state { state < length p.now.equations }
+    requires cells { HaveCells p.now state indices.now bases.old boxes.old }
+    ensures long { length boxes.new ≡ length boxes.old }
+    ensures added { AddsToCells p.now state indices.now bases.old bases.new boxes.old boxes.new }
+{
+    let inputs = p.vectors() as usize;
+    let last = p.states() as usize - 1;
+    let mut of_cell = *indices;
+    for cell in 0..boxes.len() / inputs {
+        of_cell[last] = indices[last] + cell as u32;
+        let at = cell * inputs;
+        let cell_boxes = &mut boxes[at..at + inputs];
+        bases[cell] = add_state(p, table, state, &of_cell, bases[cell], cell_boxes);
+    }
+}
+
+/// Adds to all boxes of each cell its base.
+fn add_bases(p: &Plant, bases: &[PairBox; LANES], boxes: &mut [PairBox])
+    requires plant { IsWithinLimits p.now }
+    requires cells { (c n : ℕ) × AreSumsOfCells p.now (length p.now.equations) c n bases.now boxes.old }
+    ensures long { length boxes.new ≡ length boxes.old }
+    ensures each { (c n : ℕ) → AreSumsOfCells p.now (length p.now.equations) c n bases.now boxes.old → AreBoxesFrom p.now c boxes.new }
+{
+    let inputs = p.vectors() as usize;
+    for cell in 0..boxes.len() / inputs {
+        let at = cell * inputs;
+        add_base(bases[cell], &mut boxes[at..at + inputs]);
+    }
 }
 
 /// Adds the terms of a state to the boxes of a cell, or to the sum of what is the same under all inputs.

@@ -21,6 +21,7 @@ mod forward;
 mod intake;
 mod pair_box;
 mod pair_boxes;
+mod per_pair;
 mod shapes;
 mod sources;
 mod terms;

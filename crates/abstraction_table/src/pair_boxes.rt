@@ -4,7 +4,6 @@ ghost use Rattle.std.specs.List.{All};
 ghost use Rattle.grid_quantiser.specs.Axes.{cells_of};
 ghost use Rattle.grid_quantiser.specs.ExtentBoxes.{one_cell};
 ghost use Rattle.plant_record.specs.Description.{axes_of, vectors_of};
-ghost use Rattle.plant_record.specs.Limits.{IsWithinLimits};
 ghost use Rattle.plant_game.specs.Abstraction.{AreBoxesOf};
 ghost use Rattle.abstraction_table.specs.declared.pair_boxes.TheConstants.{BOXES_PER_TASK};
 ghost use Rattle.abstraction_table.specs.inside.CellLines.{AreBoxesFrom};
@@ -12,9 +11,8 @@ ghost use Rattle.abstraction_table.specs.inside.Terms.{AreTermTablesOf};
 
 use crate::cell_lines::boxes_in_line;
 use crate::pair_box::PairBox;
-use crate::terms::{TermTable, build_tables};
+use crate::terms::{StateTerms, build_tables};
 use grid_quantiser::CellBox;
-use plant_record::Plant;
 use rayon::prelude::*;
 use std::alloc::{AllocError, Global};
 use std::thread::Threads;
@@ -42,7 +40,7 @@ pub(crate) fn build_boxes<R: Threads + Sync>(
     let pairs = p.grid().cells() as usize * inputs;
     let mut boxes = vec![in alloc; PairBox::new(Some(CellBox { first: 0, last: 0 })); pairs]?;
     if pairs <= BOXES_PER_TASK {
-        boxes_of_cells(p, tables, 0, &mut boxes);
+        boxes_of_cells(sampled, tables, 0, &mut boxes);
         return Ok(boxes);
     }
     par_chunks_mut_for_each(
@@ -50,15 +48,14 @@ pub(crate) fn build_boxes<R: Threads + Sync>(
         &mut boxes,
         cells_in_chunk(inputs) * inputs,
         |at: usize, boxes: &mut [PairBox]|
-            requires plant { IsWithinLimits p.now }
-            requires tables { AreTermTablesOf p.now tables.now }
-            requires inputs { inputs ≡ vectors_of p.now.inputs }
+            requires tables { AreTermTablesOf sampled.now.plant.now tables.now }
+            requires inputs { inputs ≡ vectors_of sampled.now.plant.now.inputs }
             requires some_input { 0 < inputs }
-            requires cells { (n : ℕ) × (length boxes.now ≡ n * inputs) × (at / inputs + n ≤ cells_of (axes_of p.now)) }
+            requires cells { (n : ℕ) × (length boxes.now ≡ n * inputs) × (at / inputs + n ≤ cells_of (axes_of sampled.now.plant.now)) }
             requires start { All (λ b. b ≡ one_cell) boxes.now }
-            ensures { AreBoxesFrom p.entry.now (at / inputs) boxes.exit.now }
+            ensures { AreBoxesFrom sampled.entry.now.plant.now (at / inputs) boxes.exit.now }
         {
-            boxes_of_cells(p, tables, (at / inputs) as u32, boxes);
+            boxes_of_cells(sampled, tables, (at / inputs) as u32, boxes);
         },
     );
     Ok(boxes)
@@ -74,14 +71,14 @@ fn cells_in_chunk(inputs: usize) -> usize
 }
 
 /// The boxes of cells from one on, row by row.
-fn boxes_of_cells(p: &Plant, tables: &[TermTable], c: u32, boxes: &mut [PairBox])
-    requires plant { IsWithinLimits p.now }
-    requires tables { AreTermTablesOf p.now tables.now }
-    requires cells { (n : ℕ) × (length boxes.old ≡ n * vectors_of p.now.inputs) × (c + n ≤ cells_of (axes_of p.now)) }
+fn boxes_of_cells(sampled: &Sampled<'_>, tables: &[StateTerms], c: u32, boxes: &mut [PairBox])
+    requires tables { AreTermTablesOf sampled.now.plant.now tables.now }
+    requires cells { (n : ℕ) × (length boxes.old ≡ n * vectors_of sampled.now.plant.now.inputs) × (c + n ≤ cells_of (axes_of sampled.now.plant.now)) }
     requires start { All (λ b. b ≡ one_cell) boxes.old }
     ensures long { length boxes.new ≡ length boxes.old }
-    ensures each { AreBoxesFrom p.now c boxes.new }
+    ensures each { AreBoxesFrom sampled.now.plant.now c boxes.new }
 {
+    let p = sampled.plant;
     let inputs = p.vectors() as usize;
     let cells = boxes.len() / inputs;
     let row = p.grid().count(p.states() - 1) as usize;
@@ -89,7 +86,7 @@ fn boxes_of_cells(p: &Plant, tables: &[TermTable], c: u32, boxes: &mut [PairBox]
     while done < cells {
         let end = cells.min(done + row - (c as usize + done) % row);
         boxes_in_line(
-            p,
+            sampled,
             tables,
             c + done as u32,
             &mut boxes[done * inputs..end * inputs],

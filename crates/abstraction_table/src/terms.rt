@@ -2,26 +2,34 @@
 ghost use Rattle.std.specs.Prelude.{◌≡◌, ℕ, ◌+◌, ◌*◌, ◌^◌, ◌<◌, ◌≤◌, length, slice_index_or, if◌then◌else◌, IsTrue, IfOk};
 ghost use Rattle.std.specs.List.{All};
 ghost use Rattle.grid_quantiser.specs.Axes.{no_axis};
+ghost use Rattle.plant_record.specs.declared.version.PlantVersion.TheVariants.{One};
 ghost use Rattle.plant_record.specs.Description.{axes_of, vectors_of};
 ghost use Rattle.plant_record.specs.Limits.{IsWithinLimits};
 ghost use Rattle.successor_box.specs.PairExtents.{moves_along};
 ghost use Rattle.successor_box.specs.declared.index_columns.TheConstants.{INDEX_COLUMNS};
 ghost use Rattle.abstraction_table.specs.inside.CellLines.{StaysAlongLines};
 ghost use Rattle.abstraction_table.specs.inside.ExtentTables.{IsRelativeExtent, IsExtentTableOf};
-ghost use Rattle.abstraction_table.specs.inside.Terms.{first_in, stride_of, own_count, IsTermFrom, Brings, IsTermBrought, HoldTermsFrom, IsTermTableOf, AreTermTablesOf};
+ghost use Rattle.abstraction_table.specs.inside.Terms.{first_in, stride_of, own_count, IsTermFrom, Brings, IsTermBrought, HoldTermsFrom, IsTermTableOf, AreTermsOf, AreTermTablesOf};
 ghost use Rattle.base.specs.declared.limits.TheConstants.{PAIRS_LIMIT};
 
-use crate::digits::Digit;
+use crate::digits::{Digit, build_digits};
 use crate::extent_table::{ExtentTable, build_table};
 use crate::pair_box::PairBox;
 use grid_quantiser::Extent;
-use plant_record::Plant;
+use plant_record::{Plant, PlantVersion};
 use std::alloc::{AllocError, Global};
 use std::thread::Threads;
 use successor_box::{INDEX_COLUMNS, Sampled};
 
 /// Terms are listed where there are at least so many pairs for each.
 const PAIRS_FOR_EACH_TERM: usize = 8;
+
+/// The terms of a state: in a table, or each found where its pair's box is made, since no two pairs share an extent.
+#[derive(Drop)]
+pub(crate) enum StateTerms {
+    Table(TermTable),
+    PerPair { stride: u32 },
+}
 
 /// What the extents along an axis add to boxes.
 #[derive(Drop)]
@@ -101,7 +109,7 @@ impl TermTable {
 
 /// What an extent adds to a box, so many indices further along the axis.
 #[inline]
-fn term_of(p: &Plant, state: u32, stride: u32, extent: Option<Extent>, indices: u32) -> PairBox
+pub(crate) fn term_of(p: &Plant, state: u32, stride: u32, extent: Option<Extent>, indices: u32) -> PairBox
     requires plant { IsWithinLimits p.now }
     requires state { state < length p.now.equations }
     requires stride { stride ≡ stride_of p.now state }
@@ -112,12 +120,12 @@ fn term_of(p: &Plant, state: u32, stride: u32, extent: Option<Extent>, indices: 
     PairBox::term(p.grid().shifted_extent(state, extent, indices), stride)
 }
 
-/// The terms of all boxes, one table for each state.
+/// The terms of all boxes, state by state.
 pub(crate) fn build_tables<R: Threads + Sync>(
     rt: &R,
     alloc: Global,
     sampled: &Sampled<'_>,
-) -> Result<Vec<TermTable>, AllocError>
+) -> Result<Vec<StateTerms>, AllocError>
     ensures { IfOk result (λ tables. AreTermTablesOf sampled.now.plant.now tables.items) }
 {
     let p = sampled.plant;
@@ -125,10 +133,42 @@ pub(crate) fn build_tables<R: Threads + Sync>(
     let mut stride = p.grid().cells();
     for state in 0..p.states() {
         stride /= p.grid().count(state);
-        let extents = build_table(rt, alloc, sampled, state)?;
-        tables.push(build_terms(alloc, p, state, stride, extents)?)?;
+        tables.push(build_state(rt, alloc, sampled, state, stride)?)?;
     }
     Ok(tables)
+}
+
+/// The terms along the axis of one state: a table, unless it had a slot for each pair.
+fn build_state<R: Threads + Sync>(
+    rt: &R,
+    alloc: Global,
+    sampled: &Sampled<'_>,
+    state: u32,
+    stride: u32,
+) -> Result<StateTerms, AllocError>
+    requires state { state < length sampled.now.plant.now.equations }
+    requires stride { stride ≡ stride_of sampled.now.plant.now state }
+    ensures { IfOk result (λ terms. AreTermsOf sampled.now.plant.now state terms) }
+{
+    if has_term_for_each_pair(alloc, sampled.plant, state)? {
+        return Ok(StateTerms::PerPair { stride });
+    }
+    let extents = build_table(rt, alloc, sampled, state)?;
+    let table = build_terms(alloc, sampled.plant, state, stride, extents)?;
+    Ok(StateTerms::Table(table))
+}
+
+/// Whether no two pairs share an extent along the axis of a state, and none is moved from another's, in a plant of version 1.
+fn has_term_for_each_pair(alloc: Global, p: &Plant, state: u32) -> Result<bool, AllocError>
+    requires plant { IsWithinLimits p.now }
+    requires state { state < length p.now.equations }
+    ensures { IfOk result (λ each. IsTrue each → p.now.version ≡ One) }
+{
+    if p.plant_version() != PlantVersion::One || p.equation(state).shifts_with(state) {
+        return Ok(false);
+    }
+    let digits = build_digits(alloc, p, state)?;
+    Ok(digits.indices == p.grid().cells() * p.vectors())
 }
 
 /// The terms along the axis of one state, listed if they are few.

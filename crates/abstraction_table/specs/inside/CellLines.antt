@@ -1,14 +1,18 @@
 -- Rows of cells, and the boxes of cells one after another.
-use Rattle.std.specs.Prelude.{◌≡◌, ℕ, ◌+◌, ◌-◌, ◌*◌, ◌/◌, ◌%◌, ◌<◌, ◌≤◌, ◌≢◌, List, length, slice_index_or, Option, None, IsTrue}
+use Rattle.std.specs.Prelude.{◌≡◌, ℕ, ◌+◌, ◌-◌, ◌*◌, ◌/◌, ◌%◌, ◌<◌, ◌≤◌, ◌≢◌, min, List, length, replicate, slice_index_or, Option, None, IsTrue}
 use Rattle.std.specs.List.{All}
+use Rattle.fixed_expr.specs.declared.lanes.TheConstants.{LANES}
 use Rattle.grid_quantiser.specs.declared.boxes.CellBox.{CellBox}
+use Rattle.grid_quantiser.specs.declared.extents.Extent.{Extent}
 use Rattle.grid_quantiser.specs.Axes.{no_axis, cells_of}
 use Rattle.plant_record.specs.Description.{Description, axes_of, vectors_of}
+use Rattle.successor_box.specs.PairExtents.{IsExtentBeforeAt, IsPairInLane}
 use Rattle.successor_box.specs.SuccessorBoxes.{IsBoxOf}
 use Rattle.grid_quantiser.specs.ExtentBoxes.{one_cell}
 use Rattle.abstraction_table.specs.declared.digits.Digit.{Digit}
 use Rattle.abstraction_table.specs.declared.terms.TermTable.{TermTable}
-use Rattle.abstraction_table.specs.inside.Terms.{AreIndicesOf, AreSumsAlong}
+use Rattle.abstraction_table.specs.inside.Sums.{plus}
+use Rattle.abstraction_table.specs.inside.Terms.{AreIndicesOf, IsTermFrom, IsSumAlong, AreSumsAlong}
 
 -- the last state
 abbrev pub last_state : Description → ℕ
@@ -32,16 +36,60 @@ IsInLineOf p c d = (d < cells_of (axes_of p)) × (d / line_length p ≡ c / line
 abbrev pub AreSumsOfLine : Description → ℕ → List ℕ → List (Option CellBox) → Type 0
 AreSumsOfLine p states indices boxes = (c d : ℕ) → c < cells_of (axes_of p) → AreIndicesOf p c indices → IsInLineOf p c d → AreSumsAlong p states d one_cell boxes
 
--- sums of a cell with these indices become its boxes
+-- cells in a row, from one with these indices on
+abbrev pub AreCellsFrom : Description → List ℕ → ℕ → ℕ → Type 0
+AreCellsFrom p indices c n = AreInLine p c n × AreIndicesOf p c indices
+
+-- Boxes, one for each input of each cell from one on, have with a base for each cell the cells' sums on the axes of the first so many states.
+pub record AreSumsOfCells (p : Description) (states c n : ℕ) (bases boxes : List (Option CellBox)) : Type 0 where
+  pub few : n ≤ LANES
+  pub one_each : length boxes ≡ n * vectors_of p.inputs
+  pub each : (k u : ℕ) → k < n → u < vectors_of p.inputs → IsSumAlong p states (c + k) u (slice_index_or bases k None) (slice_index_or boxes (k * vectors_of p.inputs + u) None)
+
+-- boxes are with bases the sums of some cells, from one with these indices on
+abbrev pub HaveCells : Description → ℕ → List ℕ → List (Option CellBox) → List (Option CellBox) → Type 0
+HaveCells p states indices bases boxes = (c n : ℕ) × AreCellsFrom p indices c n × AreSumsOfCells p states c n bases boxes
+
+-- the sums of cells from one with these indices on become their sums on the axes of one more state
+abbrev pub AddsToCells : Description → ℕ → List ℕ → List (Option CellBox) → List (Option CellBox) → List (Option CellBox) → List (Option CellBox) → Type 0
+AddsToCells p i indices bases after old new = (c n : ℕ) → AreCellsFrom p indices c n → AreSumsOfCells p i c n bases old → AreSumsOfCells p (i + 1) c n after new
+
+-- boxes, as many as there are inputs for each cell from one on
+abbrev pub AreBoxesFrom : Description → ℕ → List (Option CellBox) → Type 0
+AreBoxesFrom p c boxes = (k u : ℕ) → u < vectors_of p.inputs → k * vectors_of p.inputs + u < length boxes → IsBoxOf p (c + k) u (slice_index_or boxes (k * vectors_of p.inputs + u) None)
+
+-- sums of cells from one with these indices on become the cells' boxes
 abbrev pub BecomeBoxes : Description → ℕ → List ℕ → List (Option CellBox) → List (Option CellBox) → Type 0
-BecomeBoxes p states indices old new =
-    (c : ℕ) → c < cells_of (axes_of p) → AreIndicesOf p c indices → AreSumsAlong p states c one_cell old → (u : ℕ) → u < vectors_of p.inputs → IsBoxOf p c u (slice_index_or new u None)
+BecomeBoxes p states indices old new = (c n : ℕ) → AreCellsFrom p indices c n → AreSumsOfCells p states c n (replicate LANES one_cell) old → AreBoxesFrom p c new
+
+-- the boxes of the cells from one up to another are what the first cell's were
+abbrev pub AreCopiedTo : ℕ → ℕ → ℕ → List (Option CellBox) → List (Option CellBox) → Type 0
+AreCopiedTo inputs start end old new = (k u : ℕ) → start ≤ k → k < end → u < inputs → slice_index_or new (k * inputs + u) None ≡ slice_index_or old u None
+
+-- extents along an axis, under an input, of the cells from one on
+abbrev pub AreExtentsUnder : Description → ℕ → ℕ → ℕ → List (Option Extent) → Type 0
+AreExtentsUnder p c u i extents = (k : ℕ) → k < length extents → IsExtentBeforeAt p (c + k) u i 0 (slice_index_or extents k None)
+
+-- the box of each cell under an input is changed by the term of the cell's extent
+abbrev pub AddsTermsUnder : Description → ℕ → ℕ → List (Option Extent) → List (Option CellBox) → List (Option CellBox) → Type 0
+AddsTermsUnder p i u extents old new =
+    (k : ℕ) → k < length extents →
+    (x : Option CellBox) × IsTermFrom p i 0 (slice_index_or extents k None) x × (slice_index_or new (k * vectors_of p.inputs + u) None ≡ plus (slice_index_or old (k * vectors_of p.inputs + u) None) x)
+
+-- the boxes under the other inputs stay as they are
+abbrev pub KeepsOtherInputs : Description → ℕ → List (Option CellBox) → List (Option CellBox) → Type 0
+KeepsOtherInputs p u old new =
+    (k w : ℕ) → w < vectors_of p.inputs → w ≢ u → slice_index_or new (k * vectors_of p.inputs + w) None ≡ slice_index_or old (k * vectors_of p.inputs + w) None
+
+-- the cells in the lanes, from one on, and the last of so many in the lanes past it
+abbrev pub cell_in : ℕ → ℕ → ℕ → ℕ
+cell_in c n lane = c + min lane (n - 1)
+
+-- the lanes hold the indices of these cells and of the first input
+abbrev pub HoldCells : Description → ℕ → ℕ → List (List ℕ) → Type 0
+HoldCells p c n indices = (lane : ℕ) → lane < LANES → IsPairInLane p indices lane (cell_in c n lane) 0
 
 -- The terms of a state's table depend on no slot along the last state, nor move with it.
 pub record StaysAlongLines (last i : ℕ) (t : TermTable) : Type 0 where
   pub digits : All (λ (d : Digit). d.variable ≢ last) t.digits.items
   pub moves : IsTrue t.moves → i ≢ last
-
--- boxes, as many as there are inputs for each cell from one on
-abbrev pub AreBoxesFrom : Description → ℕ → List (Option CellBox) → Type 0
-AreBoxesFrom p c boxes = (k u : ℕ) → u < vectors_of p.inputs → k * vectors_of p.inputs + u < length boxes → IsBoxOf p (c + k) u (slice_index_or boxes (k * vectors_of p.inputs + u) None)

@@ -4,13 +4,15 @@ use Rattle.std.specs.List.{All}
 use Rattle.grid_quantiser.specs.declared.boxes.CellBox.{CellBox}
 use Rattle.grid_quantiser.specs.declared.extents.Extent.{Extent}
 use Rattle.grid_quantiser.specs.Axes.{no_axis, cells_of}
-use Rattle.grid_quantiser.specs.ExtentBoxes.{one_cell}
+use Rattle.plant_record.specs.declared.version.PlantVersion.TheVariants.{One}
 use Rattle.plant_record.specs.Description.{Description, axes_of, vectors_of}
 use Rattle.successor_box.specs.PairExtents.{index_in, moves_along, shifted_by, IsExtentAt, IsExtentBeforeAt, IsBoxAlong}
 use Rattle.abstraction_table.specs.declared.digits.Digit.{Digit}
 use Rattle.abstraction_table.specs.declared.terms.Terms.{Terms}
 use Rattle.abstraction_table.specs.declared.terms.Terms.TheVariants.{Listed, Moved}
 use Rattle.abstraction_table.specs.declared.terms.TermTable.{TermTable}
+use Rattle.abstraction_table.specs.declared.terms.StateTerms.{StateTerms}
+use Rattle.abstraction_table.specs.declared.terms.StateTerms.TheVariants.{Table, PerPair}
 use Rattle.abstraction_table.specs.inside.ExtentTables.{first_of}
 use Rattle.abstraction_table.specs.inside.Sums.{term, plus, enlarged}
 use Rattle.base.specs.declared.limits.TheConstants.{CELLS_LIMIT, PAIRS_LIMIT}
@@ -77,10 +79,15 @@ pub record IsTermTableOf (p : Description) (i : ℕ) (t : TermTable) : Type 0 wh
   pub slot : (c u : ℕ) → c < cells_of (axes_of p) → u < vectors_of p.inputs → first_of p t.digits.items c + slice_index t.inputs.items u < count_of t.terms
   pub term : (c u : ℕ) → c < cells_of (axes_of p) → u < vectors_of p.inputs → HasTermAt p c u i t.terms (first_of p t.digits.items c + slice_index t.inputs.items u)
 
--- Tables hold the terms of all pairs along all axes.
-pub record AreTermTablesOf (p : Description) (tables : List TermTable) : Type 0 where
+-- a state's terms stand in a table, or, in version 1, are found pair by pair
+abbrev pub AreTermsOf : Description → ℕ → StateTerms → Type 0
+AreTermsOf p i (Table t) = IsTermTableOf p i t
+AreTermsOf p i (PerPair stride) = (stride ≡ stride_of p i) × (p.version ≡ One)
+
+-- The terms of all pairs along all axes.
+pub record AreTermTablesOf (p : Description) (tables : List StateTerms) : Type 0 where
   pub one_each : length tables ≡ length p.equations
-  pub each : (i : ℕ) (d : TermTable) → i < length p.equations → IsTermTableOf p i (slice_index_or tables i d)
+  pub each : (i : ℕ) (d : StateTerms) → i < length p.equations → AreTermsOf p i (slice_index_or tables i d)
 
 -- A cell brings so much to a state's table, and moves its extents so many indices.
 pub record Brings (p : Description) (i : ℕ) (t : TermTable) (brought own c : ℕ) : Type 0 where
@@ -100,10 +107,6 @@ BringAs p i t indices c = Brings p i t (first_in t indices) (if t.moves then sli
 -- a box is a state's term of each cell that brings this, under each input
 abbrev pub IsFreeTerm : Description → ℕ → (ℕ → Type 0) → Option CellBox → Type 0
 IsFreeTerm p i brings b = (c u : ℕ) → brings c → u < vectors_of p.inputs → IsTermAt p c u i b
-
--- boxes are the sums of a cell with these indices
-abbrev pub HasCell : Description → ℕ → List ℕ → List (Option CellBox) → Type 0
-HasCell p states indices boxes = (c : ℕ) × (c < cells_of (axes_of p)) × AreIndicesOf p c indices × AreSumsAlong p states c one_cell boxes
 
 -- boxes are with one more the sums of a cell that brings this
 abbrev pub HasSums : Description → ℕ → (ℕ → Type 0) → List (Option CellBox) → Type 0

@@ -1,4 +1,4 @@
-use Rattle.std.proofs.Common.{◌≡◌, ℕ, ◌<◌, ◌≤◌, ◌-◌, length}
+use Rattle.std.proofs.Common.{◌≡◌, ℕ, ◌<◌, length}
 use Rattle.grid_quantiser.specs.Axes.{cells_of}
 use Rattle.grid_quantiser.specs.ExtentBoxes.{one_cell}
 use Rattle.plant_record.specs.Description.{axes_of}
@@ -10,9 +10,5 @@ use Rattle.abstraction_table.proofs.cell_lines.add_early.Given as goal
 abbrev pub invariant-loop-state : goal.invariant-loop-state
 invariant-loop-state l = record {
   long : length l.boxes ≡ length l.fn.boxes;
-  within : l.state ≤ length l.tables;
   along : (c d : ℕ) → c < cells_of (axes_of l.p) → AreIndicesOf l.p c l.indices → IsInLineOf l.p c d → AreSumsAlong l.p l.state d one_cell l.boxes;
 }
-
-abbrev pub decreases-loop-state : goal.decreases-loop-state
-decreases-loop-state l = length l.tables - l.state

@@ -40,75 +40,75 @@ piece_of p plant sound c n done cells end row count is within end-is lt =
     )
 
 pub overflow_cast-inputs : goal.overflow_cast-inputs
-overflow_cast-inputs c = inputs_fit c.vectors-inputs.result (vectors_of c.args.p.now.inputs) c.vectors-inputs.ensures.count c.requires.plant.vectors
+overflow_cast-inputs c = inputs_fit c.vectors-inputs.result (vectors_of c.args.sampled.now.plant.now.inputs) c.vectors-inputs.ensures.count c.args.sampled.now.within.vectors
 
 pub nonzero_div-cells : goal.nonzero_div-cells
 nonzero_div-cells c = c.vectors-inputs.ensures.some
 
 pub overflow_sub-states : goal.overflow_sub-states
-overflow_sub-states c = let plant = c.requires.plant.plant in states_some (length c.args.p.now.states) c.states.result c.states.ensures plant.some_state plant.states_bound
+overflow_sub-states c = let plant = c.args.sampled.now.within.plant in states_some (length c.args.sampled.now.plant.now.states) c.states.result c.states.ensures plant.some_state plant.states_bound
 
 pub count-row-requires : goal.count-row-requires
-count-row-requires c = let plant = c.requires.plant.plant in last_in (length c.args.p.now.states) c.states.result c.states.ensures plant.some_state plant.states_bound (length c.grid.result.now) (ap length c.grid.ensures ∙ length-map c.args.p.now.states axis_of)
+count-row-requires c = let plant = c.args.sampled.now.within.plant in last_in (length c.args.sampled.now.plant.now.states) c.states.result c.states.ensures plant.some_state plant.states_bound (length c.grid.result.now) (ap length c.grid.ensures ∙ length-map c.args.sampled.now.plant.now.states axis_of)
 
 pub loop-done-init : goal.loop-done-init
 loop-done-init c = record { long = refl; within = least (length c.args.boxes.now / c.vectors-inputs.result); found = λ k u none input. nothing_below k none; left = λ i from. refl }
 
 pub overflow_add-c : goal.overflow_add-c
 overflow_add-c c =
-    let p = c.args.p.now in
-    let within = c.requires.plant in
+    let p = c.args.sampled.now.plant.now in
+    let within = c.args.sampled.now.within in
     let cells = c.requires.cells in
     number_fits_wide (length c.args.boxes.now) cells.0 c.vectors-inputs.result (vectors_of p.inputs) c.args.c (cells_of (axes_of p)) cells.1 c.vectors-inputs.ensures.count c.vectors-inputs.ensures.some cells.2 within.pairs c.loop-done.done c.loop-done-test.true within.cells
 
 pub nonzero_rem-c : goal.nonzero_rem-c
 nonzero_rem-c c =
-    let p = c.args.p.now in
-    let plant = c.requires.plant.plant in
+    let p = c.args.sampled.now.plant.now in
+    let plant = c.args.sampled.now.within.plant in
     some_row p plant (sound_plant p plant) c.count-row.result
     (c.count-row.ensures ∙ ap (λ (k : ℕ). (get_or c.grid.result.now (k - 1) no_axis).count) c.states.ensures ∙ ap (λ (axes : List Axis). (get_or axes (length p.states - 1) no_axis).count) c.grid.ensures)
 
 pub overflow_sub-done : goal.overflow_sub-done
 overflow_sub-done c =
-    let p = c.args.p.now in
-    let plant = c.requires.plant.plant in
+    let p = c.args.sampled.now.plant.now in
+    let plant = c.args.sampled.now.within.plant in
     rest_within (c.args.c + c.loop-done.done) c.loop-done.done c.count-row.result
     (some_row p plant (sound_plant p plant) c.count-row.result
     (c.count-row.ensures ∙ ap (λ (k : ℕ). (get_or c.grid.result.now (k - 1) no_axis).count) c.states.ensures ∙ ap (λ (axes : List Axis). (get_or axes (length p.states - 1) no_axis).count) c.grid.ensures))
 
 pub overflow_cast-done : goal.overflow_cast-done
 overflow_cast-done c =
-    let p = c.args.p.now in
-    let within = c.requires.plant in
+    let p = c.args.sampled.now.plant.now in
+    let within = c.args.sampled.now.within in
     let cells = c.requires.cells in
     done_fits (length c.args.boxes.now) cells.0 c.vectors-inputs.result (vectors_of p.inputs) c.args.c (cells_of (axes_of p)) cells.1 c.vectors-inputs.ensures.count c.vectors-inputs.ensures.some cells.2 within.pairs c.loop-done.done c.loop-done-test.true within.cells
 
 pub overflow_add-c-in-loop-done : goal.overflow_add-c-in-loop-done
 overflow_add-c-in-loop-done c =
-    let p = c.args.p.now in
-    let within = c.requires.plant in
+    let p = c.args.sampled.now.plant.now in
+    let within = c.args.sampled.now.within in
     let cells = c.requires.cells in
     number_fits (length c.args.boxes.now) cells.0 c.vectors-inputs.result (vectors_of p.inputs) c.args.c (cells_of (axes_of p)) cells.1 c.vectors-inputs.ensures.count c.vectors-inputs.ensures.some cells.2 within.pairs c.loop-done.done c.loop-done-test.true within.cells
 
 pub overflow_mul-done : goal.overflow_mul-done
 overflow_mul-done c =
-    let p = c.args.p.now in
-    let within = c.requires.plant in
+    let p = c.args.sampled.now.plant.now in
+    let within = c.args.sampled.now.within in
     let cells = c.requires.cells in
     from_fits (length c.args.boxes.now) cells.0 c.vectors-inputs.result (vectors_of p.inputs) c.args.c (cells_of (axes_of p)) cells.1 c.vectors-inputs.ensures.count c.vectors-inputs.ensures.some cells.2 within.pairs c.loop-done.done c.loop-done-test.true
 
 pub offset_bounds-boxes-done : goal.offset_bounds-boxes-done
 offset_bounds-boxes-done c =
-    let p = c.args.p.now in
-    let within = c.requires.plant in
+    let p = c.args.sampled.now.plant.now in
+    let within = c.args.sampled.now.within in
     let cells = c.requires.cells in
     from_offset_fits (length c.args.boxes.now) cells.0 c.vectors-inputs.result (vectors_of p.inputs) c.args.c (cells_of (axes_of p)) cells.1 c.vectors-inputs.ensures.count c.vectors-inputs.ensures.some cells.2 within.pairs c.loop-done.done c.loop-done-test.true
 
 -- the term of a row that comes next
-next_piece : (c : goal.After-min-end) → (c.loop-done.done < c.min-end.result) × (c.min-end.result ≤ c.requires.cells.0) × AreInLine c.args.p.now (c.args.c + c.loop-done.done) (c.min-end.result - c.loop-done.done)
+next_piece : (c : goal.After-min-end) → (c.loop-done.done < c.min-end.result) × (c.min-end.result ≤ c.requires.cells.0) × AreInLine c.args.sampled.now.plant.now (c.args.c + c.loop-done.done) (c.min-end.result - c.loop-done.done)
 next_piece c =
-    let p = c.args.p.now in
-    let plant = c.requires.plant.plant in
+    let p = c.args.sampled.now.plant.now in
+    let plant = c.args.sampled.now.within.plant in
     let v : ℕ = c.vectors-inputs.result in
     let n : ℕ = c.requires.cells.0 in
     let cells = cell_count (length c.args.boxes.now) n v (vectors_of p.inputs) c.requires.cells.1 c.vectors-inputs.ensures.count c.vectors-inputs.ensures.some in
@@ -118,10 +118,10 @@ next_piece c =
 
 pub overflow_mul-end : goal.overflow_mul-end
 overflow_mul-end c =
-    let p = c.args.p.now in
+    let p = c.args.sampled.now.plant.now in
     let cells = c.requires.cells in
     let inputs = c.vectors-inputs.ensures in
-    to_fits (length c.args.boxes.now) cells.0 c.vectors-inputs.result (vectors_of p.inputs) c.args.c (cells_of (axes_of p)) cells.1 inputs.count inputs.some cells.2 c.requires.plant.pairs c.min-end.result (next_piece c).1
+    to_fits (length c.args.boxes.now) cells.0 c.vectors-inputs.result (vectors_of p.inputs) c.args.c (cells_of (axes_of p)) cells.1 inputs.count inputs.some cells.2 c.args.sampled.now.within.pairs c.min-end.result (next_piece c).1
 
 pub slice_bounds-boxes_in_line-start : goal.slice_bounds-boxes_in_line-start
 slice_bounds-boxes_in_line-start c = from_before c.loop-done.done c.min-end.result c.vectors-inputs.result (next_piece c).0
@@ -134,8 +134,8 @@ boxes_in_line-requires-clause-tables c = c.requires.tables
 
 pub boxes_in_line-requires-clause-row : goal.boxes_in_line-requires-clause-row
 boxes_in_line-requires-clause-row c =
-    let p = c.args.p.now in
-    let plant = c.requires.plant.plant in
+    let p = c.args.sampled.now.plant.now in
+    let plant = c.args.sampled.now.within.plant in
     let sound = sound_plant p plant in
     let v : ℕ = c.vectors-inputs.result in
     let done : ℕ = c.loop-done.done in
@@ -154,8 +154,8 @@ boxes_in_line-requires-clause-row c =
 
 pub boxes_in_line-requires-clause-start : goal.boxes_in_line-requires-clause-start
 boxes_in_line-requires-clause-start c = λ k d short.
-    let p = c.args.p.now in
-    let plant = c.requires.plant.plant in
+    let p = c.args.sampled.now.plant.now in
+    let plant = c.args.sampled.now.within.plant in
     let sound = sound_plant p plant in
     let v : ℕ = c.vectors-inputs.result in
     let done : ℕ = c.loop-done.done in
@@ -180,8 +180,8 @@ boxes_in_line-requires-clause-start c = λ k d short.
 
 pub loop-done-preserved : goal.loop-done-preserved
 loop-done-preserved c =
-    let p = c.args.p.now in
-    let plant = c.requires.plant.plant in
+    let p = c.args.sampled.now.plant.now in
+    let plant = c.args.sampled.now.within.plant in
     let sound = sound_plant p plant in
     let v : ℕ = c.vectors-inputs.result in
     let done : ℕ = c.loop-done.done in
@@ -211,8 +211,8 @@ loop-done-preserved c =
 
 pub loop-done-smaller : goal.loop-done-smaller
 loop-done-smaller c =
-    let p = c.args.p.now in
-    let plant = c.requires.plant.plant in
+    let p = c.args.sampled.now.plant.now in
+    let plant = c.args.sampled.now.within.plant in
     let sound = sound_plant p plant in
     let v : ℕ = c.vectors-inputs.result in
     let done : ℕ = c.loop-done.done in
@@ -231,7 +231,7 @@ returns-clause-long c = c.loop-done.invariant.long
 
 pub returns-clause-each : goal.returns-clause-each
 returns-clause-each c =
-    let p = c.args.p.now in
+    let p = c.args.sampled.now.plant.now in
     let v : ℕ = c.vectors-inputs.result in
     let n : ℕ = c.requires.cells.0 in
     let inputs = c.vectors-inputs.ensures.count in

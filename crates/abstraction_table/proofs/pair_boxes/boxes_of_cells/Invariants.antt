@@ -7,7 +7,7 @@ abbrev pub invariant-loop-done : goal.invariant-loop-done
 invariant-loop-done l = record {
   long : length l.boxes ≡ length l.fn.boxes;
   within : l.done ≤ l.cells;
-  found : (k u : ℕ) → k < l.done → u < l.inputs → IsBoxOf l.p (l.fn.c + k) u (get_or l.boxes (k * l.inputs + u) None);
+  found : (k u : ℕ) → k < l.done → u < l.inputs → IsBoxOf l.sampled.plant.now (l.fn.c + k) u (get_or l.boxes (k * l.inputs + u) None);
   left : (i : ℕ) → l.done * l.inputs ≤ i → get_or l.boxes i None ≡ get_or l.fn.boxes i None;
 }
 

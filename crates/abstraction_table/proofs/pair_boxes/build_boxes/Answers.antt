@@ -38,7 +38,7 @@ par_chunks_mut_for_each-requires-clause-accepts g c κs within = λ start chunk 
     ∙ ap (λ (boxes : List (Option CellBox)). get_or boxes (start + k) d) (c.deref_mut-2.ensures.value ∙ c.in_ok-boxes.ensures.items_if_clones_equal (λ y same. same))
     ∙ get_or-replicate _ (start + k) c.new.result d (omega (arith, lt, here.in_bounds, c.deref_mut-2.ensures.len, c.in_ok-boxes.ensures.len))
     ∙ c.new.ensures
-    in (c.args.sampled.now.within, (rw c.as_slice-tables.ensures.value c.in_ok-tables.ensures, (c.vectors.ensures.count, (c.vectors.ensures.some, (whole, each)))))
+    in (rw c.as_slice-tables.ensures.value c.in_ok-tables.ensures, (c.vectors.ensures.count, (c.vectors.ensures.some, (whole, each))))
 
 pub returns : goal.returns
 returns g c =

@@ -5,7 +5,7 @@ use Rattle.grid_quantiser.specs.declared.axis.Axis.{Axis}
 use Rattle.grid_quantiser.specs.Axes.{IsAxis, no_axis}
 use Rattle.plant_record.specs.Description.{axis_of, axes_of}
 use Rattle.plant_record.proofs.lemmas.SoundPlants.{sound as sound_plant}
-use Rattle.abstraction_table.specs.declared.terms.TermTable.{TermTable}
+use Rattle.abstraction_table.specs.declared.terms.StateTerms.{StateTerms}
 use Rattle.abstraction_table.proofs.BoxSums.{stride_next}
 use Rattle.abstraction_table.proofs.TermTables.{tables_more}
 use Rattle.abstraction_table.proofs.terms.build_tables.Goals as goal
@@ -15,7 +15,7 @@ loop-state-preserved g c =
     let p = c.args.sampled.now.plant.now in
     let so_far = c.loop-state.invariant in
     let state : ℕ = c.loop-state.state in
-    let t : TermTable = c.in_ok-build_terms.field-0 in
+    let t : StateTerms = c.in_ok-build_state.field-0 in
     let plant = c.args.sampled.now.within.plant in
     let equation : state < length p.equations = omega (arith, c.loop-state-test.true, c.states-state-end.ensures, plant.one_each) in
     let count : c.count.result ≡ (get_or (axes_of p) state no_axis).count = c.count.ensures ∙ ap (λ (axes : List Axis). (get_or axes state no_axis).count) c.grid-in-loop-state.ensures in
@@ -23,11 +23,11 @@ loop-state-preserved g c =
     (record {
       count = omega (arith, length-append c.loop-state.tables.items (t ∷ []), so_far.count);
       stride = stride_next p (sound_plant p plant) state equation c.loop-state.stride c.count.result so_far.stride count;
-      each = tables_more p c.loop-state.tables.items state t so_far.count so_far.each c.in_ok-build_terms.ensures;
+      each = tables_more p c.loop-state.tables.items state t so_far.count so_far.each c.in_ok-build_state.ensures;
     })
 
-pub build_terms-requires-clause-stride : goal.build_terms-requires-clause-stride
-build_terms-requires-clause-stride g c =
+pub build_state-requires-clause-stride : goal.build_state-requires-clause-stride
+build_state-requires-clause-stride g c = λ κs within.
     let p = c.args.sampled.now.plant.now in
     let state : ℕ = c.loop-state.state in
     let plant = c.args.sampled.now.within.plant in

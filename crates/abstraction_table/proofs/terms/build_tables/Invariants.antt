@@ -1,8 +1,8 @@
 use Rattle.std.proofs.Common.{◌≡◌, ℕ, ◌<◌, drop, length, get_or}
 use Rattle.grid_quantiser.specs.Axes.{cells_of}
 use Rattle.plant_record.specs.Description.{axes_of}
-use Rattle.abstraction_table.specs.declared.terms.TermTable.{TermTable}
-use Rattle.abstraction_table.specs.inside.Terms.{IsTermTableOf}
+use Rattle.abstraction_table.specs.declared.terms.StateTerms.{StateTerms}
+use Rattle.abstraction_table.specs.inside.Terms.{AreTermsOf}
 use Rattle.abstraction_table.proofs.terms.build_tables.Given as goal
 
 -- the tables so far, and how many cells the later axes make
@@ -10,5 +10,5 @@ abbrev pub invariant-loop-state : goal.invariant-loop-state
 invariant-loop-state g l = record {
   count : length l.tables.items ≡ l.state;
   stride : l.stride ≡ cells_of (drop l.state (axes_of l.sampled.plant.now));
-  each : (i : ℕ) (d : TermTable) → i < l.state → IsTermTableOf l.sampled.plant.now i (get_or l.tables.items i d);
+  each : (i : ℕ) (d : StateTerms) → i < l.state → AreTermsOf l.sampled.plant.now i (get_or l.tables.items i d);
 }
