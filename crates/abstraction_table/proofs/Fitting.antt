@@ -1,5 +1,6 @@
 -- Numbers that fit, as those of a plant within the limits are small.
-use Rattle.std.proofs.Common.{◌≡◌, ◌≢◌, ℕ, ◌+◌, ◌-◌, ◌*◌, ◌/◌, ◌%◌, ◌^◌, ◌<◌, ◌≤◌, ◌∙◌, Fits, w32, w64, sym, ap, arith}
+use Rattle.std.proofs.Common.{◌≡◌, ◌≢◌, ℕ, ◌+◌, ◌-◌, ◌*◌, ◌/◌, ◌%◌, ◌^◌, ◌<◌, ◌≤◌, ◌∙◌, List, Fits, w32, w64, length, take, drop, sym, ap, arith}
+use Rattle.std.proofs.lemmas.List.{length-take-le, length-drop}
 use Rattle.std.proofs.lemmas.Nat.{mul-le, mod_below}
 use Rattle.abstraction_table.proofs.LineBoxes.{cell_count}
 use Rattle.base.proofs.Products.{part_fits}
@@ -78,30 +79,3 @@ rest_within slot done row some = omega (arith, mod_below slot row some)
 
 pub before_end : (k v boxes : ℕ) → k < v → v ≤ boxes → k < boxes
 before_end k v boxes lt le = omega (arith, lt, le)
-
-pub slot_offset_fits : (n : ℕ) → n < 9 → Fits w64 (n * 4)
-slot_offset_fits n few = omega (arith, few)
-
-pub below_apart : (k n : ℕ) → k < n → k ≢ n
-below_apart k n lt = omega (arith, lt)
-
--- the states and the input variables
-module _ (states inputs n m : ℕ) (states_are : n ≡ states) (inputs_are : m ≡ inputs) (few_states : states ≤ 6) (few_inputs : inputs ≤ 3) where
-  pub variables_fit : Fits w32 (n + m)
-  variables_fit = omega (arith, states_are, inputs_are, few_states, few_inputs)
-
-  module _ (variable : ℕ) (lt : variable < n + m) where
-    pub variable_in : variable < states + inputs
-    variable_in = omega (arith, states_are, inputs_are, lt)
-
-    pub variable_below : variable < 9
-    variable_below = omega (arith, variable_in, few_states, few_inputs)
-
-    pub variable_fits : Fits w64 variable
-    variable_fits = omega (arith, variable_below)
-
-    pub line_offset_fits : Fits w64 (variable * 128)
-    line_offset_fits = omega (arith, variable_below)
-
-  pub variable_done : (k variable : ℕ) → k < states + inputs → n + m ≤ variable → k < variable
-  variable_done k variable within done = omega (arith, states_are, inputs_are, within, done)

@@ -10,7 +10,7 @@ pub mod SourceSteps
 pub mod Segments
 pub mod ListedShapes
 pub mod PlantGame
-pub mod DigitMoves
+pub mod PackedDigits
 pub mod NextDigits
 pub mod PairDigits
 pub mod EquationDigits
@@ -22,7 +22,6 @@ mod LineBoxes
 mod CellBlocks
 mod CellLineLists
 mod Fitting
-mod AddedTerms
 mod ChangedElements
 mod BoxSums
 mod ListedTerms

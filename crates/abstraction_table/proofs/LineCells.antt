@@ -1,11 +1,10 @@
 -- Cells in a row differ in the place along the last state alone.
 use Rattle.std.proofs.Common.{◌≡◌, ◌≢◌, ℕ, zero, suc, ◌+◌, ◌*◌, ◌/◌, ◌%◌, ◌<◌, ◌≤◌, List, [], ◌∷◌, All, Bool, true, false, length, drop, set, get_or, get_or-set_other, get_or-set_same, refl, sym, ap, subst, ◌∙◌, arith, inl, inr}
-use Rattle.std.specs.Prelude.{sum_by, IsTrue, if◌then◌else◌}
+use Rattle.std.specs.Prelude.{IsTrue, if◌then◌else◌}
 use Rattle.std.proofs.Math.Nat.{mul_assoc, mul_comm, div-div-eq-div-mul, div-one, div-add-mod'}
 use Rattle.std.proofs.lemmas.Bool.{cases_lt}
 use Rattle.std.proofs.lemmas.List.{length-map, drop_all}
-use Rattle.std.proofs.lemmas.List.Elements.{All-head, All-tail}
-use Rattle.std.proofs.lemmas.List.Sums.{sum_by-cons}
+use Rattle.std.proofs.lemmas.List.Elements.{All-weaker}
 use Rattle.std.proofs.lemmas.Nat.{div-mul-add, mod-mul-add}
 use Rattle.grid_quantiser.specs.declared.axis.Axis.{Axis}
 use Rattle.grid_quantiser.specs.Axes.{no_axis, cells_of}
@@ -18,6 +17,8 @@ use Rattle.abstraction_table.specs.declared.digits.Digit.{Digit}
 use Rattle.abstraction_table.specs.declared.terms.TermTable.{TermTable}
 use Rattle.abstraction_table.specs.inside.CellLines.{last_state, line_length, AreInLine, IsInLineOf, StaysAlongLines}
 use Rattle.abstraction_table.specs.inside.Terms.{AreIndicesOf, BringAs, IsTermTableOf}
+use Rattle.abstraction_table.specs.inside.Digits.{slot_at}
+use Rattle.abstraction_table.proofs.PackedDigits.{same_slots}
 use Rattle.abstraction_table.proofs.PairDigits.{state_slot, no_value_index}
 
 -- the cells along the later axes are whole rows
@@ -68,13 +69,10 @@ module _ (p : Description) (plant : IsPlant p) where
       ]
 
   -- what a cell brings to a table that depends on no slot along the last state
-  same_first : (c d : ℕ) (ds : List Digit) → d / line_length p ≡ c / line_length p → All (λ (e : Digit). e.variable ≢ last_state p) ds → sum_by (λ (e : Digit). index_in p c 0 e.variable * e.in_table) ds ≡ sum_by (λ (e : Digit). index_in p d 0 e.variable * e.in_table) ds
-  same_first c d [] same stays = refl
-  same_first c d (e ∷ ds) same stays =
-      let here : index_in p c 0 e.variable * e.in_table ≡ index_in p d 0 e.variable * e.in_table =
-      ap (λ (n : ℕ). n * e.in_table) (same_slot c d e.variable same (All-head (λ (e : Digit). e.variable ≢ last_state p) e ds stays))
-      in
-      omega (arith, sum_by-cons (λ (e : Digit). index_in p c 0 e.variable * e.in_table) e ds, sum_by-cons (λ (e : Digit). index_in p d 0 e.variable * e.in_table) e ds, here, same_first c d ds same (All-tail (λ (e : Digit). e.variable ≢ last_state p) e ds stays))
+  same_first : (c d : ℕ) (ds : List Digit) → d / line_length p ≡ c / line_length p → All (λ (e : Digit). e.variable ≢ last_state p) ds → slot_at ds (index_in p c 0) ≡ slot_at ds (index_in p d 0)
+  same_first c d ds same stays =
+      same_slots (index_in p c 0) (index_in p d 0) ds
+      (All-weaker (λ (e : Digit). e.variable ≢ last_state p) (λ (e : Digit). index_in p c 0 e.variable ≡ index_in p d 0 e.variable) (λ e other. same_slot c d e.variable same other) ds stays)
 
   same_moves : (i c d : ℕ) (b : Bool) → i < length p.states → d / line_length p ≡ c / line_length p → (IsTrue b → i ≢ last_state p) → (if b then index_along (axes_of p) i c else 0) ≡ (if b then index_along (axes_of p) i d else 0)
   same_moves i c d true lt same stays = state_slot p c 0 i lt ∙ same_slot c d i same (stays refl) ∙ sym (state_slot p d 0 i lt)

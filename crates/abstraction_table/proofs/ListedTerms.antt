@@ -65,12 +65,12 @@ module _ (p : Description) (sound : IsSound p) (i : ℕ) (lt : i < length p.equa
       listed_term = subst (λ (n : ℕ). IsTermAt p c u i (get_or terms n None)) there (each (shifted_by p i c) here moved (held.slot c u cell input) c u (held.extent c u cell input))
 
 -- one digit more
-pub own_digit_brings : (p : Description) (i c : ℕ) (ds : List Digit) (d : Digit) (n : ℕ) → i < length p.states → d.variable ≡ i → d.in_table ≡ n → moves_along p i ≡ true → first_of p (ds ++ d ∷ []) c ≡ first_of p ds c + shifted_by p i c * n
-own_digit_brings p i c ds d n state is in_table moves =
+pub own_digit_brings : (p : Description) (i c : ℕ) (ds : List Digit) (d : Digit) (n : ℕ) → i < length p.states → d.variable ≡ i → d.stride ≡ n → moves_along p i ≡ true → first_of p (ds ++ d ∷ []) c ≡ first_of p ds c + shifted_by p i c * n
+own_digit_brings p i c ds d n state is stride moves =
     let own : shifted_by p i c ≡ index_along (axes_of p) i c = ap (λ (b : Bool). if b then index_along (axes_of p) i c else 0) moves in
     let slot : index_in p c 0 d.variable ≡ shifted_by p i c = ap (index_in p c 0) is ∙ sym (own ∙ state_slot p c 0 i state) in
-    let last : index_in p c 0 d.variable * d.in_table ≡ shifted_by p i c * n = ap (λ (k : ℕ). k * d.in_table) slot ∙ ap (λ (k : ℕ). shifted_by p i c * k) in_table in
-    let term : Digit → ℕ = λ (e : Digit). index_in p c 0 e.variable * e.in_table in
+    let last : index_in p c 0 d.variable * d.stride ≡ shifted_by p i c * n = ap (λ (k : ℕ). k * d.stride) slot ∙ ap (λ (k : ℕ). shifted_by p i c * k) stride in
+    let term : Digit → ℕ = λ (e : Digit). index_in p c 0 e.variable * e.stride in
     omega (arith, sum_by-append term ds (d ∷ []), sum_by-cons term d [], last)
 
 pub no_digit_brings : (p : Description) (i c : ℕ) (ds : List Digit) (n : ℕ) → moves_along p i ≡ false → first_of p ds c ≡ first_of p ds c + shifted_by p i c * n

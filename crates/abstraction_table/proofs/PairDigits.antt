@@ -1,16 +1,20 @@
--- The digits of a pair are its indices.
-use Rattle.std.proofs.Common.{◌≡◌, ℕ, zero, suc, ◌+◌, ◌-◌, ◌*◌, ◌/◌, ◌%◌, ◌<◌, ◌≤◌, List, [], ◌∷◌, ◌++◌, All, length, map, drop, get_or, refl, sym, ap, ap₂, ◌∙◌, arith, inl, inr}
-use Rattle.std.proofs.Math.Nat.{mul_assoc, mul_comm, div-div-eq-div-mul, zero-div, zero-mod}
-use Rattle.std.proofs.Math.Seq.{drop-append-add}
+-- The indices of a pair: those of its cell, then those of its input.
+use Rattle.std.proofs.Common.{◌≡◌, ℕ, ◌+◌, ◌-◌, ◌*◌, ◌%◌, ◌<◌, ◌≤◌, List, [], ◌∷◌, All, Bool, true, false, length, map, drop, get_or, refl, sym, ap, subst, ◌∙◌, arith, inl, inr}
+use Rattle.std.specs.List.{range_with_len}
+use Rattle.std.specs.Prelude.{nat_lt, if◌then◌else◌}
+use Rattle.std.proofs.Math.Nat.{zero-div, zero-mod}
 use Rattle.std.proofs.lemmas.Bool.{cases_lt, cond_below, cond_above}
-use Rattle.std.proofs.lemmas.Nat.{div-mul-add, mul-le}
-use Rattle.std.proofs.lemmas.List.{length-append, length-drop, get_or-drop, drop-drop, length-map, get_or-map, get_or_append_left, get_or-append_right, drop-append-le, drop-map, drop_more}
-use Rattle.std.proofs.lemmas.List.Elements.{All-head, All-tail, All-append, All-map, All-weaker, All-drop, All-get_or}
-use Rattle.mixed_radix.specs.Radix.{size}
-use Rattle.grid_quantiser.specs.declared.axis.Axis.{Axis}
-use Rattle.grid_quantiser.specs.Axes.{IsAxis, no_axis, cells_of}
+use Rattle.std.proofs.lemmas.Nat.{mod_below, mul-le}
+use Rattle.std.proofs.lemmas.List.{length-map, drop_more}
+use Rattle.std.proofs.lemmas.List.Elements.{All-head, All-tail}
+use Rattle.std.proofs.lemmas.List.FromFn.{length-map-range_with_len, get_or-map-range_with_len}
+use Rattle.mixed_radix.specs.Radix.{size, stride, number, digit, AreDigits, AreDigitsOf}
+use Rattle.mixed_radix.proofs.Numbers.{digit_is}
+use Rattle.mixed_radix.proofs.Steps.{number_below, some_count}
+use Rattle.grid_quantiser.specs.Axes.{counts_of, cells_of}
 use Rattle.grid_quantiser.specs.Indices.{index_along}
-use Rattle.grid_quantiser.proofs.OwnIndices.{index_along_is}
+use Rattle.grid_quantiser.proofs.Counts.{length-counts_of}
+use Rattle.grid_quantiser.proofs.Suffixes.{some_cells}
 use Rattle.plant_record.specs.declared.variables.InputVariable.{InputVariable}
 use Rattle.plant_record.specs.Description.{Description, axis_of, axes_of, value_counts, vectors_of}
 use Rattle.plant_record.specs.ValueIndices.{value_count, value_index}
@@ -18,169 +22,106 @@ use Rattle.plant_record.specs.Plants.{IsPlant}
 use Rattle.plant_record.specs.Soundness.{IsSound}
 use Rattle.plant_record.specs.Variables.{IsInputVariable}
 use Rattle.successor_box.specs.PairExtents.{index_in}
-use Rattle.plant_game.specs.Abstraction.{pairs_of}
-use Rattle.abstraction_table.specs.inside.Digits.{counts_of, combinations}
-use Rattle.abstraction_table.proofs.DigitMoves.{lower_digit}
+use Rattle.abstraction_table.specs.inside.Digits.{count_in}
 
--- ---- how many numbers digits make
+no_digit_of : (counts : List ℕ) (k : ℕ) → digit counts k 0 ≡ 0
+no_digit_of counts k = ap (λ (n : ℕ). n % get_or counts k 0) (zero-div (stride counts k)) ∙ zero-mod (get_or counts k 0)
 
-combinations-append : (xs ys : List ℕ) → combinations (xs ++ ys) ≡ combinations xs * combinations ys
-combinations-append [] ys = omega arith
-combinations-append (x ∷ xs) ys = ap (λ (k : ℕ). x * k) (combinations-append xs ys) ∙ sym (mul_assoc x (combinations xs) (combinations ys))
+-- digits below the counts are those of a number
+number_with : (counts : List ℕ) (f : ℕ → ℕ) → ((k : ℕ) → k < length counts → f k < get_or counts k 0) → (c : ℕ) × (c < size counts) × ((k : ℕ) → k < length counts → digit counts k c ≡ f k)
+number_with counts f below =
+    let ds : List ℕ = map f (range_with_len 0 (length counts)) in
+    let each : (k : ℕ) → k < length counts → get_or ds k 0 ≡ f k = λ k lt. get_or-map-range_with_len f 0 (length counts) k k 0 lt (omega arith) in
+    let are : AreDigits counts ds = record { long = omega (arith, length-map-range_with_len f 0 (length counts)); below = λ k lt. omega (arith, each k lt, below k lt) } in
+    let of : AreDigitsOf counts (number counts ds) ds = record { are = are; number_is = refl } in
+    (number counts ds, number_below counts ds are, λ k lt. digit_is counts ds (number counts ds) k of lt ∙ each k lt)
 
-of_axes : (axes : List Axis) → combinations (map (λ (a : Axis). a.count) axes) ≡ cells_of axes
-of_axes [] = refl
-of_axes (a ∷ axes) = ap (λ (k : ℕ). a.count * k) (of_axes axes)
-
-of_counts : (counts : List ℕ) → combinations counts ≡ size counts
-of_counts [] = refl
-of_counts (n ∷ counts) = ap (λ (k : ℕ). n * k) (of_counts counts)
-
-pub some_combinations : (ns : List ℕ) → All (λ n. 1 ≤ n) ns → 1 ≤ combinations ns
-some_combinations [] each = omega arith
-some_combinations (n ∷ ns) each = mul-le 1 1 n (combinations ns) (All-head (λ (n : ℕ). 1 ≤ n) n ns each) (some_combinations ns (All-tail (λ (n : ℕ). 1 ≤ n) n ns each))
-
-pub fewer : (k : ℕ) (ns : List ℕ) → All (λ n. 1 ≤ n) ns → combinations (drop k ns) ≤ combinations ns
-fewer zero ns each = omega arith
-fewer (suc k) [] each = omega arith
-fewer (suc k) (n ∷ ns) each =
-    omega (arith, fewer k ns (All-tail (λ (n : ℕ). 1 ≤ n) n ns each), mul-le 1 (combinations ns) n (combinations ns) (All-head (λ (n : ℕ). 1 ≤ n) n ns each) (omega arith))
-
--- a digit and the later ones divide the whole
-factor : (ns : List ℕ) (j : ℕ) → j < length ns → (g : ℕ) × (combinations ns ≡ g * (get_or ns j 0 * combinations (drop (j + 1) ns)))
-factor [] j lt = absurd (omega (arith, lt))
-factor (n ∷ ns) zero lt = (1, omega arith)
-factor (n ∷ ns) (suc j) lt =
-    let f = factor ns j (omega (arith, lt)) in
-    let next : suc j + 1 ≡ suc (j + 1) = omega arith in (
-      n * f.0,
-      ap (λ (k : ℕ). n * k) f.1
-          ∙ sym (mul_assoc n f.0 (get_or ns j 0 * combinations (drop (j + 1) ns)))
-          ∙ ap (λ (k : ℕ). n * f.0 * (get_or ns j 0 * combinations (drop k (n ∷ ns)))) (sym next),
-    )
-
--- so do those from one digit on
-pub factor_from : (ns : List ℕ) (m j : ℕ) → m ≤ j → j < length ns → (g : ℕ) × (combinations (drop m ns) ≡ g * (get_or ns j 0 * combinations (drop (j + 1) ns)))
-factor_from ns m j le lt =
-    let f = factor (drop m ns) (j - m) (omega (arith, le, lt, length-drop m ns)) in
-    let there : m + (j - m) ≡ j = omega (arith, le) in
-    let next : m + (j - m + 1) ≡ j + 1 = omega (arith, le) in
-    let count : get_or (drop m ns) (j - m) 0 ≡ get_or ns j 0 = get_or-drop m ns (j - m) 0 ∙ ap (λ (i : ℕ). get_or ns i 0) there in
-    let later : drop (j - m + 1) (drop m ns) ≡ drop (j + 1) ns = drop-drop (j - m + 1) m ns ∙ ap (λ (i : ℕ). drop i ns) next in
-    (f.0, f.1 ∙ ap₂ (λ (c : ℕ) (l : List ℕ). f.0 * (c * combinations l)) count later)
-
--- ---- the counts of a plant
+-- there is an input vector
+some_values : (inputs : List InputVariable) → All IsInputVariable inputs → 1 ≤ vectors_of inputs
+some_values [] each = omega arith
+some_values (i ∷ inputs) each = mul-le 1 1 (length i.values) (vectors_of inputs) (All-head IsInputVariable i inputs each).some_value (some_values inputs (All-tail IsInputVariable i inputs each))
 
 module _ (p : Description) where
-  abbrev counts_along : List ℕ
-  counts_along = map (λ (a : Axis). a.count) (axes_of p)
+  abbrev states : ℕ
+  states = length p.states
 
-  abbrev values : List ℕ
-  values = value_counts p.inputs
+  -- an index and a count by their kind
+  pub state_slot : (c u k : ℕ) → k < states → index_along (axes_of p) k c ≡ index_in p c u k
+  state_slot c u k state = cond_below k states (index_along (axes_of p) k c) (value_index p.inputs (k - states) u) state
 
-  along_long : length counts_along ≡ length p.states
-  along_long = length-map (axes_of p) (λ (a : Axis). a.count) ∙ length-map p.states axis_of
+  pub among_slot : (c u k : ℕ) → states ≤ k → value_index p.inputs (k - states) u ≡ index_in p c u k
+  among_slot c u k past = cond_above k states (index_along (axes_of p) k c) (value_index p.inputs (k - states) u) (value_index p.inputs (k - states) u) past refl
 
-  -- one of them
-  pub count_along : (k : ℕ) → k < length p.states → get_or (counts_of p) k 0 ≡ (get_or (axes_of p) k no_axis).count
-  count_along k state =
-      get_or_append_left counts_along values 0 k (omega (arith, state, along_long)) ∙ get_or-map (λ (a : Axis). a.count) (axes_of p) k no_axis 0 (omega (arith, state, length-map p.states axis_of))
+  pub count_along : (k : ℕ) → k < states → get_or (counts_of (axes_of p)) k 0 ≡ count_in p k
+  count_along k state = cond_below k states (get_or (counts_of (axes_of p)) k 0) (value_count p.inputs (k - states)) state
 
-  pub count_among : (k : ℕ) → length p.states ≤ k → get_or (counts_of p) k 0 ≡ value_count p.inputs (k - length p.states)
-  count_among k past = get_or-append_right counts_along values (length p.states) k 0 along_long past
-
-  pub counts_long : length (counts_of p) ≡ length p.states + length p.inputs
-  counts_long = omega (arith, length-append counts_along values, along_long, length-map p.inputs (λ (i : InputVariable). length i.values))
-
-  pub all_combinations : combinations (counts_of p) ≡ pairs_of p
-  all_combinations = combinations-append counts_along values ∙ ap₂ (λ (m n : ℕ). m * n) (of_axes (axes_of p)) (of_counts values)
-
-  -- those of the input variables alone
-  pub input_combinations : combinations (drop (length p.states) (counts_of p)) ≡ vectors_of p.inputs
-  input_combinations =
-      let at : length p.states ≡ length counts_along + 0 = omega (arith, along_long) in
-      ap (λ (i : ℕ). combinations (drop i (counts_of p))) at ∙ ap combinations (drop-append-add counts_along values 0) ∙ of_counts values
-
-  pub some_counts : IsPlant p → IsSound p → All (λ n. 1 ≤ n) (counts_of p)
-  some_counts plant sound =
-      All-append (λ (n : ℕ). 1 ≤ n) counts_along values
-      (All-map (λ (n : ℕ). 1 ≤ n) (λ (a : Axis). a.count) (axes_of p) (All-weaker IsAxis (λ (a : Axis). 1 ≤ a.count) (λ a h. h.some_cell) (axes_of p) sound.axes.each))
-      (All-map (λ (n : ℕ). 1 ≤ n) (λ (i : InputVariable). length i.values) p.inputs (All-weaker IsInputVariable (λ (i : InputVariable). 1 ≤ length i.values) (λ i h. h.some_value) p.inputs plant.inputs))
+  pub count_among : (k : ℕ) → states ≤ k → value_count p.inputs (k - states) ≡ count_in p k
+  count_among k past = cond_above k states (get_or (counts_of (axes_of p)) k 0) (value_count p.inputs (k - states)) (value_count p.inputs (k - states)) past refl
 
   pub some_vectors : IsPlant p → 1 ≤ vectors_of p.inputs
-  some_vectors plant =
-      let each = All-map (λ (n : ℕ). 1 ≤ n) (λ (i : InputVariable). length i.values) p.inputs (All-weaker IsInputVariable (λ (i : InputVariable). 1 ≤ length i.values) (λ i h. h.some_value) p.inputs plant.inputs) in
-      omega (arith, of_counts values, some_combinations values each)
+  some_vectors plant = some_values p.inputs plant.inputs
 
-  pub next_combinations : (k : ℕ) → k < length p.states + length p.inputs → combinations (drop k (counts_of p)) ≡ get_or (counts_of p) k 0 * combinations (drop (k + 1) (counts_of p))
-  next_combinations k lt = ap combinations (drop_more (counts_of p) k 0 (omega (arith, lt, counts_long)))
+  along : length (counts_of (axes_of p)) ≡ states
+  along = length-counts_of (axes_of p) ∙ length-map p.states axis_of
 
-  -- a slot by its kind
-  pub state_slot : (c u k : ℕ) → k < length p.states → index_along (axes_of p) k c ≡ index_in p c u k
-  state_slot c u k state = cond_below k (length p.states) (index_along (axes_of p) k c) (value_index p.inputs (k - length p.states) u) state
+  among : length (value_counts p.inputs) ≡ length p.inputs
+  among = length-map p.inputs (λ (i : InputVariable). length i.values)
 
-  pub among_slot : (c u k : ℕ) → length p.states ≤ k → value_index p.inputs (k - length p.states) u ≡ index_in p c u k
-  among_slot c u k past = cond_above k (length p.states) (index_along (axes_of p) k c) (value_index p.inputs (k - length p.states) u) (value_index p.inputs (k - length p.states) u) past refl
+  pub some_value : IsPlant p → (j : ℕ) → j < length p.inputs → 0 < value_count p.inputs j
+  some_value plant j within = some_count (value_counts p.inputs) j (omega (arith, within, among)) (some_vectors plant)
 
-  module _ (plant : IsPlant p) (sound : IsSound p) (c u k : ℕ) (input : u < vectors_of p.inputs) (lt : k < length p.states + length p.inputs) where
-    abbrev pair : ℕ
-    pair = c * vectors_of p.inputs + u
+  pub some_count_in : IsPlant p → IsSound p → (k : ℕ) → k < states + length p.inputs → 0 < count_in p k
+  some_count_in plant sound k within =
+      elim (cases_lt k states) [
+        | inl state ↦ subst (λ (n : ℕ). 0 < n) (count_along k state) (some_count (counts_of (axes_of p)) k (omega (arith, state, along)) (some_cells (axes_of p) sound.axes.each))
+        | inr past ↦ subst (λ (n : ℕ). 0 < n) (count_among k past) (some_value plant (k - states) (omega (arith, within, past)))
+      ]
 
-    -- of a state
-    state_digit : k < length p.states → pair / combinations (drop (k + 1) (counts_of p)) % get_or (counts_of p) k 0 ≡ index_in p c u k
-    state_digit state =
-        let axes = axes_of p in
-        let v : ℕ = vectors_of p.inputs in
-        let d : ℕ = cells_of (drop (k + 1) axes) in
-        let here : k < length counts_along = omega (arith, state, along_long) in
-        let later : combinations (drop (k + 1) (counts_of p)) ≡ v * d =
-        ap combinations (drop-append-le (k + 1) counts_along values (omega (arith, here)))
-        ∙ combinations-append (drop (k + 1) counts_along) values
-        ∙ ap₂ (λ (m n : ℕ). m * n) (ap combinations (drop-map (λ (a : Axis). a.count) (k + 1) axes) ∙ of_axes (drop (k + 1) axes)) (of_counts values)
-        ∙ mul_comm d v
-        in
-        ap₂ (λ (t m : ℕ). pair / t % m) later (count_along k state)
-        ∙ ap (λ (n : ℕ). n % (get_or axes k no_axis).count) (sym (div-div-eq-div-mul pair v d) ∙ ap (λ (n : ℕ). n / d) (div-mul-add c v u input))
-        ∙ sym (index_along_is axes k c)
-        ∙ state_slot c u k state
+  pub index_in_below : (c u k : ℕ) → 0 < count_in p k → index_in p c u k < count_in p k
+  index_in_below c u k = by (nat_lt k states)
+    where
+      by : (b : Bool) → 0 < (if b then get_or (counts_of (axes_of p)) k 0 else value_count p.inputs (k - states)) →
+          (if b then index_along (axes_of p) k c else value_index p.inputs (k - states) u) < (if b then get_or (counts_of (axes_of p)) k 0 else value_count p.inputs (k - states))
+      by true some = mod_below _ (get_or (counts_of (axes_of p)) k 0) some
+      by false some = mod_below _ (value_count p.inputs (k - states)) some
 
-    -- of an input variable
-    input_digit : length p.states ≤ k → pair / combinations (drop (k + 1) (counts_of p)) % get_or (counts_of p) k 0 ≡ index_in p c u k
-    input_digit past =
-        let j : ℕ = k - length p.states in
-        let m : ℕ = value_count p.inputs j in
-        let l : ℕ = size (drop (j + 1) values) in
-        let within : j < length values = omega (arith, past, lt, length-map p.inputs (λ (i : InputVariable). length i.values)) in
-        let at : k + 1 ≡ length counts_along + (j + 1) = omega (arith, past, along_long) in
-        let of_later : combinations (drop (j + 1) values) ≡ l = of_counts (drop (j + 1) values) in
-        let later : combinations (drop (k + 1) (counts_of p)) ≡ l = ap (λ (i : ℕ). combinations (drop i (counts_of p))) at ∙ ap combinations (drop-append-add counts_along values (j + 1)) ∙ of_later in
-        let f = factor values j within in
-        let whole : vectors_of p.inputs ≡ f.0 * (m * l) = sym (of_counts values) ∙ f.1 ∙ ap (λ (n : ℕ). f.0 * (m * n)) of_later in
-        let some = some_counts plant sound in
-        let some_m : 0 < m = omega (arith, count_among k past, All-get_or (λ (n : ℕ). 1 ≤ n) (counts_of p) k 0 (omega (arith, lt, counts_long)) some) in
-        let some_l : 0 < l = omega (arith, later, some_combinations (drop (k + 1) (counts_of p)) (All-drop (λ (n : ℕ). 1 ≤ n) (k + 1) (counts_of p) some)) in
-        ap₂ (λ (t n : ℕ). pair / t % n) later (count_among k past)
-        ∙ ap (λ (v : ℕ). (c * v + u) / l % m) whole
-        ∙ lower_digit c f.0 m l u some_m some_l
-        ∙ among_slot c u k past
+  -- indices below the counts are those of a pair
+  pub pair_with : (f : ℕ → ℕ) → ((k : ℕ) → k < states + length p.inputs → f k < count_in p k) → (c : ℕ) × (u : ℕ) × (c < cells_of (axes_of p)) × (u < vectors_of p.inputs) × ((k : ℕ) → k < states + length p.inputs → index_in p c u k ≡ f k)
+  pair_with f below =
+      let back : (j : ℕ) → states + j - states ≡ j = λ j. omega arith in
+      let cell = number_with (counts_of (axes_of p)) f (λ k lt. omega (arith, below k (omega (arith, lt, along)), count_along k (omega (arith, lt, along)))) in
+      let input = number_with (value_counts p.inputs) (λ (j : ℕ). f (states + j))
+      (λ j lt. omega (arith, below (states + j) (omega (arith, lt, among)), count_among (states + j) (omega arith), ap (value_count p.inputs) (back j))) in (
+        cell.0,
+        input.0,
+        cell.1,
+        input.1,
+        λ k within. elim (cases_lt k states) [
+          | inl state ↦ sym (state_slot cell.0 input.0 k state) ∙ cell.2 k (omega (arith, state, along))
+          | inr past ↦ sym (among_slot cell.0 input.0 k past) ∙ input.2 (k - states) (omega (arith, within, past, among)) ∙ ap f (let there : states + (k - states) ≡ k = omega (arith, past) in there)
+        ],
+      )
 
-    pub pair_digit : pair / combinations (drop (k + 1) (counts_of p)) % get_or (counts_of p) k 0 ≡ index_in p c u k
-    pair_digit = elim (cases_lt k (length p.states)) [ inl state ↦ state_digit state | inr past ↦ input_digit past ]
+  -- the indices from a state or an input variable on are its own, for each of those after it
+  pub next_along : (k : ℕ) → k < states → size (drop k (counts_of (axes_of p))) ≡ count_in p k * size (drop (k + 1) (counts_of (axes_of p)))
+  next_along k state =
+      ap size (drop_more (counts_of (axes_of p)) k 0 (omega (arith, state, along))) ∙ ap (λ (n : ℕ). n * size (drop (k + 1) (counts_of (axes_of p)))) (count_along k state)
 
-  no_slot_along : (k : ℕ) → index_along (axes_of p) k 0 ≡ 0
-  no_slot_along k = index_along_is (axes_of p) k 0 ∙ ap (λ (i : ℕ). i % (get_or (axes_of p) k no_axis).count) (zero-div (cells_of (drop (k + 1) (axes_of p)))) ∙ zero-mod (get_or (axes_of p) k no_axis).count
+  pub next_among : (j : ℕ) → j < length p.inputs → size (drop j (value_counts p.inputs)) ≡ value_count p.inputs j * size (drop (j + 1) (value_counts p.inputs))
+  next_among j lt = ap size (drop_more (value_counts p.inputs) j 0 (omega (arith, lt, among)))
 
-  no_slot_among : (j : ℕ) → value_index p.inputs j 0 ≡ 0
-  no_slot_among j = ap (λ (i : ℕ). i % value_count p.inputs j) (zero-div (size (drop (j + 1) values))) ∙ zero-mod (value_count p.inputs j)
+  -- ---- the first cell and the first input bring nothing
 
-  -- the first input brings nothing
-  pub no_value_index : (c k : ℕ) → length p.states ≤ k → 0 ≡ index_in p c 0 k
-  no_value_index c k past = sym (no_slot_among (k - length p.states)) ∙ among_slot c 0 k past
+  pub no_index_along : (u k : ℕ) → k < states → 0 ≡ index_in p 0 u k
+  no_index_along u k state = sym (no_digit_of (counts_of (axes_of p)) k) ∙ state_slot 0 u k state
+
+  pub no_value_index : (c k : ℕ) → states ≤ k → 0 ≡ index_in p c 0 k
+  no_value_index c k past = sym (no_digit_of (value_counts p.inputs) (k - states)) ∙ among_slot c 0 k past
 
   -- the indices of a pair are those of its cell and those of its input
-  pub slot_terms : (c u k : ℕ) → index_in p c u k ≡ index_in p c 0 k + index_in p 0 u k
-  slot_terms c u k =
-      elim (cases_lt k (length p.states)) [
-        | inl state ↦ omega (arith, state_slot c u k state, state_slot c 0 k state, state_slot 0 u k state, no_slot_along k)
-        | inr past ↦ omega (arith, among_slot c u k past, among_slot c 0 k past, among_slot 0 u k past, no_slot_among (k - length p.states))
+  pub index_terms : (c u k : ℕ) → index_in p c u k ≡ index_in p c 0 k + index_in p 0 u k
+  index_terms c u k =
+      elim (cases_lt k states) [
+        | inl state ↦ omega (arith, state_slot c u k state, state_slot c 0 k state, no_index_along u k state)
+        | inr past ↦ omega (arith, among_slot c u k past, among_slot 0 u k past, no_value_index c k past)
       ]

@@ -1,22 +1,22 @@
 -- Tables of the terms of all boxes.
-use Rattle.std.proofs.Common.{◌≡◌, ℕ, ◌+◌, ◌*◌, ◌^◌, ◌<◌, ◌-◌, List, [], ◌∷◌, ◌++◌, All, length, get_or, Bool, refl, sym, ap, ap₂, subst, ◌∙◌, arith, inl, inr}
-use Rattle.std.specs.Prelude.{sum_by, if◌then◌else◌, IsTrue}
+use Rattle.std.proofs.Common.{◌≡◌, ℕ, ◌+◌, ◌^◌, ◌<◌, ◌-◌, List, [], ◌∷◌, ◌++◌, All, length, get_or, Bool, refl, sym, ap, ap₂, subst, ◌∙◌, arith, inl, inr}
+use Rattle.std.specs.Prelude.{if◌then◌else◌, IsTrue}
 use Rattle.std.proofs.lemmas.Bool.{cases_lt, cond_both}
 use Rattle.std.proofs.lemmas.List.{length-map, get_or_append_left, get_or-append_right}
-use Rattle.std.proofs.lemmas.List.Elements.{All-get_or, All-head, All-tail, All-weaker}
-use Rattle.std.proofs.lemmas.List.Sums.{sum_by-cons}
+use Rattle.std.proofs.lemmas.List.Elements.{All-get_or, All-weaker}
 use Rattle.grid_quantiser.specs.Axes.{IsAxis, no_axis, cells_of}
 use Rattle.grid_quantiser.specs.Indices.{index_along}
 use Rattle.grid_quantiser.proofs.OwnIndices.{index_along_below}
 use Rattle.plant_record.specs.Description.{Description, axis_of, axes_of, vectors_of}
 use Rattle.plant_record.specs.Plants.{IsPlant}
 use Rattle.plant_record.specs.Soundness.{IsSound}
-use Rattle.successor_box.specs.PairExtents.{index_in, moves_along, shifted_by}
+use Rattle.successor_box.specs.PairExtents.{moves_along, shifted_by}
 use Rattle.abstraction_table.specs.declared.digits.Digit.{Digit}
 use Rattle.abstraction_table.specs.declared.terms.StateTerms.{StateTerms}
 use Rattle.abstraction_table.specs.declared.terms.TermTable.{TermTable}
 use Rattle.abstraction_table.specs.inside.ExtentTables.{first_of}
 use Rattle.abstraction_table.specs.inside.Terms.{AreIndicesOf, first_in, count_of, HasTermAt, Brings, BringAs, IsTermTableOf, AreTermsOf}
+use Rattle.abstraction_table.proofs.PackedDigits.{slot_is}
 use Rattle.abstraction_table.proofs.PairDigits.{state_slot, some_vectors}
 
 -- a digit is that of a state or an input variable
@@ -45,13 +45,7 @@ moved_below p sound i c lt =
 
 -- what the indices of a cell bring is what the cell brings
 pub first_is : (p : Description) (t : TermTable) (c : ℕ) (indices : List ℕ) → All (HasVariable p) t.digits.items → AreIndicesOf p c indices → first_in t indices ≡ first_of p t.digits.items c
-first_is p t c indices each are = same_sums t.digits.items each
-  where
-    same_sums : (ds : List Digit) → All (HasVariable p) ds → sum_by (λ (d : Digit). get_or indices d.variable 0 * d.in_table) ds ≡ sum_by (λ (d : Digit). index_in p c 0 d.variable * d.in_table) ds
-    same_sums [] each = refl
-    same_sums (d ∷ ds) each =
-        let here : get_or indices d.variable 0 * d.in_table ≡ index_in p c 0 d.variable * d.in_table = ap (λ (n : ℕ). n * d.in_table) (are d.variable (All-head (HasVariable p) d ds each)) in
-        omega (arith, sum_by-cons (λ (d : Digit). get_or indices d.variable 0 * d.in_table) d ds, sum_by-cons (λ (d : Digit). index_in p c 0 d.variable * d.in_table) d ds, here, same_sums ds (All-tail (HasVariable p) d ds each))
+first_is p t c indices each are = slot_is p c 0 indices t.digits.items each are
 
 -- a cell's indices bring to each table what the cell does
 pub brings : (p : Description) → IsSound p → (i : ℕ) (t : TermTable) (c : ℕ) (indices : List ℕ) → i < length p.equations → IsTermTableOf p i t → c < cells_of (axes_of p) → AreIndicesOf p c indices → BringAs p i t indices c

@@ -1,28 +1,29 @@
 //! The digits of a pair on which the extents along a state's axis depend.
-ghost use Rattle.std.specs.Prelude.{◌≡◌, ◌+◌, ◌*◌, ◌^◌, ◌<◌, [], length, slice_index, IfOk, IsTrue, IsFalse};
+ghost use Rattle.std.specs.Prelude.{◌≡◌, ℕ, ◌+◌, ◌*◌, ◌^◌, ◌<◌, length, slice_index, IfOk, IsTrue, IsFalse};
 ghost use Rattle.std.specs.List.{All};
 ghost use Rattle.plant_record.specs.Limits.{IsWithinLimits};
 ghost use Rattle.successor_box.specs.PairExtents.{depends_on};
-ghost use Rattle.abstraction_table.specs.inside.Digits.{AreDigitsBetween, AreDigitsOf, IsWithDigit, IsAsBefore, counts_of, slot_at};
+ghost use Rattle.successor_box.specs.declared.index_columns.TheConstants.{INDEX_COLUMNS};
+ghost use Rattle.abstraction_table.specs.inside.Digits.{AreDigitsOf, IsWithDigit, IsAsBefore, count_in, slot_at};
 
 use plant_record::Plant;
 use std::alloc::{AllocError, Global};
+use successor_box::INDEX_COLUMNS;
 
-/// A state or an input variable that stands in an equation: how many indices it has, and what one slot
-/// counts in the number of a pair and in a table of extents.
+/// A state or an input variable that stands in an equation: how many indices it has, and how many slots
+/// of a table there are from one index to the next.
 #[derive(Clone, Copy)]
 pub(crate) struct Digit {
     pub(crate) variable: u32,
     pub(crate) count: u32,
-    pub(crate) in_pair: u32,
-    pub(crate) in_table: u32,
+    pub(crate) stride: u32,
 }
 
-/// The digits of an equation, and how many indices they make.
+/// The digits of an equation, and how many slots they make.
 #[derive(Drop)]
 pub(crate) struct Digits {
     pub(crate) each: Vec<Digit>,
-    pub(crate) indices: u32,
+    pub(crate) slots: u32,
 }
 
 /// The digits of a state's equation: one for each variable in it on which extents depend. Those of the states are below those
@@ -30,73 +31,38 @@ pub(crate) struct Digits {
 pub(crate) fn build_digits(alloc: Global, p: &Plant, state: u32) -> Result<Digits, AllocError>
     requires plant { IsWithinLimits p.now }
     requires state { state < length p.now.equations }
-    ensures { IfOk result (λ digits. AreDigitsOf p.now state digits.each.items digits.indices) }
+    ensures { IfOk result (λ digits. AreDigitsOf p.now state digits.each.items digits.slots) }
 {
     let mut digits = Digits {
         each: Vec::new(alloc),
-        indices: 1,
+        slots: 1,
     };
-    digits.add_states(p, state)?;
-    digits.add_input_variables(p, state)?;
+    for variable in (0..p.states()).rev() {
+        digits.add(p, state, variable)?;
+    }
+    for input in 0..p.input_variables() {
+        digits.add(p, state, p.states() + input)?;
+    }
     Ok(digits)
 }
 
 impl Digits {
-    /// Adds the digits of the states, the last one first.
-    fn add_states(&mut self, p: &Plant, state: u32) -> Result<(), AllocError>
-        requires plant { IsWithinLimits p.now }
+    /// Adds the digit of a variable above the others, if extents depend on it.
+    fn add(&mut self, p: &Plant, state: u32, variable: u32) -> Result<(), AllocError>
         requires state { state < length p.now.equations }
-        requires none { self.old.each.items ≡ [] }
-        requires one { self.old.indices ≡ 1 }
-        ensures { IfOk result (λ _. AreDigitsBetween p.now state 0 (length p.now.states) self.new.each.items self.new.indices) }
-    {
-        let mut in_pair = p.vectors();
-        for variable in (0..p.states()).rev() {
-            let count = count_of(p, variable);
-            self.add(p, state, variable, count, in_pair)?;
-            in_pair *= count;
-        }
-        Ok(())
-    }
-
-    /// Adds the digits of the input variables, the first one first.
-    fn add_input_variables(&mut self, p: &Plant, state: u32) -> Result<(), AllocError>
-        requires plant { IsWithinLimits p.now }
-        requires state { state < length p.now.equations }
-        requires states { AreDigitsBetween p.now state 0 (length p.now.states) self.old.each.items self.old.indices }
-        ensures { IfOk result (λ _. AreDigitsOf p.now state self.new.each.items self.new.indices) }
-    {
-        let mut in_pair = p.vectors();
-        for variable in p.states()..p.states() + p.input_variables() {
-            let count = count_of(p, variable);
-            in_pair /= count;
-            self.add(p, state, variable, count, in_pair)?;
-        }
-        Ok(())
-    }
-
-    /// Adds the digit of a variable above the others in the table, if extents depend on it.
-    fn add(
-        &mut self,
-        p: &Plant,
-        state: u32,
-        variable: u32,
-        count: u32,
-        in_pair: u32,
-    ) -> Result<(), AllocError>
-        requires state { state < length p.now.equations }
-        requires fits { self.old.indices * count < 2 ^ 32 }
-        ensures depends { IfOk result (λ _. IsTrue (depends_on p.now state variable) → IsWithDigit variable count in_pair self.old self.new) }
+        requires variable { variable < length p.now.states + length p.now.inputs }
+        requires fits { self.old.slots * count_in p.now variable < 2 ^ 32 }
+        ensures depends { IfOk result (λ _. IsTrue (depends_on p.now state variable) → IsWithDigit variable (count_in p.now variable) self.old self.new) }
         ensures free { IfOk result (λ _. IsFalse (depends_on p.now state variable) → IsAsBefore self.old self.new) }
     {
         if has_digit(p, state, variable) {
+            let count = count_of(p, variable);
             self.each.push(Digit {
                 variable,
                 count,
-                in_pair,
-                in_table: self.indices,
+                stride: self.slots,
             })?;
-            self.indices *= count;
+            self.slots *= count;
         }
         Ok(())
     }
@@ -115,7 +81,7 @@ fn has_digit(p: &Plant, state: u32, variable: u32) -> bool
 /// How many indices a state has, or how many values an input variable.
 fn count_of(p: &Plant, variable: u32) -> u32
     requires { variable < length p.now.states + length p.now.inputs }
-    ensures { result ≡ slice_index (counts_of p.now) variable }
+    ensures { result ≡ count_in p.now variable }
 {
     let states = p.states();
     if variable < states {
@@ -125,15 +91,16 @@ fn count_of(p: &Plant, variable: u32) -> u32
     }
 }
 
-/// The slot in a table of the extent of a pair.
-pub(crate) fn slot_of(digits: &[Digit], pair: u32) -> u32
-    requires counted { All (λ d. (0 < d.count) × (0 < d.in_pair)) digits.now }
-    requires fits { slot_at digits.now pair < 2 ^ 32 }
-    ensures { result ≡ slot_at digits.now pair }
+/// The slot that has these indices.
+#[inline]
+pub(crate) fn slot_of(digits: &[Digit], indices: &[u32; INDEX_COLUMNS]) -> u32
+    requires variables { All (λ d. d.variable < INDEX_COLUMNS) digits.now }
+    requires fits { slot_at digits.now (λ k. slice_index indices.now k) < 2 ^ 32 }
+    ensures { result ≡ slot_at digits.now (λ k. slice_index indices.now k) }
 {
     let mut slot = 0;
     for d in digits {
-        slot += pair / d.in_pair % d.count * d.in_table;
+        slot += indices[d.variable as usize] * d.stride;
     }
     slot
 }

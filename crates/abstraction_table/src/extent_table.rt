@@ -1,18 +1,19 @@
 //! The extents of all boxes, state by state.
-ghost use Rattle.std.specs.Prelude.{◌≡◌, ℕ, ◌+◌, ◌^◌, ◌<◌, length, slice_index_or, None, IfOk};
+ghost use Rattle.std.specs.Prelude.{◌≡◌, ℕ, ◌+◌, ◌^◌, ◌<◌, length, slice_index, slice_index_or, None, IfOk};
 ghost use Rattle.plant_record.specs.Description.{vectors_of};
 ghost use Rattle.plant_record.specs.Limits.{IsWithinLimits};
+ghost use Rattle.successor_box.specs.PairExtents.{index_in};
 ghost use Rattle.abstraction_table.specs.inside.Digits.{AreDigitsOf, HoldSlots};
-ghost use Rattle.abstraction_table.specs.inside.ExtentTables.{IsExtentTableOf, HoldExtentsAt, IsExtentFor};
+ghost use Rattle.abstraction_table.specs.inside.ExtentTables.{IsExtentTableOf, HoldExtentsFrom, IsExtentFor};
 
-use crate::digits::{Digit, Digits, build_digits, slot_of};
+use crate::digits::{Digit, Digits, slot_of};
 use crate::extent_blocks::{EXTENTS_PER_TASK, fill_chunk};
 use grid_quantiser::Extent;
 use plant_record::Plant;
 use rayon::prelude::*;
 use std::alloc::{AllocError, Global};
 use std::thread::Threads;
-use successor_box::Sampled;
+use successor_box::{INDEX_COLUMNS, Sampled};
 
 /// The extents along the axis of a state: one for each combination of the indices in the variables of the
 /// state's equation, since those of all pairs depend on these. Where the equation moves with the state itself,
@@ -25,18 +26,19 @@ pub(crate) struct ExtentTable {
     pub(crate) moves: bool,
 }
 
-/// The extents along the axis of one state.
+/// The extents along the axis of one state, by its digits.
 pub(crate) fn build_table<R: Threads + Sync>(
     rt: &R,
     alloc: Global,
     sampled: &Sampled<'_>,
     state: u32,
+    digits: Digits,
 ) -> Result<ExtentTable, AllocError>
-    requires { state < length sampled.now.plant.now.equations }
+    requires state { state < length sampled.now.plant.now.equations }
+    requires digits { AreDigitsOf sampled.now.plant.now state digits.each.items digits.slots }
     ensures { IfOk result (λ table. IsExtentTableOf sampled.now.plant.now state table) }
 {
     let p = sampled.plant;
-    let digits = build_digits(alloc, p, state)?;
     let inputs = build_inputs(alloc, p, state, &digits)?;
     let extents = build_extents(rt, alloc, sampled, state, &digits)?;
     Ok(ExtentTable {
@@ -55,16 +57,32 @@ fn build_inputs(
     digits: &Digits,
 ) -> Result<Vec<u32>, AllocError>
     requires plant { IsWithinLimits p.now }
-    requires digits { AreDigitsOf p.now state digits.now.each.items digits.now.indices }
+    requires digits { AreDigitsOf p.now state digits.now.each.items digits.now.slots }
     ensures long { IfOk result (λ inputs. length inputs.items ≡ vectors_of p.now.inputs) }
     ensures each { IfOk result (λ inputs. HoldSlots p.now digits.now.each.items inputs.items) }
 {
     let vectors = p.vectors();
     let mut inputs = Vec::with_capacity(alloc, vectors as usize)?;
     for input in 0..vectors {
-        inputs.push(slot_of(&digits.each, input))?;
+        let indices = indices_of_input(p, input);
+        inputs.push(slot_of(&digits.each, &indices))?;
     }
     Ok(inputs)
+}
+
+/// The indices of an input among the values of the input variables, and 0 for each state.
+fn indices_of_input(p: &Plant, input: u32) -> [u32; INDEX_COLUMNS]
+    requires { IsWithinLimits p.now }
+    ensures { (k : ℕ) → k < length p.now.states + length p.now.inputs → slice_index result k ≡ index_in p.now 0 input k }
+{
+    let mut indices = [0; INDEX_COLUMNS];
+    let mut rest = input;
+    for variable in (0..p.input_variables()).rev() {
+        let count = p.input_values(variable);
+        indices[(p.states() + variable) as usize] = rest % count;
+        rest /= count;
+    }
+    indices
 }
 
 /// The extents along the axis of one state, one for each slot.
@@ -76,18 +94,18 @@ fn build_extents<R: Threads + Sync>(
     digits: &Digits,
 ) -> Result<Vec<Option<Extent>>, AllocError>
     requires state { state < length sampled.now.plant.now.equations }
-    requires digits { AreDigitsOf sampled.now.plant.now state digits.now.each.items digits.now.indices }
-    ensures long { IfOk result (λ extents. length extents.items ≡ digits.now.indices) }
-    ensures each { IfOk result (λ found. HoldExtentsAt sampled.now.plant.now state digits.now.each.items found.items) }
+    requires digits { AreDigitsOf sampled.now.plant.now state digits.now.each.items digits.now.slots }
+    ensures long { IfOk result (λ extents. length extents.items ≡ digits.now.slots) }
+    ensures each { IfOk result (λ found. HoldExtentsFrom sampled.now.plant.now state digits.now.each.items 0 found.items) }
 {
-    let mut extents = vec![in alloc; None; digits.indices as usize]?;
+    let mut extents = vec![in alloc; None; digits.slots as usize]?;
     par_chunks_mut_for_each(
         rt,
         &mut extents,
         EXTENTS_PER_TASK,
         |slot: usize, chunk: &mut [Option<Extent>]|
             requires state { state < length sampled.now.plant.now.equations }
-            requires digits { AreDigitsOf sampled.now.plant.now state digits.now.each.items digits.now.indices }
+            requires digits { AreDigitsOf sampled.now.plant.now state digits.now.each.items digits.now.slots }
             requires capacity { slot + length chunk.now < 2 ^ 32 }
             ensures { (j : ℕ) → j < length chunk.entry.now → IsExtentFor sampled.entry.now.plant.now state digits.entry.now.each.items (slot + j) (slice_index_or chunk.exit.now j None) }
         {

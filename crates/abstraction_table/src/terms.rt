@@ -12,7 +12,7 @@ ghost use Rattle.abstraction_table.specs.inside.ExtentTables.{IsRelativeExtent, 
 ghost use Rattle.abstraction_table.specs.inside.Terms.{first_in, stride_of, own_count, IsTermFrom, Brings, IsTermBrought, HoldTermsFrom, IsTermTableOf, AreTermsOf, AreTermTablesOf};
 ghost use Rattle.base.specs.declared.limits.TheConstants.{PAIRS_LIMIT};
 
-use crate::digits::{Digit, build_digits};
+use crate::digits::{Digit, Digits, build_digits, slot_of};
 use crate::extent_table::{ExtentTable, build_table};
 use crate::pair_box::PairBox;
 use grid_quantiser::Extent;
@@ -61,11 +61,7 @@ impl TermTable {
         requires fits { first_in self.now indices.now < 2 ^ 32 }
         ensures { result ≡ first_in self.now indices.now }
     {
-        let mut first = 0;
-        for d in &self.digits {
-            first += indices[d.variable as usize] * d.in_table;
-        }
-        first
+        slot_of(&self.digits, indices)
     }
 
     /// How many indices a cell moves the extents, by its own slot along the axis.
@@ -109,7 +105,13 @@ impl TermTable {
 
 /// What an extent adds to a box, so many indices further along the axis.
 #[inline]
-pub(crate) fn term_of(p: &Plant, state: u32, stride: u32, extent: Option<Extent>, indices: u32) -> PairBox
+pub(crate) fn term_of(
+    p: &Plant,
+    state: u32,
+    stride: u32,
+    extent: Option<Extent>,
+    indices: u32,
+) -> PairBox
     requires plant { IsWithinLimits p.now }
     requires state { state < length p.now.equations }
     requires stride { stride ≡ stride_of p.now state }
@@ -150,25 +152,25 @@ fn build_state<R: Threads + Sync>(
     requires stride { stride ≡ stride_of sampled.now.plant.now state }
     ensures { IfOk result (λ terms. AreTermsOf sampled.now.plant.now state terms) }
 {
-    if has_term_for_each_pair(alloc, sampled.plant, state)? {
+    let p = sampled.plant;
+    let digits = build_digits(alloc, p, state)?;
+    if has_slot_for_each_pair(p, state, &digits) {
         return Ok(StateTerms::PerPair { stride });
     }
-    let extents = build_table(rt, alloc, sampled, state)?;
-    let table = build_terms(alloc, sampled.plant, state, stride, extents)?;
+    let extents = build_table(rt, alloc, sampled, state, digits)?;
+    let table = build_terms(alloc, p, state, stride, extents)?;
     Ok(StateTerms::Table(table))
 }
 
-/// Whether no two pairs share an extent along the axis of a state, and none is moved from another's, in a plant of version 1.
-fn has_term_for_each_pair(alloc: Global, p: &Plant, state: u32) -> Result<bool, AllocError>
+/// Whether a table of extents had a slot for each pair, and none were moved, in a plant of version 1.
+fn has_slot_for_each_pair(p: &Plant, state: u32, digits: &Digits) -> bool
     requires plant { IsWithinLimits p.now }
     requires state { state < length p.now.equations }
-    ensures { IfOk result (λ each. IsTrue each → p.now.version ≡ One) }
+    ensures { IsTrue result → p.now.version ≡ One }
 {
-    if p.plant_version() != PlantVersion::One || p.equation(state).shifts_with(state) {
-        return Ok(false);
-    }
-    let digits = build_digits(alloc, p, state)?;
-    Ok(digits.indices == p.grid().cells() * p.vectors())
+    p.plant_version() == PlantVersion::One
+        && !p.equation(state).shifts_with(state)
+        && digits.slots == p.grid().cells() * p.vectors()
 }
 
 /// The terms along the axis of one state, listed if they are few.
@@ -229,8 +231,7 @@ fn build_listed(
         digits.push(Digit {
             variable: state,
             count: own,
-            in_pair: stride * p.vectors(),
-            in_table: extents.len() as u32,
+            stride: extents.len() as u32,
         })?;
     }
     let free = are_zero(&inputs);

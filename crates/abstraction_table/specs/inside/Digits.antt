@@ -1,97 +1,74 @@
--- Pairs of a cell and an input as numbers of digits, one for each state and each input variable.
-use Rattle.std.specs.Prelude.{◌≡◌, ℕ, ◌+◌, ◌*◌, ◌/◌, ◌%◌, ◌<◌, ◌≤◌, List, [], ◌∷◌, ◌++◌, map, drop, length, slice_index_or, sum_by, IsTrue, IsFalse}
-use Rattle.std.specs.List.{All}
+-- The digits of an equation: indices in the variables on which extents depend, as one number, the slot of an extent.
+use Rattle.std.specs.Prelude.{◌≡◌, ℕ, ◌+◌, ◌-◌, ◌*◌, ◌/◌, ◌%◌, ◌<◌, ◌≤◌, ◌⊎◌, ◌==◌, List, [], ◌∷◌, ◌++◌, length, slice_index, slice_index_or, sum_by, if◌then◌else◌, nat_lt, IsTrue}
+use Rattle.std.specs.List.{All, fold}
 use Rattle.fixed_expr.specs.declared.lanes.TheConstants.{LANES}
-use Rattle.grid_quantiser.specs.declared.axis.Axis.{Axis}
-use Rattle.plant_record.specs.declared.variables.InputVariable.{InputVariable}
+use Rattle.grid_quantiser.specs.Axes.{counts_of}
 use Rattle.plant_record.specs.Description.{Description, axes_of, vectors_of}
-use Rattle.successor_box.specs.PairExtents.{depends_on, index_in, IsPairInLane}
+use Rattle.plant_record.specs.ValueIndices.{value_count}
+use Rattle.plant_game.specs.Abstraction.{pairs_of}
+use Rattle.successor_box.specs.PairExtents.{depends_on, index_in}
+use Rattle.successor_box.specs.declared.index_columns.TheConstants.{INDEX_COLUMNS}
 use Rattle.abstraction_table.specs.declared.digits.Digit.{Digit}
 use Rattle.abstraction_table.specs.declared.digits.Digits.{Digits}
 
--- how many indices each state and each input variable has
-abbrev pub counts_of : Description → List ℕ
-counts_of p = map (λ (a : Axis). a.count) (axes_of p) ++ map (λ (i : InputVariable). length i.values) p.inputs
+-- how many indices a state has, or how many values an input variable
+abbrev pub count_in : Description → ℕ → ℕ
+count_in p k = if nat_lt k (length p.states) then slice_index (counts_of (axes_of p)) k else value_count p.inputs (k - length p.states)
 
--- how many numbers digits make
-abbrev pub combinations : List ℕ → ℕ
-combinations [] = 1
-combinations (n ∷ counts) = n * combinations counts
+-- the slot that has these indices
+abbrev pub slot_at : List Digit → (ℕ → ℕ) → ℕ
+slot_at digits indices = sum_by (λ (d : Digit). indices d.variable * d.stride) digits
 
--- the digits of a number at other weights: `from` and `to` say what one slot of a digit counts
-abbrev pub with_weights : (Digit → ℕ) → (Digit → ℕ) → List Digit → ℕ → ℕ
-with_weights from to digits n = sum_by (λ (d : Digit). n / from d % d.count * to d) digits
+-- the index of a slot in a variable: the digit of that variable, or 0 where it has none
+abbrev pub index_at : List Digit → ℕ → ℕ → ℕ
+index_at digits variable slot = fold (λ index (d : Digit). if d.variable == variable then slot / d.stride % d.count else index) 0 digits
 
--- the slot in a table of the extent of a pair
-abbrev pub slot_at : List Digit → ℕ → ℕ
-slot_at digits pair = with_weights (λ (d : Digit). d.in_pair) (λ (d : Digit). d.in_table) digits pair
+-- the lanes hold, variable by variable, the indices of a slot and of the next ones
+abbrev pub HoldIndicesFrom : List Digit → ℕ → List (List ℕ) → Type 0
+HoldIndicesFrom digits slot indices = (k j : ℕ) → k < INDEX_COLUMNS → j < LANES → slice_index_or (slice_index_or indices k []) j 0 ≡ index_at digits k (slot + j)
 
--- the pair that has the digits of a slot, and 0 in the other variables
-abbrev pub pair_at : List Digit → ℕ → ℕ
-pair_at digits slot = with_weights (λ (d : Digit). d.in_table) (λ (d : Digit). d.in_pair) digits slot
-
--- the index in a variable of the pair that has the digits of a slot
-abbrev pub index_at : Description → List Digit → ℕ → ℕ → ℕ
-index_at p digits variable slot = index_in p (pair_at digits slot / vectors_of p.inputs) (pair_at digits slot % vectors_of p.inputs) variable
-
--- the lanes hold the indices of the pairs that have the digits of a slot and of the next ones
-abbrev pub HoldPairsFrom : Description → List Digit → ℕ → List (List ℕ) → Type 0
-HoldPairsFrom p digits slot indices = (j : ℕ) → j < LANES → IsPairInLane p indices j (pair_at digits (slot + j) / vectors_of p.inputs) (pair_at digits (slot + j) % vectors_of p.inputs)
-
--- what each input brings to the slot of an extent
+-- what each input brings to the slot of a pair
 abbrev pub HoldSlots : Description → List Digit → List ℕ → Type 0
-HoldSlots p digits inputs = (u : ℕ) → u < vectors_of p.inputs → slice_index_or inputs u 0 ≡ slot_at digits u
+HoldSlots p digits inputs = (u : ℕ) → u < vectors_of p.inputs → slice_index_or inputs u 0 ≡ slot_at digits (index_in p 0 u)
 
--- A digit of a number, with the weight t and below m, and for how many numbers from this one on it stays the same.
+-- A digit of a number, with the stride t and below m, and for how many numbers from this one on it stays the same.
 pub record IsDigitAt (t m n digit left : ℕ) : Type 0 where
   pub digit_is : digit ≡ n / t % m
   pub left_is : left + n % t ≡ t
 
--- Each digit of a number is found again where it was moved to, and the number there is below a bound.
-pub record Moves (from to : Digit → ℕ) (digits : List Digit) (bound : ℕ) : Type 0 where
-  pub below : (n : ℕ) → with_weights from to digits n < bound
-  pub graded : All (λ (d : Digit). (g : ℕ) × (bound ≡ g * (d.count * to d))) digits
-  pub each : (n : ℕ) → All (λ (d : Digit). with_weights from to digits n / to d % d.count ≡ n / from d % d.count) digits
+-- a digit can be read from slots, into the column of its variable
+abbrev pub IsReadable : Digit → Type 0
+IsReadable d = (d.variable < INDEX_COLUMNS) × (0 < d.count) × (0 < d.stride)
 
--- A digit is that of a state or an input variable, and its slot in a pair's number is counted by the later ones.
-pub record IsDigitOf (p : Description) (d : Digit) : Type 0 where
+-- A digit is that of a variable on which extents depend.
+pub record IsDigitOf (p : Description) (i : ℕ) (d : Digit) : Type 0 where
   pub variable : d.variable < length p.states + length p.inputs
-  pub count : d.count ≡ slice_index_or (counts_of p) d.variable 0
-  pub some : 1 ≤ d.count
-  pub in_pair : d.in_pair ≡ combinations (drop (d.variable + 1) (counts_of p))
-  pub some_slot : 1 ≤ d.in_table
+  pub depends : IsTrue (depends_on p i d.variable)
+  pub count : d.count ≡ count_in p d.variable
 
 -- a variable has a digit
 abbrev pub HasDigit : List Digit → ℕ → Type 0
-HasDigit digits k = (j : ℕ) × (j < length digits) × ((d : Digit) → (slice_index_or digits j d).variable ≡ k)
+HasDigit [] variable = ⊥
+HasDigit (d ∷ digits) variable = (d.variable ≡ variable) ⊎ HasDigit digits variable
 
--- a number is so many times another
-abbrev pub IsMultiple : ℕ → ℕ → Type 0
-IsMultiple t n = (g : ℕ) × (n ≡ g * t)
+-- digits follow one another from a stride on: that of each is how many numbers those before it make
+abbrev pub ArePacked : ℕ → List Digit → ℕ → Type 0
+ArePacked stride [] all = stride ≡ all
+ArePacked stride (d ∷ digits) all = (d.stride ≡ stride) × ArePacked (stride * d.count) digits all
 
--- The digits of an equation among the variables from `first` to before `last`, and how many indices they make. The pairs of
--- all indices are at the first slot in a variable without a digit.
-pub record AreDigitsBetween (p : Description) (i first last : ℕ) (digits : List Digit) (indices : ℕ) : Type 0 where
-  pub each : All (IsDigitOf p) digits
-  pub all : (k : ℕ) → first ≤ k → k < last → IsTrue (depends_on p i k) → HasDigit digits k
-  pub packed : Moves (λ (d : Digit). d.in_pair) (λ (d : Digit). d.in_table) digits indices
-  pub spread : Moves (λ (d : Digit). d.in_table) (λ (d : Digit). d.in_pair) digits (combinations (drop first (counts_of p)))
-  pub others : (k : ℕ) → first ≤ k → k < last → IsFalse (depends_on p i k) → (slot : ℕ) → pair_at digits slot / combinations (drop (k + 1) (counts_of p)) % slice_index_or (counts_of p) k 0 ≡ 0
-  pub above : All (λ (d : Digit). IsMultiple (combinations (drop last (counts_of p))) d.in_pair) digits
-  pub whole : IsMultiple (combinations (drop last (counts_of p))) (combinations (drop first (counts_of p)))
-  pub some : 1 ≤ indices
-  pub few : indices * combinations (drop last (counts_of p)) ≤ combinations (drop first (counts_of p))
+-- The digits of an equation, one for each variable on which extents depend, and how many slots they make.
+pub record AreDigitsOf (p : Description) (i : ℕ) (digits : List Digit) (slots : ℕ) : Type 0 where
+  pub each : All (IsDigitOf p i) digits
+  pub all : (k : ℕ) → k < length p.states + length p.inputs → IsTrue (depends_on p i k) → HasDigit digits k
+  pub packed : ArePacked 1 digits slots
+  pub few : slots ≤ pairs_of p
 
--- the digits of an equation
-abbrev pub AreDigitsOf : Description → ℕ → List Digit → ℕ → Type 0
-AreDigitsOf p i digits indices = AreDigitsBetween p i 0 (length p.states + length p.inputs) digits indices
+-- A variable has a digit, above the others.
+pub record IsWithDigit (variable count : ℕ) (old new : Digits) : Type 0 where
+  pub each : new.each.items ≡ old.each.items ++ (record { variable = variable; count = count; stride = old.slots }) ∷ []
+  pub slots : new.slots ≡ old.slots * count
 
--- a variable has a digit, above the others
-pub record IsWithDigit (variable count in_pair : ℕ) (old new : Digits) : Type 0 where
-  pub each : new.each.items ≡ old.each.items ++ (record { variable = variable; count = count; in_pair = in_pair; in_table = old.indices }) ∷ []
-  pub indices : new.indices ≡ old.indices * count
-
--- the same digits
+-- The digits stay the same.
 pub record IsAsBefore (old new : Digits) : Type 0 where
   pub each : new.each.items ≡ old.each.items
-  pub indices : new.indices ≡ old.indices
+  pub slots : new.slots ≡ old.slots

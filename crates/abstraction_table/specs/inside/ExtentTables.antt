@@ -1,5 +1,5 @@
 -- The extents of all boxes along one axis.
-use Rattle.std.specs.Prelude.{◌≡◌, ℕ, ◌+◌, ◌*◌, ◌/◌, ◌%◌, ◌<◌, ◌≤◌, ℤ, ◌≤ℤ◌, List, length, slice_index, slice_index_or, sum_by, Option, None}
+use Rattle.std.specs.Prelude.{◌≡◌, ℕ, ◌+◌, ◌*◌, ◌<◌, ◌≤◌, ℤ, ◌≤ℤ◌, List, length, slice_index, slice_index_or, sum_by, Option, None}
 use Rattle.std.specs.List.{All}
 use Rattle.grid_quantiser.specs.declared.extents.Extent.{Extent}
 use Rattle.grid_quantiser.specs.Axes.{no_axis, cells_of}
@@ -8,12 +8,12 @@ use Rattle.plant_record.specs.Description.{Description, axes_of, vectors_of}
 use Rattle.successor_box.specs.PairExtents.{index_in, moves_along, shifted_by, IsExtentBeforeAt}
 use Rattle.abstraction_table.specs.declared.digits.Digit.{Digit}
 use Rattle.abstraction_table.specs.declared.extent_table.ExtentTable.{ExtentTable}
-use Rattle.abstraction_table.specs.inside.Digits.{pair_at}
+use Rattle.abstraction_table.specs.inside.Digits.{slot_at}
 use Rattle.base.specs.declared.limits.TheConstants.{PAIRS_LIMIT}
 
 -- what a cell brings to the slot of an extent
 abbrev pub first_of : Description → List Digit → ℕ → ℕ
-first_of p digits c = sum_by (λ (d : Digit). index_in p c 0 d.variable * d.in_table) digits
+first_of p digits c = sum_by (λ (d : Digit). index_in p c 0 d.variable * d.stride) digits
 
 -- the extent that a table holds where a cell brings so much, under an input
 abbrev pub extent_in : ExtentTable → ℕ → ℕ → Option Extent
@@ -33,15 +33,11 @@ pub record IsExtentTableOf (p : Description) (i : ℕ) (t : ExtentTable) : Type 
   pub slot : (c u : ℕ) → c < cells_of (axes_of p) → u < vectors_of p.inputs → first_of p t.digits.items c + slice_index t.inputs.items u < length t.extents.items
   pub extent : (c u : ℕ) → c < cells_of (axes_of p) → u < vectors_of p.inputs → IsExtentBeforeAt p c u i (shifted_by p i c) (extent_in t (first_of p t.digits.items c) u)
 
--- the extent of the pair that has the digits of a slot, as many indices before as its cell moves it
-abbrev pub IsExtentFor : Description → ℕ → List Digit → ℕ → Option Extent → Type 0
-IsExtentFor p i digits slot extent =
-    IsExtentBeforeAt p (pair_at digits slot / vectors_of p.inputs) (pair_at digits slot % vectors_of p.inputs) i (shifted_by p i (pair_at digits slot / vectors_of p.inputs)) extent
+-- An extent is that of all pairs that have a slot, as many indices before as their cells move it.
+pub record IsExtentFor (p : Description) (i : ℕ) (digits : List Digit) (slot : ℕ) (extent : Option Extent) : Type 0 where
+  pub relative : IsRelativeExtent p i extent
+  pub each : (c u : ℕ) → c < cells_of (axes_of p) → u < vectors_of p.inputs → slot_at digits (index_in p c u) ≡ slot → IsExtentBeforeAt p c u i (shifted_by p i c) extent
 
--- the extents of the pairs that have the digits of a slot and of the next ones
+-- the extents of a slot and of the next ones
 abbrev pub HoldExtentsFrom : Description → ℕ → List Digit → ℕ → List (Option Extent) → Type 0
 HoldExtentsFrom p i digits slot extents = (j : ℕ) → j < length extents → IsExtentFor p i digits (slot + j) (slice_index_or extents j None)
-
--- the extents of all slots
-abbrev pub HoldExtentsAt : Description → ℕ → List Digit → List (Option Extent) → Type 0
-HoldExtentsAt p i digits extents = (slot : ℕ) → slot < length extents → IsExtentFor p i digits slot (slice_index_or extents slot None)

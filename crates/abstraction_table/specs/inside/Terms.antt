@@ -56,7 +56,7 @@ AreIndicesOf p c indices = (k : ℕ) → k < length p.states + length p.inputs �
 
 -- what indices bring to the slot of a term
 abbrev pub first_in : TermTable → List ℕ → ℕ
-first_in t indices = sum_by (λ (d : Digit). slice_index indices d.variable * d.in_table) t.digits.items
+first_in t indices = sum_by (λ (d : Digit). slice_index indices d.variable * d.stride) t.digits.items
 
 -- how many indices terms have
 abbrev pub count_of : Terms → ℕ

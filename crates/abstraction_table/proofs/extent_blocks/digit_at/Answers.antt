@@ -7,14 +7,14 @@ use Rattle.abstraction_table.proofs.extent_blocks.digit_at.Goals as goal
 
 pub returns-then-left : goal.returns-then-left
 returns-then-left c = λ j lt.
-    let t : ℕ = c.args.d.now.in_table in
+    let t : ℕ = c.args.d.now.stride in
     let slot : ℕ = c.args.slot in
     let below : j < 32 = lt in
     get_or-replicate 32 j (slot / t % c.args.d.now.count) 0 below ∙ sym (digit_lasts t c.args.d.now.count slot j (omega (arith, below, mod_below slot t c.requires.counted.1, c.if-left.true)))
 
 pub loop-j-init : goal.loop-j-init
 loop-j-init c =
-    let t : ℕ = c.args.d.now.in_table in
+    let t : ℕ = c.args.d.now.stride in
     let m : ℕ = c.args.d.now.count in
     let slot : ℕ = c.args.slot in
     let here : slot ≡ slot + 0 = omega arith in
@@ -26,7 +26,7 @@ loop-j-init c =
 
 pub loop-j-preserved : goal.loop-j-preserved
 loop-j-preserved c =
-    let t : ℕ = c.args.d.now.in_table in
+    let t : ℕ = c.args.d.now.stride in
     let m : ℕ = c.args.d.now.count in
     let slot : ℕ = c.args.slot in
     let digits = c.loop-j.digits in

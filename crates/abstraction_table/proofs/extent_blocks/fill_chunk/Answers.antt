@@ -38,3 +38,6 @@ loop-block-preserved c =
             subst₂ (λ (n : ℕ) (extent : Option Extent). IsExtentFor p c.args.state digits n extent) here (sym (in_term start (end - start) chunk found j None short past below)) (c.fill_block.ensures.each i below)
       ];
     }
+
+pub returns-clause-each : goal.returns-clause-each
+returns-clause-each c = λ j below. c.loop-block.invariant.each j (search rules) (omega (arith, below, c.loop-block.invariant.long))

@@ -1,18 +1,13 @@
-use Rattle.std.proofs.Common.{◌≡◌, ◌<◌, ℕ, List, Option, None, ◌∙◌, length, get_or, sym, ap, subst, subst₂, arith}
+use Rattle.std.proofs.Common.{◌≡◌, ◌+◌, ◌<◌, ℕ, List, Option, None, ◌∙◌, length, get_or, sym, ap, subst, subst₂, arith}
 use Rattle.std.proofs.lemmas.List.{take_at}
 use Rattle.grid_quantiser.specs.declared.extents.Extent.{Extent}
-use Rattle.plant_record.proofs.lemmas.SoundPlants.{sound as sound_plant}
 use Rattle.abstraction_table.specs.declared.digits.Digit.{Digit}
 use Rattle.abstraction_table.specs.inside.ExtentTables.{IsExtentFor}
-use Rattle.abstraction_table.proofs.EquationDigits.{few_indices}
 use Rattle.abstraction_table.proofs.extent_table.build_extents.Goals as goal
 
 pub par_chunks_mut_for_each-requires-clause-accepts : goal.par_chunks_mut_for_each-requires-clause-accepts
 par_chunks_mut_for_each-requires-clause-accepts g c κs within = λ start chunk here.
-    let p = c.args.sampled.now.plant.now in
-    let limits = c.args.sampled.now.within in
-    let few = few_indices p limits.plant (sound_plant p limits.plant) c.args.state c.args.digits.now.each.items c.args.digits.now.indices c.requires.digits in
-    (c.requires.state, (c.requires.digits, omega (arith, here.in_bounds, c.deref_mut.ensures.len, c.in_ok-extents.ensures.len, few, limits.pairs)))
+    (c.requires.state, (c.requires.digits, omega (arith, here.in_bounds, c.deref_mut.ensures.len, c.in_ok-extents.ensures.len, c.requires.digits.few, c.args.sampled.now.within.pairs)))
 
 pub returns-clause-long : goal.returns-clause-long
 returns-clause-long g c =
@@ -29,4 +24,5 @@ returns-clause-each g c = λ slot below.
     let short = subst (λ (extents : List (Option Extent)). slot < length extents) (take_at found _ c.in_ok-extents.extents.len len) below in
     let block = (c.par_chunks_mut_for_each.ensures.by_index slot None (omega (arith, short, c.par_chunks_mut_for_each.auto.s))).1 in
     let here = subst₂ (λ (n : ℕ) (extent : Option Extent). IsExtentFor p c.args.state digits n extent) block.start_plus_offset block.new_element (block.call block.offset block.offset_in_chunk) in
-    subst (λ (extents : List (Option Extent)). IsExtentFor p c.args.state digits slot (get_or extents slot None)) (sym (take_at found _ c.in_ok-extents.extents.len len)) here
+    let from : slot ≡ 0 + slot = omega arith in
+    subst₂ (λ (extents : List (Option Extent)) (n : ℕ). IsExtentFor p c.args.state digits n (get_or extents slot None)) (sym (take_at found _ c.in_ok-extents.extents.len len)) from here

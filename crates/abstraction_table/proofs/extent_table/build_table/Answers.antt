@@ -1,4 +1,4 @@
-use Rattle.std.proofs.Common.{◌≡◌, ◌∙◌, sym, ap, arith}
+use Rattle.std.proofs.Common.{◌≡◌, ◌∙◌, sym, ap}
 use Rattle.std.specs.Prelude.{pos}
 use Rattle.std.proofs.lemmas.Option.{get_or_from_slice_get}
 use Rattle.fixed_expr.specs.Expression.{Expression, NumExpr, expression_of}
@@ -14,9 +14,9 @@ pub returns : goal.returns
 returns g c =
     let p = c.args.sampled.now.plant.now in
     let within = c.args.sampled.now.within in
-    let digits = c.in_ok-digits.digits in
+    let digits = c.args.digits in
     let table : ExtentTable = record { digits = digits.each; inputs = c.in_ok-inputs.inputs; extents = c.in_ok-extents.extents; moves = c.shifts_with.result } in
     let equation-is : equation_at p c.args.state ≡ expression_of c.equation.result.now = get_or_from_slice_get p.equations c.args.state (expression_of c.equation.result.now) (NumExpr (pos 0)) c.equation.ensures in
     let moves : c.shifts_with.result ≡ moves_along p c.args.state = c.shifts_with.ensures ∙ ap (λ (e : Expression). shifts_with e c.args.state) (sym equation-is) in
-    table_of p within.plant (sound_plant p within.plant) within.pairs c.args.state c.requires table digits.indices c.in_ok-digits.ensures
-    c.in_ok-inputs.ensures.long c.in_ok-inputs.ensures.each moves c.in_ok-extents.ensures.long (λ slot below. c.in_ok-extents.ensures.each slot (omega (arith, below, c.in_ok-extents.ensures.long)))
+    table_of p within.plant (sound_plant p within.plant) within.pairs c.args.state table digits.slots c.requires.digits
+    c.in_ok-inputs.ensures.long c.in_ok-inputs.ensures.each moves c.in_ok-extents.ensures.long c.in_ok-extents.ensures.each

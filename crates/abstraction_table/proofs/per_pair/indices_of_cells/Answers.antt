@@ -3,7 +3,6 @@ use Rattle.std.proofs.lemmas.Bool.{cases_lt}
 use Rattle.std.proofs.lemmas.List.{length-set, get_or-replicate, get_or_past}
 use Rattle.successor_box.specs.PairExtents.{index_in}
 use Rattle.abstraction_table.specs.inside.CellLines.{last_state}
-use Rattle.abstraction_table.proofs.Fitting.{below_apart}
 use Rattle.abstraction_table.proofs.LineCells.{last_among, same_place, later_place}
 use Rattle.abstraction_table.proofs.PairDigits.{no_value_index, some_vectors}
 use Rattle.abstraction_table.proofs.per_pair.indices_of_cells.Goals as goal
@@ -31,7 +30,7 @@ loop-state-preserved c =
     record {
       nine = length-set columns i column ∙ so_far.nine;
       states = below_more (λ (k : ℕ). (lane : ℕ) → lane < 32 → get_or (get_or (set columns i column) k []) lane 0 ≡ get_or c.args.indices.now k 0) i
-          (λ k lt lane below. ap (λ (row : List ℕ). get_or row lane 0) (get_or-set_other columns i k column [] (below_apart k i lt)) ∙ so_far.states k lt lane below)
+          (λ k lt lane below. let other : k ≢ i = omega (arith, lt) in ap (λ (row : List ℕ). get_or row lane 0) (get_or-set_other columns i k column [] other) ∙ so_far.states k lt lane below)
           (λ lane below. ap (λ (row : List ℕ). get_or row lane 0) (get_or-set_same columns i column [] within) ∙ c.in_all_lanes.ensures lane below);
       others = λ k from lane below.
           let other : k ≢ i = omega (arith, from) in
@@ -59,19 +58,19 @@ returns c = λ d from lane below.
       input = omega (arith, some_vectors p plant);
       each = λ k within. elim (cases_lt k (length p.states)) [
         | inl state ↦ elim (cases_lt k (last_state p)) [
-            | inl earlier ↦
-                let other : k ≢ last_state p = omega (arith, earlier) in
-                kept k other ∙ so_far.states k (omega (arith, earlier, done)) lane below ∙ from.1 k within ∙ same_place p plant d m n k from.0 lt other
-            | inr past ↦
-                let here : last_state p ≡ k = omega (arith, past, state) in
-                subst (λ (i : ℕ). get_or (get_or (set columns (c.states.result - 1) row) i []) lane 0 ≡ index_in p (d + m) 0 i) here
-                (ap (λ (i : ℕ). get_or (get_or (set columns i row) (last_state p) []) lane 0) last
-                ∙ ap (λ (r : List ℕ). get_or r lane 0) (get_or-set_same columns (last_state p) row [] wide)
-                ∙ c.places_from.ensures lane below
-                ∙ ap (λ (i : ℕ). get_or c.args.indices.now i 0 + m) last
-                ∙ ap (λ (i : ℕ). i + m) (from.1 (last_state p) (last_among p plant))
-                ∙ later_place p plant d m n from.0 lt)
-          ]
+          | inl earlier ↦
+              let other : k ≢ last_state p = omega (arith, earlier) in
+              kept k other ∙ so_far.states k (omega (arith, earlier, done)) lane below ∙ from.1 k within ∙ same_place p plant d m n k from.0 lt other
+          | inr past ↦
+              let here : last_state p ≡ k = omega (arith, past, state) in
+              subst (λ (i : ℕ). get_or (get_or (set columns (c.states.result - 1) row) i []) lane 0 ≡ index_in p (d + m) 0 i) here
+              (ap (λ (i : ℕ). get_or (get_or (set columns i row) (last_state p) []) lane 0) last
+              ∙ ap (λ (r : List ℕ). get_or r lane 0) (get_or-set_same columns (last_state p) row [] wide)
+              ∙ c.places_from.ensures lane below
+              ∙ ap (λ (i : ℕ). get_or c.args.indices.now i 0 + m) last
+              ∙ ap (λ (i : ℕ). i + m) (from.1 (last_state p) (last_among p plant))
+              ∙ later_place p plant d m n from.0 lt)
+        ]
         | inr past ↦
             let other : k ≢ last_state p = omega (arith, past, plant.some_state) in
             kept k other ∙ so_far.others k (omega (arith, past, done)) lane below ∙ no_value_index p (d + m) k past

@@ -1,10 +1,6 @@
-use Rattle.std.proofs.Common.{◌≡◌, ℕ, ◌+◌, ◌*◌, ◌<◌, ◌≤◌, ◌∙◌, List, All, Option, None, length, get_or, refl, ap, sym, subst, arith}
-use Rattle.std.proofs.lemmas.Nat.{mul-le}
+use Rattle.std.proofs.Common.{◌≡◌, ℕ, ◌+◌, ◌*◌, ◌<◌, ◌∙◌, List, All, Option, None, length, get_or, refl, ap, sym, subst, arith}
 use Rattle.grid_quantiser.specs.declared.boxes.CellBox.{CellBox}
 use Rattle.grid_quantiser.specs.declared.extents.Extent.{Extent}
-use Rattle.grid_quantiser.specs.Axes.{cells_of}
-use Rattle.grid_quantiser.proofs.Suffixes.{cells_of-drop}
-use Rattle.plant_record.specs.Description.{axes_of, vectors_of}
 use Rattle.plant_record.proofs.lemmas.SoundPlants.{sound as sound_plant}
 use Rattle.successor_box.specs.PairExtents.{shifted_by}
 use Rattle.abstraction_table.specs.inside.ExtentTables.{IsRelativeExtent, first_of}
@@ -16,13 +12,6 @@ use Rattle.abstraction_table.proofs.terms.build_listed.Goals.{then-moves+in_ok-p
 
 pub build_term_list-requires-clause-extents : goal.build_term_list-requires-clause-extents
 build_term_list-requires-clause-extents c = subst (All (IsRelativeExtent c.args.p.now c.args.state)) (sym c.deref.ensures.value) c.requires.table.each
-
-pub overflow_mul-stride : goal.overflow_mul-stride
-overflow_mul-stride c =
-    let p = c.args.p.now in
-    let limits = c.requires.plant in
-    let few : c.args.stride ≤ cells_of (axes_of p) = omega (arith, c.requires.stride, cells_of-drop (c.args.state + 1) (axes_of p) (sound_plant p limits.plant).axes.each) in
-    omega (arith, limits.pairs, mul-le c.args.stride c.vectors.result (cells_of (axes_of p)) (vectors_of p.inputs) few (omega (arith, c.vectors.ensures.count)))
 
 pub returns : goal.returns
 returns c =
