@@ -1,14 +1,13 @@
 //! The boxes of the cells in a row.
-ghost use Rattle.std.specs.Prelude.{◌≡◌, ℕ, ◌+◌, ◌*◌, ◌<◌, ◌≤◌, length, replicate, slice_index_or, None, IsTrue, IfSome};
+ghost use Rattle.std.specs.Prelude.{◌≡◌, ℕ, ◌*◌, ◌<◌, ◌≤◌, length, replicate, slice_index_or, None, IsTrue, IfSome};
 ghost use Rattle.std.specs.List.{All, SameBelow, SameFrom};
 ghost use Rattle.fixed_expr.specs.declared.lanes.TheConstants.{LANES};
-ghost use Rattle.grid_quantiser.specs.declared.boxes.CellBox.{CellBox};
 ghost use Rattle.grid_quantiser.specs.Axes.{cells_of};
 ghost use Rattle.grid_quantiser.specs.ExtentBoxes.{one_cell};
 ghost use Rattle.plant_record.specs.Description.{axes_of, vectors_of};
 ghost use Rattle.plant_record.specs.Limits.{IsWithinLimits};
 ghost use Rattle.abstraction_table.specs.inside.Sums.{plus, term_under, AreChangedBy};
-ghost use Rattle.abstraction_table.specs.inside.CellLines.{AreInLine, AreSumsOfLine, AreCopiedTo, AreSumsOfCells, HaveCells, AddsToCells, BecomeBoxes, AreBoxesFrom};
+ghost use Rattle.abstraction_table.specs.inside.CellLines.{AreInputsOfLine, AreSumsOfLine, AreCopiedTo, AreSumsOfCells, HaveCells, AddsToCells, BecomeWhole, BecomeBoxes, AreBoxesFrom};
 ghost use Rattle.abstraction_table.specs.inside.Terms.{AreIndicesOf, Brings, BringAs, IsFreeTerm, AreSumsAlong, HasSums, AddsTerms, AddsState, IsTermTableOf, AreTermTablesOf};
 ghost use Rattle.abstraction_table.specs.declared.pair_box.TheConstants.{SUMS_LIMIT};
 
@@ -29,7 +28,7 @@ pub(crate) fn boxes_in_line(
     boxes: &mut [PairBox],
 )
     requires tables { AreTermTablesOf sampled.now.plant.now tables.now }
-    requires row { (n : ℕ) × (length boxes.old ≡ n * vectors_of sampled.now.plant.now.inputs) × AreInLine sampled.now.plant.now c n }
+    requires row { AreInputsOfLine sampled.now.plant.now c boxes.old }
     requires start { All (λ b. b ≡ one_cell) boxes.old }
     ensures long { length boxes.new ≡ length boxes.old }
     ensures each { AreBoxesFrom sampled.now.plant.now c boxes.new }
@@ -171,7 +170,7 @@ fn add_bases(p: &Plant, bases: &[PairBox; LANES], boxes: &mut [PairBox])
     requires plant { IsWithinLimits p.now }
     requires cells { (c n : ℕ) × AreSumsOfCells p.now (length p.now.equations) c n bases.now boxes.old }
     ensures long { length boxes.new ≡ length boxes.old }
-    ensures each { (c n : ℕ) → AreSumsOfCells p.now (length p.now.equations) c n bases.now boxes.old → AreBoxesFrom p.now c boxes.new }
+    ensures each { BecomeWhole p.now bases.now boxes.old boxes.new }
 {
     let inputs = p.vectors() as usize;
     for cell in 0..boxes.len() / inputs {

@@ -6,7 +6,7 @@ ghost use Rattle.grid_quantiser.specs.ExtentBoxes.{one_cell};
 ghost use Rattle.plant_record.specs.Description.{axes_of, vectors_of};
 ghost use Rattle.plant_game.specs.Abstraction.{AreBoxesOf};
 ghost use Rattle.abstraction_table.specs.declared.pair_boxes.TheConstants.{BOXES_PER_TASK};
-ghost use Rattle.abstraction_table.specs.inside.CellLines.{AreBoxesFrom};
+ghost use Rattle.abstraction_table.specs.inside.CellLines.{AreInputsOfCells, AreBoxesFrom};
 ghost use Rattle.abstraction_table.specs.inside.Terms.{AreTermTablesOf};
 
 use crate::cell_lines::boxes_in_line;
@@ -73,7 +73,7 @@ fn cells_in_chunk(inputs: usize) -> usize
 /// The boxes of cells from one on, row by row.
 fn boxes_of_cells(sampled: &Sampled<'_>, tables: &[StateTerms], c: u32, boxes: &mut [PairBox])
     requires tables { AreTermTablesOf sampled.now.plant.now tables.now }
-    requires cells { (n : ℕ) × (length boxes.old ≡ n * vectors_of sampled.now.plant.now.inputs) × (c + n ≤ cells_of (axes_of sampled.now.plant.now)) }
+    requires cells { AreInputsOfCells sampled.now.plant.now c boxes.old }
     requires start { All (λ b. b ≡ one_cell) boxes.old }
     ensures long { length boxes.new ≡ length boxes.old }
     ensures each { AreBoxesFrom sampled.now.plant.now c boxes.new }

@@ -1,14 +1,12 @@
 //! The terms of a state of which each pair has its own, found as the boxes are made.
-ghost use Rattle.std.specs.Prelude.{◌≡◌, ◌≢◌, ℕ, ◌+◌, ◌-◌, ◌*◌, ◌^◌, ◌<◌, ◌≤◌, min, List, length, slice_index_or, Option, None, IfSome};
+ghost use Rattle.std.specs.Prelude.{◌≡◌, ℕ, ◌+◌, ◌-◌, ◌*◌, ◌^◌, ◌<◌, ◌≤◌, min, length};
 ghost use Rattle.fixed_expr.specs.declared.lanes.TheConstants.{LANES};
-ghost use Rattle.grid_quantiser.specs.declared.boxes.CellBox.{CellBox};
 ghost use Rattle.plant_record.specs.Description.{vectors_of};
 ghost use Rattle.plant_record.specs.declared.version.PlantVersion.TheVariants.{One};
 ghost use Rattle.plant_record.specs.Limits.{IsWithinLimits};
 ghost use Rattle.successor_box.specs.inside.Blocks.{HoldsInLanes};
-ghost use Rattle.abstraction_table.specs.inside.CellLines.{AreCellsFrom, HaveCells, AddsToCells, AreExtentsUnder, AddsTermsUnder, KeepsOtherInputs, HoldCells};
+ghost use Rattle.abstraction_table.specs.inside.CellLines.{AreCellsFrom, HaveSums, AddsTo, AreExtentsUnder, AddsTermsUnder, AreSumsUnder, KeepsOtherInputs, HoldCells};
 ghost use Rattle.abstraction_table.specs.inside.Terms.{stride_of};
-ghost use Rattle.abstraction_table.specs.declared.pair_box.TheConstants.{SUMS_LIMIT};
 
 use crate::pair_box::PairBox;
 use crate::terms::term_of;
@@ -28,9 +26,9 @@ pub(crate) fn add_per_pair(
     requires state { state < length sampled.now.plant.now.equations }
     requires stride { stride ≡ stride_of sampled.now.plant.now state }
     requires version { sampled.now.plant.now.version ≡ One }
-    requires cells { (bases : List (Option CellBox)) × HaveCells sampled.now.plant.now state indices.now bases boxes.old }
+    requires cells { HaveSums sampled.now.plant.now state indices.now boxes.old }
     ensures long { length boxes.new ≡ length boxes.old }
-    ensures added { (bases : List (Option CellBox)) → AddsToCells sampled.now.plant.now state indices.now bases bases boxes.old boxes.new }
+    ensures added { AddsTo sampled.now.plant.now state indices.now boxes.old boxes.new }
 {
     let p = sampled.plant;
     let inputs = p.vectors();
@@ -60,7 +58,7 @@ fn add_extents(
     requires extents { (c : ℕ) × AreExtentsUnder p.now c input state extents.now }
     requires one_each { length boxes.old ≡ length extents.now * vectors_of p.now.inputs }
     requires few { length extents.now ≤ LANES }
-    requires boxes { (k : ℕ) → k < length extents.now → IfSome (slice_index_or boxes.old (k * vectors_of p.now.inputs + input) None) (λ b. b.last < SUMS_LIMIT) }
+    requires boxes { AreSumsUnder p.now input (length extents.now) boxes.old }
     ensures long { length boxes.new ≡ length boxes.old }
     ensures added { AddsTermsUnder p.now state input extents.now boxes.old boxes.new }
     ensures others { KeepsOtherInputs p.now input boxes.old boxes.new }

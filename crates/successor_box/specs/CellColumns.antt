@@ -20,6 +20,22 @@ pub record AreCentresOf (p : Description) (cell : ℕ → ℕ) (columns : List (
   pub cells : (lane : ℕ) → lane < LANES → cell lane < cells_of (axes_of p)
   pub each : (lane k : ℕ) → lane < LANES → k < length p.states + length p.inputs + length p.noises → IsNoInput p k → slice_index_or (slice_index_or columns k []) lane (pos 0) ≡ slice_index_or (central_values p (cell lane) 0) k (pos 0)
 
+-- columns are the centres of some cells
+abbrev pub HaveCentres : Description → List (List ℤ) → Type 0
+HaveCentres p columns = (cell : ℕ → ℕ) × AreCentresOf p cell columns
+
+-- columns are the centres of the cells that have these indices in their lanes
+abbrev pub HaveCentresOf : Description → List (List ℕ) → List (List ℤ) → Type 0
+HaveCentresOf p indices columns = (cell : ℕ → ℕ) → AreCellsInLanes p indices cell → AreCentresOf p cell columns
+
+-- columns stay the centres of the same cells
+abbrev pub KeepCentres : Description → List (List ℤ) → List (List ℤ) → Type 0
+KeepCentres p old new = (cell : ℕ → ℕ) → AreCentresOf p cell old → AreCentresOf p cell new
+
 -- the extents of the first cells under an input, along the axis of a state, on the prolonged axis
 abbrev pub HoldExtentsUnder : Description → (ℕ → ℕ) → ℕ → ℕ → List (Option Extent) → Type 0
 HoldExtentsUnder p cell u i extents = (lane : ℕ) → lane < length extents → IsExtentBeforeAt p (cell lane) u i 0 (slice_index_or extents lane None)
+
+-- the same of the cells whose centres columns are
+abbrev pub HoldExtentsAtCentres : Description → List (List ℤ) → ℕ → ℕ → List (Option Extent) → Type 0
+HoldExtentsAtCentres p columns u i extents = (cell : ℕ → ℕ) → AreCentresOf p cell columns → HoldExtentsUnder p cell u i extents

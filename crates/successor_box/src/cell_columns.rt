@@ -1,12 +1,12 @@
 //! The extents of cells in lanes, under one input vector after another.
-ghost use Rattle.std.specs.Prelude.{◌≡◌, ◌<◌, ◌≤◌, ℕ, length, slice_index_or, None};
+ghost use Rattle.std.specs.Prelude.{◌≡◌, ◌<◌, ◌≤◌, ℕ, length};
 ghost use Rattle.fixed_expr.specs.declared.lanes.TheConstants.{LANES};
 ghost use Rattle.plant_record.specs.declared.version.PlantVersion.TheVariants.{One};
 ghost use Rattle.plant_record.specs.Description.{vectors_of};
 ghost use Rattle.plant_record.specs.Limits.{IsWithinLimits};
-ghost use Rattle.successor_box.specs.CellColumns.{AreCellsInLanes, AreCentresOf, HoldExtentsUnder};
+ghost use Rattle.successor_box.specs.CellColumns.{HaveCentres, HaveCentresOf, KeepCentres, HoldExtentsAtCentres};
 ghost use Rattle.successor_box.specs.PairExtents.{HasPairInEachLane};
-ghost use Rattle.successor_box.specs.inside.Columns.{AreInputColumns, AreColumnsUnder, HoldValuesUnder, KeepOtherColumns};
+ghost use Rattle.successor_box.specs.inside.Columns.{AreInputColumns, AreColumnsUnder, KeepOtherColumns, HoldExtentsAround, HoldExtentsOfColumns};
 
 use crate::index_columns::IndexColumns;
 use crate::lane_extents::{input_numbers, value_in_lane};
@@ -25,7 +25,7 @@ impl Sampled<'_> {
     /// The values of the variables at the centres of these pairs' cells.
     pub fn central_columns(&self, indices: &IndexColumns) -> CentralColumns
         requires pairs { HasPairInEachLane self.now.plant.now indices.now }
-        ensures { (cell : ℕ → ℕ) → AreCellsInLanes self.now.plant.now indices.now cell → AreCentresOf self.now.plant.now cell result }
+        ensures { HaveCentresOf self.now.plant.now indices.now result }
     {
         let p = self.plant;
         let inputs = input_numbers(p, indices);
@@ -46,11 +46,11 @@ impl Sampled<'_> {
         requires version { self.now.plant.now.version ≡ One }
         requires input { input < vectors_of self.now.plant.now.inputs }
         requires state { state < length self.now.plant.now.equations }
-        requires columns { (cell : ℕ → ℕ) × AreCentresOf self.now.plant.now cell columns.old }
+        requires columns { HaveCentres self.now.plant.now columns.old }
         requires few { length extents.old ≤ LANES }
         ensures long { length extents.new ≡ length extents.old }
-        ensures kept { (cell : ℕ → ℕ) → AreCentresOf self.now.plant.now cell columns.old → AreCentresOf self.now.plant.now cell columns.new }
-        ensures each { (cell : ℕ → ℕ) → AreCentresOf self.now.plant.now cell columns.old → HoldExtentsUnder self.now.plant.now cell input state extents.new }
+        ensures kept { KeepCentres self.now.plant.now columns.old columns.new }
+        ensures each { HoldExtentsAtCentres self.now.plant.now columns.old input state extents.new }
     {
         let p = self.plant;
         set_input(p, input, columns);
@@ -75,7 +75,7 @@ impl Sampled<'_> {
         requires state { state < length self.now.plant.now.equations }
         requires few { length extents.old ≤ LANES }
         ensures long { length extents.new ≡ length extents.old }
-        ensures each { (cell : ℕ → ℕ) → HoldValuesUnder self.now.plant.now cell input state values.now → HoldExtentsUnder self.now.plant.now cell input state extents.new }
+        ensures each { HoldExtentsAround self.now.plant.now values.now input state extents.new }
     {
         let quantiser = self.plant.grid().extended_quantiser(state);
         let deviation = self.slopes.of(state, input);
@@ -99,7 +99,7 @@ impl Sampled<'_> {
         requires columns { (cell : ℕ → ℕ) × AreColumnsUnder self.now.plant.now cell input columns.now }
         requires few { length extents.old ≤ LANES }
         ensures long { length extents.new ≡ length extents.old }
-        ensures each { (cell : ℕ → ℕ) → AreColumnsUnder self.now.plant.now cell input columns.now → HoldExtentsUnder self.now.plant.now cell input state extents.new }
+        ensures each { HoldExtentsOfColumns self.now.plant.now columns.now input state extents.new }
     {
         let quantiser = self.plant.grid().extended_quantiser(state);
         for j in 0..extents.len() {

@@ -1,5 +1,5 @@
 -- Rows of cells, and the boxes of cells one after another.
-use Rattle.std.specs.Prelude.{◌≡◌, ℕ, ◌+◌, ◌-◌, ◌*◌, ◌/◌, ◌%◌, ◌<◌, ◌≤◌, ◌≢◌, min, List, length, replicate, slice_index_or, Option, None, IsTrue}
+use Rattle.std.specs.Prelude.{◌≡◌, ℕ, ◌+◌, ◌-◌, ◌*◌, ◌/◌, ◌%◌, ◌<◌, ◌≤◌, ◌≢◌, min, List, length, replicate, slice_index_or, Option, None, IfSome, IsTrue}
 use Rattle.std.specs.List.{All}
 use Rattle.fixed_expr.specs.declared.lanes.TheConstants.{LANES}
 use Rattle.grid_quantiser.specs.declared.boxes.CellBox.{CellBox}
@@ -11,6 +11,7 @@ use Rattle.successor_box.specs.SuccessorBoxes.{IsBoxOf}
 use Rattle.grid_quantiser.specs.ExtentBoxes.{one_cell}
 use Rattle.abstraction_table.specs.declared.digits.Digit.{Digit}
 use Rattle.abstraction_table.specs.declared.terms.TermTable.{TermTable}
+use Rattle.abstraction_table.specs.declared.pair_box.TheConstants.{SUMS_LIMIT}
 use Rattle.abstraction_table.specs.inside.Sums.{plus}
 use Rattle.abstraction_table.specs.inside.Terms.{AreIndicesOf, IsTermFrom, IsSumAlong, AreSumsAlong}
 
@@ -46,6 +47,14 @@ pub record AreSumsOfCells (p : Description) (states c n : ℕ) (bases boxes : Li
   pub one_each : length boxes ≡ n * vectors_of p.inputs
   pub each : (k u : ℕ) → k < n → u < vectors_of p.inputs → IsSumAlong p states (c + k) u (slice_index_or bases k None) (slice_index_or boxes (k * vectors_of p.inputs + u) None)
 
+-- boxes, one for each input, of cells in a row from one on
+abbrev pub AreInputsOfLine : Description → ℕ → List (Option CellBox) → Type 0
+AreInputsOfLine p c boxes = (n : ℕ) × (length boxes ≡ n * vectors_of p.inputs) × AreInLine p c n
+
+-- boxes, one for each input, of cells of the grid from one on
+abbrev pub AreInputsOfCells : Description → ℕ → List (Option CellBox) → Type 0
+AreInputsOfCells p c boxes = (n : ℕ) × (length boxes ≡ n * vectors_of p.inputs) × (c + n ≤ cells_of (axes_of p))
+
 -- boxes are with bases the sums of some cells, from one with these indices on
 abbrev pub HaveCells : Description → ℕ → List ℕ → List (Option CellBox) → List (Option CellBox) → Type 0
 HaveCells p states indices bases boxes = (c n : ℕ) × AreCellsFrom p indices c n × AreSumsOfCells p states c n bases boxes
@@ -57,6 +66,18 @@ AddsToCells p i indices bases after old new = (c n : ℕ) → AreCellsFrom p ind
 -- boxes, as many as there are inputs for each cell from one on
 abbrev pub AreBoxesFrom : Description → ℕ → List (Option CellBox) → Type 0
 AreBoxesFrom p c boxes = (k u : ℕ) → u < vectors_of p.inputs → k * vectors_of p.inputs + u < length boxes → IsBoxOf p (c + k) u (slice_index_or boxes (k * vectors_of p.inputs + u) None)
+
+-- boxes are with some bases such sums
+abbrev pub HaveSums : Description → ℕ → List ℕ → List (Option CellBox) → Type 0
+HaveSums p states indices boxes = (bases : List (Option CellBox)) × HaveCells p states indices bases boxes
+
+-- with the same bases the sums become those on the axes of one more state
+abbrev pub AddsTo : Description → ℕ → List ℕ → List (Option CellBox) → List (Option CellBox) → Type 0
+AddsTo p i indices old new = (bases : List (Option CellBox)) → AddsToCells p i indices bases bases old new
+
+-- sums on all axes, with bases, become the cells' boxes
+abbrev pub BecomeWhole : Description → List (Option CellBox) → List (Option CellBox) → List (Option CellBox) → Type 0
+BecomeWhole p bases old new = (c n : ℕ) → AreSumsOfCells p (length p.equations) c n bases old → AreBoxesFrom p c new
 
 -- sums of cells from one with these indices on become the cells' boxes
 abbrev pub BecomeBoxes : Description → ℕ → List ℕ → List (Option CellBox) → List (Option CellBox) → Type 0
@@ -75,6 +96,10 @@ abbrev pub AddsTermsUnder : Description → ℕ → ℕ → List (Option Extent)
 AddsTermsUnder p i u extents old new =
     (k : ℕ) → k < length extents →
     (x : Option CellBox) × IsTermFrom p i 0 (slice_index_or extents k None) x × (slice_index_or new (k * vectors_of p.inputs + u) None ≡ plus (slice_index_or old (k * vectors_of p.inputs + u) None) x)
+
+-- the boxes of so many cells under an input are within the sums
+abbrev pub AreSumsUnder : Description → ℕ → ℕ → List (Option CellBox) → Type 0
+AreSumsUnder p u n boxes = (k : ℕ) → k < n → IfSome (slice_index_or boxes (k * vectors_of p.inputs + u) None) (λ (b : CellBox). b.last < SUMS_LIMIT)
 
 -- the boxes under the other inputs stay as they are
 abbrev pub KeepsOtherInputs : Description → ℕ → List (Option CellBox) → List (Option CellBox) → Type 0
