@@ -27,7 +27,8 @@ use Rattle.plant_record.specs.StateBoxes.{AreEnds, IsStateBox}
 use Rattle.plant_record.specs.Equations.{nodes_of, HasLiterals, IsEquation}
 use Rattle.plant_record.specs.Plants.{IsPlant}
 use Rattle.plant_writing.specs.ExpressionText.{at_level, point_text, expression_text}
-use Rattle.plant_record.specs.Spelling.{line, version_word, end_words, goal_word}
+use Rattle.plant_record.specs.Spelling.{version_word, end_words, goal_word}
+use Rattle.base.specs.Lines.{line}
 use Rattle.plant_writing.specs.CanonicalText.{state_line, input_line, noise_line, equation_line, equation_lines, box_line, text_of}
 
 -- ---- bounds

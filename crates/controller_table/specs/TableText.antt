@@ -6,7 +6,7 @@ use Rattle.row_runs.specs.declared.row_format.RowFormat.{RowFormat}
 use Rattle.row_runs.specs.declared.row_format.RowFormat.TheVariants.{InputAboveZero, InputAlone}
 use Rattle.row_runs.specs.declared.run.TableVersion.{TableVersion}
 use Rattle.row_runs.specs.declared.run.TableVersion.TheVariants.{First, Second}
-use Rattle.row_runs.specs.RunText.{line}
+use Rattle.base.specs.Lines.{line}
 use Rattle.row_reading.specs.RowsTexts.{counted_lines}
 use Rattle.plant_record.specs.declared.aims.GoalKind.{GoalKind}
 use Rattle.plant_record.specs.declared.aims.GoalKind.TheVariants.{Reach, Keep}

@@ -50,7 +50,7 @@ impl Table {
         requires fit { RowsFit plant answer }
         ensures { result ≡ record { version = version; plant = plant; rows = answer } }
     {
-        let rows = count_rows(&answer);
+        let rows = answer.rows();
         Table {
             version,
             plant,
@@ -132,17 +132,4 @@ impl Table {
     {
         &self.answer
     }
-}
-
-/// How many cells have a row.
-fn count_rows(answer: &Answer) -> u32
-    ensures { result ≡ count_by is_some answer.now }
-{
-    let mut count = 0;
-    for cell in 0..answer.cells() {
-        if answer.row(cell).is_some() {
-            count += 1;
-        }
-    }
-    count
 }

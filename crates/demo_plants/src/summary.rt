@@ -1,7 +1,6 @@
 //! The line that sums up a solved demo plant.
 
-ghost use Rattle.std.specs.Prelude.{◌≡◌, map, length, count_by, sum_by, IfOk};
-ghost use Rattle.std.specs.Option.{is_some};
+ghost use Rattle.std.specs.Prelude.{◌≡◌, map, length, sum_by, IfOk};
 ghost use Rattle.game_core.specs.Solution.{IsReachSolution, rank_in, greatest};
 ghost use Rattle.plant_game.specs.Abstraction.{IsGameOf};
 ghost use Rattle.demo_plants.specs.Demo.{demo_plant_of, IsDemoLine};
@@ -27,7 +26,7 @@ pub fn demo_line<G: Graph>(
     push_part(&mut text, b" cells ", game.cells())?;
     push_part(&mut text, b" pairs ", game.cells() * game.inputs())?;
     push_part(&mut text, b" edges ", count_edges(game))?;
-    push_part(&mut text, b" won ", count_won(answer))?;
+    push_part(&mut text, b" won ", answer.rows())?;
     push_part(&mut text, b" rank ", greatest_rank(answer))?;
     text.extend_from_slice(b"\n")?;
     Ok(text)
@@ -40,19 +39,6 @@ fn count_edges<G: Graph>(game: &G) -> u32
     let mut count = 0;
     for pair in 0..game.cells() * game.inputs() {
         count += game.fan(pair);
-    }
-    count
-}
-
-/// How many cells have a row.
-fn count_won(answer: &Answer) -> u32
-    ensures { result ≡ count_by is_some answer.now }
-{
-    let mut count = 0;
-    for cell in 0..answer.cells() {
-        if answer.row(cell).is_some() {
-            count += 1;
-        }
     }
     count
 }

@@ -1,4 +1,5 @@
-ghost use Rattle.std.specs.Prelude.{◌≡◌, ◌^◌, ◌<◌, ◌≤◌, None, replicate, length, slice_set, IfOk};
+ghost use Rattle.std.specs.Prelude.{◌≡◌, ◌^◌, ◌<◌, ◌≤◌, None, replicate, length, slice_set, count_by, IfOk};
+ghost use Rattle.std.specs.Option.{is_some};
 ghost use Rattle.game_core.specs.Solution.{row_of};
 ghost use Rattle.base.specs.declared.limits.TheConstants.{CELLS_LIMIT};
 
@@ -40,6 +41,19 @@ impl Answer {
         ensures { result ≡ length self.now }
     {
         self.rows.len() as u32
+    }
+
+    /// How many cells have a row.
+    pub fn rows(&self) -> u32
+        ensures { result ≡ count_by is_some self.now }
+    {
+        let mut count = 0;
+        for cell in 0..self.cells() {
+            if self.row(cell).is_some() {
+                count += 1;
+            }
+        }
+        count
     }
 
     /// None where the cell has no row.

@@ -1,7 +1,7 @@
 -- What a live script is answered: a line for each question, by the table published last before it.
 use Rattle.std.specs.Prelude.{◌≡◌, ℕ, ℤ, List, [], ◌∷◌, ◌++◌, length, Option, Some, None, codes}
 use Rattle.std.specs.Fmt.{decimal}
-use Rattle.plant_record.specs.Spelling.{line}
+use Rattle.base.specs.Lines.{line}
 use Rattle.controller_table.specs.Tables.{TableModel}
 use Rattle.live_script.specs.declared.command.ScriptCommand.{ScriptCommand}
 use Rattle.live_script.specs.declared.command.ScriptCommand.TheVariants.{Publish, Ask}

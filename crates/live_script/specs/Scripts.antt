@@ -1,7 +1,7 @@
 -- The grammar of live scripts: which bytes spell which commands.
 use Rattle.std.specs.Prelude.{◌≡◌, ℕ, suc, ◌<◌, ◌≤◌, ℤ, List, [], ◌∷◌, ◌++◌, length, map, codes}
 use Rattle.std.specs.Fmt.{decimal, signed_decimal}
-use Rattle.plant_record.specs.Spelling.{line}
+use Rattle.base.specs.Lines.{line}
 use Rattle.controller_table.specs.Tables.{TableModel, IsTableIn}
 use Rattle.read_texts.specs.Steps.{IsReading}
 use Rattle.live_script.specs.declared.command.ScriptCommand.{ScriptCommand}

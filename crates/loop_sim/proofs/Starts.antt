@@ -14,7 +14,8 @@ use Rattle.plant_record.specs.declared.aims.GoalKind.{GoalKind}
 use Rattle.plant_record.specs.Description.{Description, axis_of, axes_of, vector_of}
 use Rattle.plant_record.specs.States.{state_point}
 use Rattle.plant_record.specs.Steps.{step_of}
-use Rattle.row_runs.specs.RunText.{line, rank_field, input_field}
+use Rattle.row_runs.specs.RunText.{rank_field, input_field}
+use Rattle.base.specs.Lines.{line}
 use Rattle.controller_table.specs.TableText.{format_of}
 use Rattle.loop_sim.specs.declared.sim_line.SimLine.{SimLine}
 use Rattle.loop_sim.specs.declared.sim_line.SimLine.TheVariants.{Arrived, Stopped}

@@ -4,7 +4,8 @@ use Rattle.std.specs.List.{concat}
 use Rattle.std.specs.Fmt.{decimal, signed_decimal}
 use Rattle.game_core.specs.declared.game.Row.{Row}
 use Rattle.plant_record.specs.Description.{Description}
-use Rattle.row_runs.specs.RunText.{line, rank_field, input_field}
+use Rattle.row_runs.specs.RunText.{rank_field, input_field}
+use Rattle.base.specs.Lines.{line}
 use Rattle.controller_table.specs.TableText.{format_of}
 use Rattle.loop_sim.specs.declared.sim_line.SimLine.{SimLine}
 use Rattle.loop_sim.specs.declared.sim_line.SimLine.TheVariants.{At, Arrived, Stopped, Lost}

@@ -5,7 +5,8 @@ use Rattle.plant_text.specs.declared.plant_fault.PlantFault.TheVariants as fault
 use Rattle.plant_record.specs.Description.{Description}
 use Rattle.plant_record.specs.Plants.{IsPlant}
 use Rattle.plant_record.specs.Limits.{Exceeds}
-use Rattle.plant_record.specs.Spelling.{line, version_word, goal_word}
+use Rattle.plant_record.specs.Spelling.{version_word, goal_word}
+use Rattle.base.specs.Lines.{line}
 use Rattle.plant_writing.specs.CanonicalText.{text_of, state_line, input_line, noise_line, equation_line, box_line}
 use Rattle.plant_reading.specs.Statements.{Statement, Version, State, Input, Noise, Next, Target, Obstacle, Goal, End}
 use Rattle.plant_text.specs.Grammar.{PartialPlant, nothing_yet, names_in, IsStated}

@@ -8,7 +8,8 @@ use Rattle.plant_record.specs.declared.variables.InputVariable.{InputVariable}
 use Rattle.plant_record.specs.declared.variables.NoiseVariable.{NoiseVariable}
 use Rattle.plant_record.specs.declared.aims.StateBox.{StateBox}
 use Rattle.plant_record.specs.Description.{Description, names_of}
-use Rattle.plant_record.specs.Spelling.{line, version_word, end_words, goal_word}
+use Rattle.plant_record.specs.Spelling.{version_word, end_words, goal_word}
+use Rattle.base.specs.Lines.{line}
 use Rattle.plant_writing.specs.ExpressionText.{expression_text}
 
 -- the canonical line of a state

@@ -6,7 +6,8 @@ ghost use Rattle.std.specs.Fmt.{signed_decimal};
 ghost use Rattle.fixed_expr.specs.Expression.{expression_of};
 ghost use Rattle.fixed_expr.specs.Value.{IsWellFormed};
 ghost use Rattle.plant_writing.specs.CanonicalText.{text_of, state_line, input_line, noise_line, equation_line, equation_lines, box_line};
-ghost use Rattle.plant_record.specs.Spelling.{line, version_word, goal_word};
+ghost use Rattle.plant_record.specs.Spelling.{version_word, goal_word};
+ghost use Rattle.base.specs.Lines.{line};
 ghost use Rattle.base.specs.declared.limits.TheConstants.{STATES_LIMIT};
 
 use crate::expression_writer::{Level, push_expression, push_number};

@@ -4,7 +4,8 @@ use Rattle.std.specs.List.{All, concat}
 use Rattle.game_core.specs.declared.game.Row.{Row}
 use Rattle.game_core.specs.Solution.{row_of}
 use Rattle.row_runs.specs.declared.row_format.RowFormat.TheVariants.{Both}
-use Rattle.row_runs.specs.RunText.{line, run_lines, count_line, end_line}
+use Rattle.row_runs.specs.RunText.{run_lines, count_line, end_line}
+use Rattle.base.specs.Lines.{line}
 use Rattle.grid_quantiser.specs.Axes.{cells_of}
 use Rattle.grid_quantiser.specs.Cells.{IsInDomain, cell_of}
 use Rattle.plant_record.specs.Description.{Description, axes_of, vectors_of}

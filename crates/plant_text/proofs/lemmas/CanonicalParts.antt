@@ -11,7 +11,8 @@ use Rattle.plant_record.specs.declared.variables.NoiseVariable.{NoiseVariable}
 use Rattle.plant_record.specs.declared.aims.StateBox.{StateBox}
 use Rattle.plant_record.specs.declared.aims.GoalKind.{GoalKind}
 use Rattle.plant_record.specs.declared.version.PlantVersion.{PlantVersion}
-use Rattle.plant_record.specs.Spelling.{line, version_word, goal_word}
+use Rattle.plant_record.specs.Spelling.{version_word, goal_word}
+use Rattle.base.specs.Lines.{line}
 use Rattle.plant_writing.specs.CanonicalText.{state_line, input_line, noise_line, equation_line, equation_lines, box_line}
 use Rattle.plant_reading.specs.Statements.{Statement, Version, State, Input, Noise, Next, Target, Obstacle, Goal, End}
 use Rattle.plant_text.specs.Grammar.{PartialPlant, nothing_yet, names_in, FitsAfter, with_statement}

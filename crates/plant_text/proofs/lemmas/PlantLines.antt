@@ -21,7 +21,8 @@ use Rattle.plant_record.specs.StateBoxes.{IsStateBox}
 use Rattle.plant_record.specs.Equations.{IsEquation, HasNoLut}
 use Rattle.plant_record.specs.Plants.{IsPlant}
 use Rattle.plant_writing.specs.CanonicalText.{text_of, state_line, input_line, noise_line, equation_line, equation_lines, box_line}
-use Rattle.plant_record.specs.Spelling.{line, version_word, end_words, goal_word}
+use Rattle.plant_record.specs.Spelling.{version_word, end_words, goal_word}
+use Rattle.base.specs.Lines.{line}
 use Rattle.plant_writing.specs.ExpressionText.{expression_text}
 use Rattle.plant_reading.specs.Words.{words_of}
 use Rattle.plant_reading.specs.Statements.{Statement, Version, State, Input, Noise, Next, Target, Obstacle, Goal, End, States}

@@ -3,7 +3,8 @@ use Rattle.std.specs.Prelude.{◌≡◌, ℕ, Bool, List, [], ◌∷◌, ◌++�
 use Rattle.std.specs.List.{flat_map}
 use Rattle.plant_record.specs.declared.aims.GoalKind.{GoalKind}
 use Rattle.plant_record.specs.declared.version.PlantVersion.{PlantVersion}
-use Rattle.plant_record.specs.Spelling.{line, version_word, goal_word}
+use Rattle.plant_record.specs.Spelling.{version_word, goal_word}
+use Rattle.base.specs.Lines.{line}
 use Rattle.plant_writing.specs.CanonicalText.{state_line, input_line, noise_line, equation_lines, box_line}
 use Rattle.plant_text.specs.Grammar.{PartialPlant, names_in}
 

@@ -15,7 +15,8 @@ use Rattle.plant_record.specs.declared.variables.NoiseVariable.{NoiseVariable}
 use Rattle.plant_record.specs.declared.aims.StateBox.{StateBox}
 use Rattle.plant_record.specs.Description.{Description, names_of}
 use Rattle.plant_writing.specs.CanonicalText.{state_line, input_line, noise_line, equation_line, equation_lines, box_line}
-use Rattle.plant_record.specs.Spelling.{end_words, line}
+use Rattle.plant_record.specs.Spelling.{end_words}
+use Rattle.base.specs.Lines.{line}
 use Rattle.plant_writing.specs.ExpressionText.{expression_text, point_text}
 use Rattle.base.proofs.Words.{spaced, joined_words}
 

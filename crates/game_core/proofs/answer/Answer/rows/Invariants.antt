@@ -1,7 +1,10 @@
 use Rattle.std.proofs.Common.{◌≡◌, ◌≤◌, take}
 use Rattle.std.specs.Prelude.{count_by}
 use Rattle.std.specs.Option.{is_some}
-use Rattle.demo_plants.proofs.summary.count_won.Given as goal
+use Rattle.game_core.proofs.answer.Answer.rows.Given as goal
 
 abbrev pub invariant-loop-cell : goal.invariant-loop-cell
-invariant-loop-cell l = record { counted : l.count ≡ count_by is_some (take l.cell l.answer); within : l.count ≤ l.cell }
+invariant-loop-cell l = record {
+  counted : l.count ≡ count_by is_some (take l.cell l.self);
+  within : l.count ≤ l.cell;
+}
