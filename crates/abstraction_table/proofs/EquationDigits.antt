@@ -1,5 +1,5 @@
 -- The digits of an equation, one by one, and what they say of pairs.
-use Rattle.std.proofs.Common.{◌≡◌, ◌⊎◌, ℕ, ◌+◌, ◌-◌, ◌*◌, ◌<◌, ◌≤◌, true, false, not, ◌&&◌, eqb, List, [], All, Option, None, drop, length, get_or, refl, sym, ap, subst, subst₂, ◌∙◌, arith, inl, inr}
+use Rattle.std.proofs.Common.{◌≡◌, ◌⊎◌, ℕ, ◌+◌, ◌-◌, ◌*◌, ◌<◌, ◌≤◌, true, false, not, ◌&&◌, eqb, List, [], All, Option, drop, length, refl, sym, ap, subst, subst₂, ◌∙◌, arith, inl, inr}
 use Rattle.std.specs.Prelude.{IsTrue, IsFalse}
 use Rattle.std.proofs.lemmas.Bool.{cases_lt, cases_Bool, cond_both, both_ways, and_right, and_from, eq-eqb}
 use Rattle.std.proofs.lemmas.Nat.{mul-le}
@@ -15,15 +15,15 @@ use Rattle.plant_record.specs.ValueIndices.{value_count}
 use Rattle.plant_record.specs.Plants.{IsPlant}
 use Rattle.plant_record.specs.Soundness.{IsSound}
 use Rattle.plant_record.specs.Steps.{equation_at}
-use Rattle.successor_box.specs.PairExtents.{index_in, moves_along, shifted_by, depends_on, IsPairInLane, HasPairInEachLane, HoldExtents, IsExtentBeforeAt}
+use Rattle.successor_box.specs.PairExtents.{index_in, moves_along, shifted_by, depends_on, IsExtentBeforeAt}
 use Rattle.successor_box.proofs.AlikePairs.{alike_extent}
 use Rattle.plant_game.specs.Abstraction.{pairs_of}
 use Rattle.abstraction_table.specs.declared.digits.Digit.{Digit}
 use Rattle.abstraction_table.specs.declared.digits.Digits.{Digits}
-use Rattle.abstraction_table.specs.inside.Digits.{count_in, slot_at, index_at, HoldIndicesFrom, IsReadable, IsDigitOf, HasDigit, ArePacked, AreDigitsOf, IsWithDigit, IsAsBefore}
-use Rattle.abstraction_table.specs.inside.ExtentTables.{IsExtentFor, HoldExtentsFrom}
+use Rattle.abstraction_table.specs.inside.Digits.{count_in, slot_at, index_at, IsReadable, IsDigitOf, HasDigit, ArePacked, AreDigitsOf, IsWithDigit, IsAsBefore}
+use Rattle.abstraction_table.specs.inside.ExtentTables.{IsExtentFor}
 use Rattle.abstraction_table.proofs.PackedDigits.{IsBelow, turns, all_found, index_found, packed_more, has_kept, has_added, some_strides, index_below, no_index}
-use Rattle.abstraction_table.proofs.PairDigits.{state_slot, count_among, some_vectors, some_count_in, index_in_below, pair_with, next_along, next_among}
+use Rattle.abstraction_table.proofs.PairDigits.{HasIndices, count_among, some_vectors, some_count_in, index_in_below, pair_with, pair_indices, next_along, next_among}
 use Rattle.abstraction_table.proofs.RelativeExtents.{extended_at}
 
 -- The digits among the variables from `first` to before `last`.
@@ -127,43 +127,26 @@ module _ (p : Description) (plant : IsPlant p) (sound : IsSound p) (i : ℕ) (di
       let slot : ℕ = slot_at digits (index_in p c u) in
       let here : 0 + slot ≡ slot = omega arith in
       subst (λ (n : ℕ). index_at digits k n ≡ index_in p c u k) here
-      (index_found (index_in p c u) (0 + slot) k 0 digits (inl (are.all k within stands)) (all_found (index_in p c u) 1 slots 0 digits (omega arith) are.packed (below c u)))
+      (index_found (index_in p c u) (0 + slot) k digits (are.all k within stands) (all_found (index_in p c u) 1 slots 0 digits (omega arith) are.packed (below c u)))
 
-  -- ---- lanes that have the indices of a slot and of the next ones
-  module _ (slot : ℕ) (indices : List (List ℕ)) (lanes : HoldIndicesFrom digits slot indices) where
-    index_is : (j k : ℕ) → j < 32 → k < length p.states + length p.inputs → get_or (get_or indices k []) j 0 ≡ index_at digits k (slot + j)
-    index_is j k lane within = lanes k j (omega (arith, within, plant.states_bound, plant.inputs_bound)) lane
+  -- some pair has the indices of a slot
+  pub pair_at : (slot : ℕ) → (c : ℕ) × (u : ℕ) × HasIndices p (λ (k : ℕ). index_at digits k slot) c u
+  pair_at slot = pair_with p (λ (k : ℕ). index_at digits k slot) (λ k within. index_below p i k slot digits are.each (some_count_in p plant sound k within))
 
-    -- these are the indices of pairs
-    pub pairs_in_lanes : HasPairInEachLane p indices
-    pairs_in_lanes j lane =
-        let pair = pair_with p (λ (k : ℕ). index_at digits k (slot + j)) (λ k within. index_below p i k (slot + j) digits are.each (some_count_in p plant sound k within)) in
-        (pair.0, pair.1, record { cell = pair.2; input = pair.3; each = λ k within. index_is j k lane within ∙ sym (pair.4 k within) })
+  -- its extent is that of all pairs that have the slot
+  module _ (lt : i < length p.equations) (slot d v : ℕ) (has : HasIndices p (λ (k : ℕ). index_at digits k slot) d v) where
+    unmoved : shifted_by p i d ≡ 0
+    unmoved = cond_both (moves_along p i) (index_along (axes_of p) i d) 0 (λ (n : ℕ). n ≡ 0)
+        (λ moves.
+        let free : depends_on p i i ≡ false = and_right (mentions (equation_at p i) i) (not (moves_along p i && eqb i i)) (ap not (and_from (moves_along p i) (eqb i i) moves (eq-eqb i i refl))) in
+        has.along i (omega (arith, lt, sound.one_each)) ∙ no_index p i i slot digits are.each free)
+        (λ fixed. refl)
 
-    module _ (lt : i < length p.equations) (j d v : ℕ) (lane : j < 32) (in_lane : IsPairInLane p indices j d v) where
-      index_here : (k : ℕ) → k < length p.states + length p.inputs → index_at digits k (slot + j) ≡ index_in p d v k
-      index_here k within = sym (index_is j k lane within) ∙ in_lane.each k within
-
-      unmoved : shifted_by p i d ≡ 0
-      unmoved = cond_both (moves_along p i) (index_along (axes_of p) i d) 0 (λ (n : ℕ). n ≡ 0)
-          (λ moves.
-          let free : depends_on p i i ≡ false = and_right (mentions (equation_at p i) i) (not (moves_along p i && eqb i i)) (ap not (and_from (moves_along p i) (eqb i i) moves (eq-eqb i i refl))) in
-          let state : i < length p.states = omega (arith, lt, sound.one_each) in
-          state_slot p d v i state ∙ sym (index_here i (omega (arith, state))) ∙ no_index p i i (slot + j) digits are.each free)
-          (λ fixed. refl)
-
-      extent_for : (extent : Option Extent) → IsExtentBeforeAt p d v i 0 extent → IsExtentFor p i digits (slot + j) extent
-      extent_for extent is = record {
-        relative = extended_at p sound i lt d v 0 extent is;
-        each = λ c u cell input same.
-            alike_extent p i c u d v sound lt cell input in_lane.cell in_lane.input
-            (λ k within stands. sym (index_read c u k within stands) ∙ ap (index_at digits k) same ∙ index_here k within)
-            extent (subst (λ (n : ℕ). IsExtentBeforeAt p d v i n extent) (sym unmoved) is);
-      }
-
-    -- the extents of these pairs are those of all pairs that have the slots
-    pub extents_in_lanes : i < length p.equations → (extents : List (Option Extent)) → length extents ≤ 32 → HoldExtents p indices i extents → HoldExtentsFrom p i digits slot extents
-    extents_in_lanes lt extents few held = λ j below.
-        let lane : j < 32 = omega (arith, below, few) in
-        let pair = pairs_in_lanes j lane in
-        extent_for lt j pair.0 pair.1 lane pair.2 (get_or extents j None) (held j pair.0 pair.1 below pair.2)
+    pub extent_for : (extent : Option Extent) → IsExtentBeforeAt p d v i 0 extent → IsExtentFor p i digits slot extent
+    extent_for extent is = record {
+      relative = extended_at p sound i lt d v 0 extent is;
+      each = λ c u cell input same.
+          alike_extent p i c u d v sound lt cell input has.cell has.input
+          (λ k within stands. sym (index_read c u k within stands) ∙ ap (index_at digits k) same ∙ sym (pair_indices p (λ (k : ℕ). index_at digits k slot) d v has k within))
+          extent (subst (λ (n : ℕ). IsExtentBeforeAt p d v i n extent) (sym unmoved) is);
+    }

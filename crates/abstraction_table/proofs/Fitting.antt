@@ -1,6 +1,5 @@
 -- Numbers that fit, as those of a plant within the limits are small.
-use Rattle.std.proofs.Common.{◌≡◌, ◌≢◌, ℕ, ◌+◌, ◌-◌, ◌*◌, ◌/◌, ◌%◌, ◌^◌, ◌<◌, ◌≤◌, ◌∙◌, List, Fits, w32, w64, length, take, drop, sym, ap, arith}
-use Rattle.std.proofs.lemmas.List.{length-take-le, length-drop}
+use Rattle.std.proofs.Common.{◌≡◌, ℕ, ◌+◌, ◌-◌, ◌*◌, ◌/◌, ◌%◌, ◌^◌, ◌<◌, ◌≤◌, ◌∙◌, Fits, w32, w64, sym, ap, arith}
 use Rattle.std.proofs.lemmas.Nat.{mul-le, mod_below}
 use Rattle.abstraction_table.proofs.LineBoxes.{cell_count}
 use Rattle.base.proofs.Products.{part_fits}

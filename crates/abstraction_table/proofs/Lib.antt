@@ -11,12 +11,13 @@ pub mod Segments
 pub mod ListedShapes
 pub mod PlantGame
 pub mod PackedDigits
-pub mod NextDigits
 pub mod PairDigits
 pub mod EquationDigits
+pub mod SlotLines
 pub mod ExtentTables
 pub mod TermTables
 mod LineCells
+mod LaneCells
 mod WrittenTerms
 mod LineBoxes
 mod CellBlocks

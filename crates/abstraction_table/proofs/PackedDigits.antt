@@ -1,8 +1,7 @@
 -- Digits that follow one another have the indices of which their slot is made.
-use Rattle.std.proofs.Common.{◌≡◌, ◌⊎◌, ℕ, ◌+◌, ◌*◌, ◌/◌, ◌%◌, ◌<◌, ◌≤◌, true, false, List, [], ◌∷◌, ◌++◌, All, eqb, length, get_or, refl, sym, ap, subst, ◌∙◌, arith, inl, inr}
-use Rattle.std.specs.List.{fold}
-use Rattle.std.specs.Prelude.{◌==◌, if◌then◌else◌, IsFalse}
-use Rattle.std.proofs.lemmas.Bool.{cases_Bool, cond-true, cond-false, cond_both, both_ways, eqb-true, eqb-false}
+use Rattle.std.proofs.Common.{◌≡◌, ℕ, ◌+◌, ◌*◌, ◌/◌, ◌%◌, ◌<◌, ◌≤◌, List, [], ◌∷◌, ◌++◌, All, eqb, length, get_or, refl, sym, ap, subst, ◌∙◌, arith, inl, inr}
+use Rattle.std.specs.Prelude.{IsFalse}
+use Rattle.std.proofs.lemmas.Bool.{cond_both, both_ways, eqb-true, eqb-false}
 use Rattle.std.proofs.lemmas.Nat.{mod_below, div-mul-add, mod-mul-add, mul-add-lt, mul-le}
 use Rattle.std.proofs.lemmas.List.Elements.{All-cons, All-head, All-nil, All-tail, All-weaker}
 use Rattle.std.proofs.lemmas.List.Sums.{sum_by-cons}
@@ -13,10 +12,6 @@ use Rattle.abstraction_table.specs.inside.Digits.{count_in, slot_at, index_at, I
 
 next_digit : (f : ℕ → ℕ) (d : Digit) (ds : List Digit) → slot_at (d ∷ ds) f ≡ f d.variable * d.stride + slot_at ds f
 next_digit f d ds = sum_by-cons (λ (d : Digit). f d.variable * d.stride) d ds
-
--- what is read at a digit, after an index
-abbrev read : ℕ → ℕ → ℕ → Digit → ℕ
-read k slot index d = if d.variable == k then slot / d.stride % d.count else index
 
 -- ---- the slot that has indices below the counts
 
@@ -57,17 +52,13 @@ module _ (f : ℕ → ℕ) where
       let fits : r + x * stride < stride * d.count = omega (arith, mul-add-lt x stride r d.count here lt) in
       All-cons (IsFound slot) d ds own (subst (λ (n : ℕ). All (IsFound n) ds) after (all_found (stride * d.count) all (r + x * stride) ds fits packed.1 rest))
 
-  -- the index in a variable is that of its digit, or of one before
-  pub index_found : (slot k index : ℕ) (ds : List Digit) → (HasDigit ds k) ⊎ (index ≡ f k) → All (IsFound slot) ds → fold (read k slot) index ds ≡ f k
-  index_found slot k index [] has found = elim has [ inl none ↦ absurd none | inr is ↦ is ]
-  index_found slot k index (d ∷ ds) has found = index_found slot k (read k slot index d) ds (next (cases_Bool (eqb d.variable k))) (All-tail (IsFound slot) d ds found)
-    where
-      next : (eqb d.variable k ≡ true) ⊎ (eqb d.variable k ≡ false) → (HasDigit ds k) ⊎ (read k slot index d ≡ f k)
-      next (inl own) = inr (cond-true (eqb d.variable k) (slot / d.stride % d.count) index own ∙ All-head (IsFound slot) d ds found ∙ ap f (eqb-true d.variable k own))
-      next (inr other) = elim has [
-        | inl digit ↦ elim digit [ inl is ↦ absurd (eqb-false d.variable k other is) | inr later ↦ inl later ]
-        | inr is ↦ inr (cond-false (eqb d.variable k) (slot / d.stride % d.count) index other ∙ is)
-      ]
+  -- the index in a variable is that of its digit
+  pub index_found : (slot k : ℕ) (ds : List Digit) → HasDigit ds k → All (IsFound slot) ds → index_at ds k slot ≡ f k
+  index_found slot k [] has found = absurd has
+  index_found slot k (d ∷ ds) has found =
+      cond_both (eqb k d.variable) (slot / d.stride % d.count) (index_at ds k slot) (λ (n : ℕ). n ≡ f k)
+      (λ own. All-head (IsFound slot) d ds found ∙ ap f (sym (eqb-true k d.variable own)))
+      (λ other. index_found slot k ds (elim has [ inl is ↦ absurd (eqb-false k d.variable other (sym is)) | inr later ↦ later ]) (All-tail (IsFound slot) d ds found))
 
 -- a slot is the same for indices that agree in the variables of the digits
 pub same_slots : (f g : ℕ → ℕ) (ds : List Digit) → All (λ (d : Digit). f d.variable ≡ g d.variable) ds → slot_at ds f ≡ slot_at ds g
@@ -113,13 +104,12 @@ some_strides stride all (d ∷ ds) some packed counts =
     let rest = some_strides (stride * d.count) all ds (mul-le 1 1 stride d.count some here) packed.1 (All-tail (λ (d : Digit). 0 < d.count) d ds counts) in
     All-cons (λ (d : Digit). 0 < d.stride) d ds (omega (arith, packed.0, some)) rest
 
--- an index is read at a digit of its variable, or stays what it was
-index_from : (P : ℕ → Type 0) (k slot index : ℕ) (ds : List Digit) → P index → All (λ (d : Digit). d.variable ≡ k → P (slot / d.stride % d.count)) ds → P (fold (read k slot) index ds)
-index_from P k slot index [] before each = before
-index_from P k slot index (d ∷ ds) before each =
+-- an index is that of a digit of its variable, or 0
+index_from : (P : ℕ → Type 0) (k slot : ℕ) (ds : List Digit) → P 0 → All (λ (d : Digit). d.variable ≡ k → P (slot / d.stride % d.count)) ds → P (index_at ds k slot)
+index_from P k slot [] none each = none
+index_from P k slot (d ∷ ds) none each =
     let Is : Digit → Type 0 = λ d. d.variable ≡ k → P (slot / d.stride % d.count) in
-    let here = cond_both (eqb d.variable k) (slot / d.stride % d.count) index P (λ own. All-head Is d ds each (eqb-true d.variable k own)) (λ other. before) in
-    index_from P k slot (read k slot index d) ds here (All-tail Is d ds each)
+    cond_both (eqb k d.variable) (slot / d.stride % d.count) (index_at ds k slot) P (λ own. All-head Is d ds each (sym (eqb-true k d.variable own))) (λ other. index_from P k slot ds none (All-tail Is d ds each))
 
 module _ (p : Description) (i k slot : ℕ) (ds : List Digit) (each : All (IsDigitOf p i) ds) where
   abbrev IsRead : (ℕ → Type 0) → Digit → Type 0
@@ -127,7 +117,7 @@ module _ (p : Description) (i k slot : ℕ) (ds : List Digit) (each : All (IsDig
 
   pub index_below : 0 < count_in p k → index_at ds k slot < count_in p k
   index_below some =
-      index_from (λ (n : ℕ). n < count_in p k) k slot 0 ds some
+      index_from (λ (n : ℕ). n < count_in p k) k slot ds some
       (All-weaker (IsDigitOf p i) (IsRead (λ (n : ℕ). n < count_in p k)) (λ d is own.
       let count : d.count ≡ count_in p k = is.count ∙ ap (count_in p) own in
       subst (λ (n : ℕ). slot / d.stride % d.count < n) count (mod_below (slot / d.stride) d.count (omega (arith, some, count)))) ds each)
@@ -135,5 +125,5 @@ module _ (p : Description) (i k slot : ℕ) (ds : List Digit) (each : All (IsDig
   -- a variable on which no extent depends has no digit
   pub no_index : IsFalse (depends_on p i k) → index_at ds k slot ≡ 0
   no_index free =
-      index_from (λ (n : ℕ). n ≡ 0) k slot 0 ds refl
+      index_from (λ (n : ℕ). n ≡ 0) k slot ds refl
       (All-weaker (IsDigitOf p i) (IsRead (λ (n : ℕ). n ≡ 0)) (λ d is own. absurd (both_ways (depends_on p i k) free (ap (depends_on p i) (sym own) ∙ is.depends))) ds each)

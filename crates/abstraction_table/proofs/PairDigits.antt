@@ -41,6 +41,13 @@ some_values : (inputs : List InputVariable) → All IsInputVariable inputs → 1
 some_values [] each = omega arith
 some_values (i ∷ inputs) each = mul-le 1 1 (length i.values) (vectors_of inputs) (All-head IsInputVariable i inputs each).some_value (some_values inputs (All-tail IsInputVariable i inputs each))
 
+-- A cell and an input have such indices, the input's behind those of the states.
+pub record HasIndices (p : Description) (f : ℕ → ℕ) (c u : ℕ) : Type 0 where
+  pub cell : c < cells_of (axes_of p)
+  pub input : u < vectors_of p.inputs
+  pub along : (k : ℕ) → k < length p.states → index_along (axes_of p) k c ≡ f k
+  pub values : (k : ℕ) → k < length p.inputs → value_index p.inputs k u ≡ f (length p.states + k)
+
 module _ (p : Description) where
   abbrev states : ℕ
   states = length p.states
@@ -86,7 +93,7 @@ module _ (p : Description) where
       by false some = mod_below _ (value_count p.inputs (k - states)) some
 
   -- indices below the counts are those of a pair
-  pub pair_with : (f : ℕ → ℕ) → ((k : ℕ) → k < states + length p.inputs → f k < count_in p k) → (c : ℕ) × (u : ℕ) × (c < cells_of (axes_of p)) × (u < vectors_of p.inputs) × ((k : ℕ) → k < states + length p.inputs → index_in p c u k ≡ f k)
+  pub pair_with : (f : ℕ → ℕ) → ((k : ℕ) → k < states + length p.inputs → f k < count_in p k) → (c : ℕ) × (u : ℕ) × HasIndices p f c u
   pair_with f below =
       let back : (j : ℕ) → states + j - states ≡ j = λ j. omega arith in
       let cell = number_with (counts_of (axes_of p)) f (λ k lt. omega (arith, below k (omega (arith, lt, along)), count_along k (omega (arith, lt, along)))) in
@@ -94,13 +101,21 @@ module _ (p : Description) where
       (λ j lt. omega (arith, below (states + j) (omega (arith, lt, among)), count_among (states + j) (omega arith), ap (value_count p.inputs) (back j))) in (
         cell.0,
         input.0,
-        cell.1,
-        input.1,
-        λ k within. elim (cases_lt k states) [
-          | inl state ↦ sym (state_slot cell.0 input.0 k state) ∙ cell.2 k (omega (arith, state, along))
-          | inr past ↦ sym (among_slot cell.0 input.0 k past) ∙ input.2 (k - states) (omega (arith, within, past, among)) ∙ ap f (let there : states + (k - states) ≡ k = omega (arith, past) in there)
-        ],
+        record {
+          cell = cell.1;
+          input = input.1;
+          along = λ k state. cell.2 k (omega (arith, state, along));
+          values = λ j lt. input.2 j (omega (arith, lt, among));
+        },
       )
+
+  -- the indices of a pair in all variables
+  pub pair_indices : (f : ℕ → ℕ) (c u : ℕ) → HasIndices p f c u → (k : ℕ) → k < states + length p.inputs → index_in p c u k ≡ f k
+  pair_indices f c u are k within =
+      elim (cases_lt k states) [
+        | inl state ↦ sym (state_slot c u k state) ∙ are.along k state
+        | inr past ↦ sym (among_slot c u k past) ∙ are.values (k - states) (omega (arith, within, past)) ∙ ap f (let there : states + (k - states) ≡ k = omega (arith, past) in there)
+      ]
 
   -- the indices from a state or an input variable on are its own, for each of those after it
   pub next_along : (k : ℕ) → k < states → size (drop k (counts_of (axes_of p))) ≡ count_in p k * size (drop (k + 1) (counts_of (axes_of p)))

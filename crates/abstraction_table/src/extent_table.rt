@@ -7,7 +7,7 @@ ghost use Rattle.abstraction_table.specs.inside.Digits.{AreDigitsOf, HoldSlots};
 ghost use Rattle.abstraction_table.specs.inside.ExtentTables.{IsExtentTableOf, HoldExtentsFrom, IsExtentFor};
 
 use crate::digits::{Digit, Digits, slot_of};
-use crate::extent_blocks::{EXTENTS_PER_TASK, fill_chunk};
+use crate::extent_lines::{EXTENTS_PER_TASK, fill_chunk};
 use grid_quantiser::Extent;
 use plant_record::Plant;
 use rayon::prelude::*;

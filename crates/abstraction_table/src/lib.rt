@@ -14,7 +14,7 @@ mod build_fault;
 mod builders;
 mod cell_lines;
 mod digits;
-mod extent_blocks;
+mod extent_lines;
 mod extent_table;
 mod fans;
 mod forward;

@@ -2,7 +2,6 @@
 ghost use Rattle.std.specs.Prelude.{◌≡◌, ℕ, ◌+◌, ◌*◌, ◌^◌, ◌<◌, ◌≤◌, length, slice_index_or, if◌then◌else◌, IsTrue, IfOk};
 ghost use Rattle.std.specs.List.{All};
 ghost use Rattle.grid_quantiser.specs.Axes.{no_axis};
-ghost use Rattle.plant_record.specs.declared.version.PlantVersion.TheVariants.{One};
 ghost use Rattle.plant_record.specs.Description.{axes_of, vectors_of};
 ghost use Rattle.plant_record.specs.Limits.{IsWithinLimits};
 ghost use Rattle.successor_box.specs.PairExtents.{moves_along};
@@ -16,7 +15,7 @@ use crate::digits::{Digit, Digits, build_digits, slot_of};
 use crate::extent_table::{ExtentTable, build_table};
 use crate::pair_box::PairBox;
 use grid_quantiser::Extent;
-use plant_record::{Plant, PlantVersion};
+use plant_record::Plant;
 use std::alloc::{AllocError, Global};
 use std::thread::Threads;
 use successor_box::{INDEX_COLUMNS, Sampled};
@@ -162,15 +161,12 @@ fn build_state<R: Threads + Sync>(
     Ok(StateTerms::Table(table))
 }
 
-/// Whether a table of extents had a slot for each pair, and none were moved, in a plant of version 1.
+/// Whether a table of extents had a slot for each pair, and none were moved: then it would only be written and read once.
 fn has_slot_for_each_pair(p: &Plant, state: u32, digits: &Digits) -> bool
     requires plant { IsWithinLimits p.now }
     requires state { state < length p.now.equations }
-    ensures { IsTrue result → p.now.version ≡ One }
 {
-    p.plant_version() == PlantVersion::One
-        && !p.equation(state).shifts_with(state)
-        && digits.slots == p.grid().cells() * p.vectors()
+    !p.equation(state).shifts_with(state) && digits.slots == p.grid().cells() * p.vectors()
 }
 
 /// The terms along the axis of one state, listed if they are few.

@@ -13,6 +13,7 @@ use Rattle.fixed_expr.specs.Value.{value_of}
 use Rattle.fixed_expr.specs.inside.Listing.{combined, combined_number}
 use Rattle.fixed_expr.specs.inside.LaneValues.{value_in, AreNumbers, AnswersNumbers, AnswersValues}
 use Rattle.fixed_expr.specs.declared.lane_eval.LaneValues.{LaneValues}
+use Rattle.fixed_expr.specs.declared.lane_eval.ValuesAlong.{ValuesAlong}
 use Rattle.fixed_expr.specs.declared.lane_eval.LaneValues.TheVariants.{Alike}
 
 -- ---- in one lane
@@ -54,30 +55,30 @@ whole_answer binary a b lane x y (Some z) first is_first second is_second found 
 
 -- ---- in all lanes
 
-abbrev Tells : (ℕ → ℤ) → Expression → List (List ℤ) → Type 0
-Tells x e columns = (k : ℕ) → k < LANES → x k ≡ value_of e (lane_of columns k)
+abbrev Tells : (ℕ → ℤ) → Expression → ValuesAlong → Type 0
+Tells x e v = (k : ℕ) → k < LANES → x k ≡ value_of e (lane_of v k)
 
-module _ (binary : Binary) (a b : Expression) (columns : List (List ℤ)) where
+module _ (binary : Binary) (a b : Expression) (v : ValuesAlong) where
   abbrev whole : Expression
   whole = combined binary a b
 
   -- what the numbers of the parts come to
-  module _ (x y : ℕ → ℤ) (stays_first : StaysNarrowInLanes a columns) (first : Tells x a columns) (stays_second : StaysNarrowInLanes b columns) (second : Tells y b columns) where
+  module _ (x y : ℕ → ℤ) (stays_first : StaysNarrowInLanes a v) (first : Tells x a v) (stays_second : StaysNarrowInLanes b v) (second : Tells y b v) where
     abbrev z : ℕ → ℤ
     z k = combined_number binary (x k) (y k)
 
-    both : (k : ℕ) → k < LANES → z k ≡ combined_number binary (value_of a (lane_of columns k)) (value_of b (lane_of columns k))
+    both : (k : ℕ) → k < LANES → z k ≡ combined_number binary (value_of a (lane_of v k)) (value_of b (lane_of v k))
     both k lt = ap₂ (combined_number binary) (first k lt) (second k lt)
 
-    narrow_in : StaysNarrowInLanes whole columns → AreNarrow z
-    narrow_in stays k lt = subst IsNarrow (sym (both k lt)) (parts_of binary a b (lane_of columns k) (stays k lt)).whole
+    narrow_in : StaysNarrowInLanes whole v → AreNarrow z
+    narrow_in stays k lt = subst IsNarrow (sym (both k lt)) (parts_of binary a b (lane_of v k) (stays k lt)).whole
 
-    stays_in : AreNarrow z → StaysNarrowInLanes whole columns
-    stays_in narrow k lt = stays_combined binary a b (lane_of columns k) (stays_first k lt) (stays_second k lt) (subst IsNarrow (both k lt) (narrow k lt))
+    stays_in : AreNarrow z → StaysNarrowInLanes whole v
+    stays_in narrow k lt = stays_combined binary a b (lane_of v k) (stays_first k lt) (stays_second k lt) (subst IsNarrow (both k lt) (narrow k lt))
 
-    pub combined_answer : (answer : Option LaneValues) (lanes : List ℤ) → AnswersNumbers answer lanes z → AnswersValues answer whole columns lanes
+    pub combined_answer : (answer : Option LaneValues) (lanes : List ℤ) → AnswersNumbers answer lanes z → AnswersValues answer whole v lanes
     combined_answer None lanes none = λ stays. none (narrow_in stays)
-    combined_answer (Some values) lanes are = (stays_in are.0, λ k lt. are.1 k lt ∙ both k lt ∙ sym (value_combined binary a b (lane_of columns k)))
+    combined_answer (Some values) lanes are = (stays_in are.0, λ k lt. are.1 k lt ∙ both k lt ∙ sym (value_combined binary a b (lane_of v k)))
 
 -- ---- in all lanes
 

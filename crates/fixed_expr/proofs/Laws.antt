@@ -1,5 +1,5 @@
 -- What proofs of the crates above cite.
-use Rattle.std.proofs.Common.{◌≡◌, ℕ, ◌<◌, List, ◌∷◌}
+use Rattle.std.proofs.Common.{◌≡◌, ℕ, List, ◌∷◌}
 use Rattle.std.specs.Prelude.{ℤ, pos, ◌-ℤ◌, ◌≤ℤ◌, ◌<ℤ◌, IsTrue, slice_index_or}
 use Rattle.std.specs.Int.{int_min, int_max}
 use Rattle.fixed_expr.specs.Curves.{value_along, value_from}

@@ -1,5 +1,5 @@
 pub mod LaneSteps
-mod Columns
+mod VariableLanes
 mod Listing
 mod Pool
 pub mod Narrowness

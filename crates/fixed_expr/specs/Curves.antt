@@ -1,5 +1,5 @@
 -- Piecewise-linear functions over whole numbers, each given by some points.
-use Rattle.std.specs.Prelude.{◌^◌, ◌<◌, ◌≤◌, ℤ, pos, nat_abs, ◌+ℤ◌, ◌-ℤ◌, ◌*ℤ◌, ◌<ℤ◌, int_lt, int_le, List, [], ◌∷◌, length, All, if◌then◌else◌}
+use Rattle.std.specs.Prelude.{◌<◌, ◌≤◌, ℤ, pos, nat_abs, ◌+ℤ◌, ◌-ℤ◌, ◌*ℤ◌, ◌<ℤ◌, int_lt, int_le, List, [], ◌∷◌, length, All, if◌then◌else◌}
 use Rattle.fixed_expr.specs.DivExpr.{floor_div}
 use Rattle.base.specs.declared.limits.TheConstants.{NUMBER_LIMIT, POINTS_LIMIT}
 

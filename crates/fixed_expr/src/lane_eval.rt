@@ -1,13 +1,13 @@
 //! Values in 64 bits, in many lanes at once: several times as fast a value as in one lane.
 
-ghost use Rattle.std.specs.Prelude.{◌≡◌, ℕ, ◌<◌, pos, neg_ℤ, nat_abs, ◌≤ℤ◌, length, IsTrue};
+ghost use Rattle.std.specs.Prelude.{◌≡◌, ℕ, ◌<◌, pos, neg_ℤ, nat_abs, ◌≤ℤ◌, length, slice_index_or};
 ghost use Rattle.fixed_expr.specs.declared.lanes.TheConstants.{LANES};
 ghost use Rattle.fixed_expr.specs.Curves.{curve_value};
 ghost use Rattle.fixed_expr.specs.Expression.{expression_of};
 ghost use Rattle.fixed_expr.specs.Lanes.{at, IsColumnOf, AnswersLanes};
 ghost use Rattle.fixed_expr.specs.DivExpr.{floor_div};
 ghost use Rattle.fixed_expr.specs.Value.{IsWellFormed};
-ghost use Rattle.fixed_expr.specs.LaneEval.{EvaluatesLanes};
+ghost use Rattle.fixed_expr.specs.LaneEval.{lane_of, EvaluatesLanes};
 ghost use Rattle.fixed_expr.specs.inside.Listing.{combined_number, combination};
 ghost use Rattle.fixed_expr.specs.inside.LaneValues.{combined_numbers, value_in, AreNumbers, AnswersNumbers, AnswersValues};
 
@@ -27,75 +27,72 @@ enum LaneValues {
     Listed,
 }
 
-/// The values of an expression in each of `LANES` lanes of values of its variables, given by
-/// columns: None where the value of some node in some lane, or a divisor, leaves 64 bits. Each level
-/// of the expression takes a frame of the stack, with 8 bytes for each lane in it. After None nothing is said of `found`.
-pub fn eval_lanes(e: &Expr, columns: &[[i64; LANES]], found: &mut [i64; LANES]) -> Option<()>
-    requires { IsWellFormed (expression_of e.now) (length columns.now) }
-    ensures { EvaluatesLanes result (expression_of e.now) columns.now found.new }
+/// Values of variables in each of `LANES` lanes: those of one variable stand in a column, every other one has the same
+/// value in all lanes.
+#[derive(Clone, Copy)]
+pub struct ValuesAlong<'a> {
+    pub values: &'a [i64],
+    pub along: u32,
+    pub column: &'a [i64; LANES],
+}
+
+/// The values of an expression in each of `LANES` lanes: None where the value of some node in some lane, or a divisor, leaves
+/// 64 bits. Each level of the expression takes a frame of the stack, with 8 bytes for each lane in it. After None nothing is
+/// said of `found`.
+pub fn eval_along(e: &Expr, at: &ValuesAlong<'_>, found: &mut [i64; LANES]) -> Option<()>
+    requires { IsWellFormed (expression_of e.now) (length at.now.values.now) }
+    ensures { EvaluatesLanes result (expression_of e.now) at.now found.new }
 {
-    let values = eval_values(e, columns, found)?;
+    let values = eval_values(e, at, found)?;
     list(values, found);
     Some(())
 }
 
-/// The values of an expression: mostly few variables differ from lane to lane, and what rests on the others alone is worked
-/// out once.
+/// The values of an expression. What rests on the variables alone that are the same in all lanes is worked out once.
 #[cycle(values)]
-#[tactic(auto, using(crate::proofs::Columns::variable_in_lane))]
-fn eval_values(e: &Expr, columns: &[[i64; LANES]], found: &mut [i64; LANES]) -> Option<LaneValues>
-    requires { IsWellFormed (expression_of e.now) (length columns.now) }
-    ensures { AnswersValues result (expression_of e.now) columns.now found.new }
+fn eval_values(e: &Expr, at: &ValuesAlong<'_>, found: &mut [i64; LANES]) -> Option<LaneValues>
+    requires { IsWellFormed (expression_of e.now) (length at.now.values.now) }
+    ensures { AnswersValues result (expression_of e.now) at.now found.new }
 {
     match e {
         Expr::Num(k) => Some(LaneValues::Alike(narrow(*k)?)),
-        Expr::Var(i) => Some(column_values(&columns[*i as usize], found)),
-        Expr::Add(a, b) => eval_values_binary(Binary::AddOp, a, b, columns, found),
-        Expr::Sub(a, b) => eval_values_binary(Binary::SubOp, a, b, columns, found),
-        Expr::Mul(a, b) => eval_values_binary(Binary::MulOp, a, b, columns, found),
-        Expr::Min(a, b) => eval_values_binary(Binary::MinOp, a, b, columns, found),
-        Expr::Max(a, b) => eval_values_binary(Binary::MaxOp, a, b, columns, found),
+        Expr::Var(i) => Some(variable_values(*i, at, found)),
+        Expr::Add(a, b) => eval_values_binary(Binary::AddOp, a, b, at, found),
+        Expr::Sub(a, b) => eval_values_binary(Binary::SubOp, a, b, at, found),
+        Expr::Mul(a, b) => eval_values_binary(Binary::MulOp, a, b, at, found),
+        Expr::Min(a, b) => eval_values_binary(Binary::MinOp, a, b, at, found),
+        Expr::Max(a, b) => eval_values_binary(Binary::MaxOp, a, b, at, found),
         Expr::Neg(a) => {
-            let values = eval_values(a, columns, found)?;
+            let values = eval_values(a, at, found)?;
             negate_values(values, found)
         }
         Expr::Div(a, k) => {
             let divisor = narrow(*k)?;
-            let values = eval_values(a, columns, found)?;
+            let values = eval_values(a, at, found)?;
             Some(divide_values(values, divisor, found))
         }
         Expr::Abs(a) => {
-            let values = eval_values(a, columns, found)?;
+            let values = eval_values(a, at, found)?;
             make_values_absolute(values, found)
         }
         Expr::Lut(a, curve) => {
-            let values = eval_values(a, columns, found)?;
+            let values = eval_values(a, at, found)?;
             Some(look_values_up(values, curve, found))
         }
     }
 }
 
 /// The values of a variable.
-fn column_values(column: &[i64; LANES], found: &mut [i64; LANES]) -> LaneValues
-    ensures { AreNumbers result found.new (λ k. at column.now k) }
+#[tactic(auto, using(crate::proofs::VariableLanes::value_along, crate::proofs::VariableLanes::value_elsewhere))]
+fn variable_values(i: u32, at: &ValuesAlong<'_>, found: &mut [i64; LANES]) -> LaneValues
+    requires { i < length at.now.values.now }
+    ensures { AreNumbers result found.new (λ k. slice_index_or (lane_of at.now k) i (pos 0)) }
 {
-    if are_alike(column) {
-        return LaneValues::Alike(column[0]);
+    if i == at.along {
+        copy_lanes(found, at.column);
+        return LaneValues::Listed;
     }
-    copy_lanes(found, column);
-    LaneValues::Listed
-}
-
-/// Whether all numbers are the same.
-fn are_alike(column: &[i64; LANES]) -> bool
-    ensures { IsTrue result → (k : ℕ) → k < LANES → at column.now k ≡ at column.now 0 }
-{
-    for k in 1..LANES {
-        if column[k] != column[0] {
-            return false;
-        }
-    }
-    true
+    LaneValues::Alike(at.values[i as usize])
 }
 
 /// The values of two expressions combined.
@@ -104,16 +101,16 @@ fn eval_values_binary(
     binary: Binary,
     a: &Expr,
     b: &Expr,
-    columns: &[[i64; LANES]],
+    at: &ValuesAlong<'_>,
     found: &mut [i64; LANES],
 ) -> Option<LaneValues>
-    requires first { IsWellFormed (expression_of a.now) (length columns.now) }
-    requires second { IsWellFormed (expression_of b.now) (length columns.now) }
-    ensures { AnswersValues result (combination binary a.now b.now) columns.now found.new }
+    requires first { IsWellFormed (expression_of a.now) (length at.now.values.now) }
+    requires second { IsWellFormed (expression_of b.now) (length at.now.values.now) }
+    ensures { AnswersValues result (combination binary a.now b.now) at.now found.new }
 {
     let mut other = [0; LANES];
-    let left = eval_values(a, columns, found)?;
-    let right = eval_values(b, columns, &mut other)?;
+    let left = eval_values(a, at, found)?;
+    let right = eval_values(b, at, &mut other)?;
     combine_values(binary, left, right, found, &mut other)
 }
 

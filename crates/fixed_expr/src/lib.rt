@@ -24,7 +24,7 @@ pub use base::NoMemory;
 pub use curve::Curve;
 pub use evaluate::eval;
 pub use expr::Expr;
-pub use lane_eval::eval_lanes;
+pub use lane_eval::{ValuesAlong, eval_along};
 pub use lanes::LANES;
 pub use operation::Binary;
 pub use operations::{CASES, Operations};

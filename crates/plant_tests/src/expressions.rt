@@ -1,6 +1,6 @@
 //! Tests of `fixed_expr`.
 
-use fixed_expr::{Curve, Expr, LANES, eval, eval_lanes};
+use fixed_expr::{Curve, Expr, LANES, ValuesAlong, eval, eval_along};
 use std::alloc::{AllocError, Global};
 use std::test::Fail;
 
@@ -44,8 +44,8 @@ fn the_least_128_bit_number_is_out_of_range(rt: HostRuntime) {
     assert!(rt; least_number_has_no_value());
 }
 
-/// min(|x0|, max(x1 / 4, x0 - 3)), where -7 / 4 is -1.75 and its floor -2: at (-9, -7) the lesser of 9 and
-/// max(-2, -12), at (5, 8) of 5 and max(2, 2), at (-1, 9) of 1 and max(2, -4).
+/// min(|x0|, max(x1 / 4, x0 - 3)) at x1 = -7, where -7 / 4 is -1.75 and its floor -2: at x0 = -9 the lesser of 9 and
+/// max(-2, -12), at 5 of 5 and max(-2, 2), at 20 of 20 and max(-2, 17).
 fn rows_have_their_values(alloc: Global) -> Result<bool, AllocError> {
     let quarter = Expr::Div(Box::new(alloc, Expr::Var(1))?, 4);
     let difference = Expr::Sub(
@@ -55,15 +55,18 @@ fn rows_have_their_values(alloc: Global) -> Result<bool, AllocError> {
     let greater = Expr::Max(Box::new(alloc, quarter)?, Box::new(alloc, difference)?);
     let size = Expr::Abs(Box::new(alloc, Expr::Var(0))?);
     let e = Expr::Min(Box::new(alloc, size)?, Box::new(alloc, greater)?);
-    let mut columns = [[5; LANES], [8; LANES]];
-    columns[0][0] = -9;
-    columns[1][0] = -7;
-    columns[0][31] = -1;
-    columns[1][31] = 9;
+    let mut column = [5; LANES];
+    column[0] = -9;
+    column[31] = 20;
+    let at = ValuesAlong {
+        values: &[0, -7],
+        along: 0,
+        column: &column,
+    };
     let mut found = [0; LANES];
     Ok(
-        eval_lanes(&e, &columns, &mut found) == Some(())
-            && [found[0], found[1], found[30], found[31]] == [-2, 2, 2, 1]
+        eval_along(&e, &at, &mut found) == Some(())
+            && [found[0], found[1], found[30], found[31]] == [-2, 2, 2, 17]
             && eval(&e, &[-9, -7]) == Some(-2),
     )
 }
@@ -80,11 +83,21 @@ fn one_row_decides(alloc: Global) -> Result<bool, AllocError> {
         Box::new(alloc, Expr::Var(0))?,
         Box::new(alloc, Expr::Num(2))?,
     );
-    let mut columns = [[-(1 << 62); LANES]];
+    let least = ValuesAlong {
+        values: &[0],
+        along: 0,
+        column: &[-(1 << 62); LANES],
+    };
     let mut found = [0; LANES];
-    let fits = eval_lanes(&double, &columns, &mut found) == Some(()) && found[31] == i64::MIN;
-    columns[0][31] = 1 << 62;
-    Ok(fits && eval_lanes(&double, &columns, &mut found) == None)
+    let fits = eval_along(&double, &least, &mut found) == Some(()) && found[31] == i64::MIN;
+    let mut column = [-(1 << 62); LANES];
+    column[31] = 1 << 62;
+    let past = ValuesAlong {
+        values: &[0],
+        along: 0,
+        column: &column,
+    };
+    Ok(fits && eval_along(&double, &past, &mut found) == None)
 }
 
 #[test]

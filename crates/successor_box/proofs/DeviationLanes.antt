@@ -24,10 +24,6 @@ module _ (p : Description) (i : ℕ) (lt : i < length p.equations) where
   pub entry_is : (u : ℕ) → u < vectors_of p.inputs → get_or (get_or (deviations_of p) i []) u (pos 0) ≡ deviation_at p u (equation_at p i)
   entry_is u below = ap (λ (lane : List ℤ). get_or lane u (pos 0)) lane_is ∙ get_or-map-range_with_len (λ u. deviation_at p u (equation_at p i)) 0 (vectors_of p.inputs) u u (pos 0) below (omega arith)
 
-  -- an entry of a lane that is at hand
-  pub entry_at : (lanes : List (List ℤ)) (lane : List ℤ) (u : ℕ) → lanes ≡ deviations_of p → lane ≡ get_or lanes i [] → get_or lane u (pos 0) ≡ get_or (get_or (deviations_of p) i []) u (pos 0)
-  entry_at lanes lane u same is = ap (λ (xs : List ℤ). get_or xs u (pos 0)) (is ∙ ap (λ (r : List (List ℤ)). get_or r i []) same)
-
   -- the entry of all lanes that are at hand
   pub deviation_is : (lanes : List (List ℤ)) (u : ℕ) (d : ℤ) → u < vectors_of p.inputs → lanes ≡ deviations_of p → d ≡ get_or (get_or lanes i []) u (pos 0) → d ≡ deviation_at p u (equation_at p i)
   deviation_is lanes u d below same is = is ∙ ap (λ (r : List (List ℤ)). get_or (get_or r i []) u (pos 0)) same ∙ entry_is u below

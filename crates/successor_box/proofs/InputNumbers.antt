@@ -1,7 +1,7 @@
 -- The number of an input vector, digit by digit, and its values.
 use Rattle.std.proofs.Common.{◌≡◌, ℕ, zero, suc, ◌+◌, ◌*◌, ◌/◌, ◌%◌, ◌^◌, ◌<◌, ◌≤◌, List, [], ◌∷◌, All, length, drop, get_or, sym, ap, subst, ◌∙◌, arith, inl, inr}
 use Rattle.std.specs.Prelude.{pos, nat_abs}
-use Rattle.std.proofs.Math.Nat.{mul_comm, div-div-eq-div-mul, div-eq_of_lt, div-le_self}
+use Rattle.std.proofs.Math.Nat.{mul_comm, div-div-eq-div-mul, div-eq_of_lt}
 use Rattle.std.proofs.lemmas.Bool.{cases_lt}
 use Rattle.std.proofs.lemmas.Nat.{div-add-mod'}
 use Rattle.std.proofs.lemmas.List.{drop_all, drop_more, get_or_past, length-map}
@@ -29,10 +29,6 @@ number_more inputs k u lt =
 pub number_all : (inputs : List InputVariable) (k u : ℕ) → length inputs ≤ k → u / size (drop k (value_counts inputs)) ≡ u
 number_all inputs k u past =
     ap (λ (l : List ℕ). u / size l) (drop_all k (value_counts inputs) (omega (arith, past, length-map inputs (λ (i : InputVariable). length i.values)))) ∙ (let whole : u / 1 ≡ u = omega arith in whole)
-
--- no digit makes more than the number
-pub number_below : (inputs : List InputVariable) (k u : ℕ) → k < length inputs → u / size (drop k (value_counts inputs)) * value_count inputs k + value_index inputs k u ≤ u
-number_below inputs k u lt = subst (λ (n : ℕ). n ≤ u) (sym (number_more inputs k u lt)) (div-le_self u (size (drop (k + 1) (value_counts inputs))))
 
 -- each value of an input vector is a literal
 pub value_literal : (inputs : List InputVariable) (u k : ℕ) → All IsInputVariable inputs → nat_abs (get_or (vector_of inputs u) k (pos 0)) < 10 ^ 18

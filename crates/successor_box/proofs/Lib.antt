@@ -17,6 +17,5 @@ pub mod AlikePairs
 pub mod PairExtents
 pub mod InputNumbers
 pub mod Middles
-pub mod Columns
-mod LaneCentres
-pub mod CellColumns
+pub mod LineValues
+pub mod CellRanges

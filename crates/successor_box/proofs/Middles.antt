@@ -5,12 +5,19 @@ use Rattle.std.specs.Int.{w128}
 use Rattle.std.proofs.Math.Nat.{zero-div, zero-mod}
 use Rattle.std.proofs.lemmas.Int.{ints}
 use Rattle.std.proofs.lemmas.Nat.{mul-le}
-use Rattle.std.proofs.lemmas.List.{get_or_append_left}
+use Rattle.std.proofs.lemmas.List.{length-map, get_or_append_left}
+use Rattle.std.proofs.lemmas.List.Elements.{All-get_or}
+use Rattle.base.specs.Narrow.{IsNarrow}
 use Rattle.grid_quantiser.specs.declared.axis.Axis.{Axis}
 use Rattle.grid_quantiser.specs.Axes.{IsAxis, no_axis, cells_of}
 use Rattle.grid_quantiser.specs.Cells.{low_of, high_of, radius_of, point_of}
 use Rattle.grid_quantiser.specs.Indices.{middle_of}
 use Rattle.grid_quantiser.proofs.CellPoints.{length-low_of, length-high_of}
+use Rattle.plant_record.specs.Description.{Description, axis_of, axes_of}
+use Rattle.plant_record.specs.Soundness.{IsSound}
+
+pub axis_at : (p : Description) → IsSound p → (k : ℕ) → k < length p.states → IsAxis (get_or (axes_of p) k no_axis)
+axis_at p sound k lt = All-get_or IsAxis (axes_of p) k no_axis (omega (arith, lt, length-map p.states axis_of)) sound.axes.each
 
 -- a number between two literals is one
 pub between_literals : (low high z : ℤ) → nat_abs low < 10 ^ 18 → nat_abs high < 10 ^ 18 → low ≤ℤ z → z ≤ℤ high → nat_abs z < 10 ^ 18
@@ -52,28 +59,27 @@ radius_below : (width : ℤ) → pos 1 ≤ℤ width → pos (nat_abs width / 2) 
 radius_below (negsuc w) some = absurd (omega (arith, ints, some))
 radius_below (pos w) some = omega (arith, ints, some)
 
--- the numbers that lead to a middle have room
-pub record HasCapacity (a : Axis) (index : ℕ) : Type 0 where
-  pub width : FitsSigned w64 a.width
-  pub way : FitsSigned w64 (a.width *ℤ pos index)
-  pub middle : FitsSigned w64 (middle_of a index)
+-- a middle, and what leads there from the first one, have room
+pub record IsMiddle (a : Axis) (first width : ℤ) (index : ℕ) : Type 0 where
+  pub way : IsNarrow (width *ℤ pos index)
+  pub fits : IsNarrow (first +ℤ (width *ℤ pos index))
+  pub is : first +ℤ (width *ℤ pos index) ≡ middle_of a index
 
-pub has_capacity : (a : Axis) (index : ℕ) → IsAxis a → index < a.count → HasCapacity a index
-has_capacity a index is lt =
-    let s = steps a.width a.count index is.some_width lt in
-    let r = radius_below a.width is.some_width in
-    let low = is.low_bound in
-    let high : (a.lo +ℤ (a.width *ℤ pos a.count)) ≤ℤ pos (10 ^ 18) = is.high_bound in
-    let some = is.some_width in
-    record {
-      width = omega (arith, ints, s.forward, s.within, low, high, some);
-      way = omega (arith, ints, s.forward, s.within, low, high, some);
-      middle = omega (arith, ints, s.forward, s.within, r, low, high, some);
-    }
-
--- a middle from the first one
-pub middle_from : (a : Axis) (index : ℕ) (first width : ℤ) → first ≡ middle_of a 0 → width ≡ a.width → first +ℤ (width *ℤ pos index) ≡ middle_of a index
-middle_from a index first width first-is width-is = rw (first-is, width-is) (omega (arith, ints))
+pub middle_from : (a : Axis) (index : ℕ) (first width : ℤ) → IsAxis a → index < a.count → first ≡ middle_of a 0 → width ≡ a.width → IsMiddle a first width index
+middle_from a index first width axis lt first-is width-is = rw (first-is, width-is) one
+  where
+    one : IsMiddle a (middle_of a 0) a.width index
+    one =
+        let s = steps a.width a.count index axis.some_width lt in
+        let r = radius_below a.width axis.some_width in
+        let low = axis.low_bound in
+        let high : (a.lo +ℤ (a.width *ℤ pos a.count)) ≤ℤ pos (10 ^ 18) = axis.high_bound in
+        let some = axis.some_width in
+        record {
+          way = (omega (arith, ints, s.forward), omega (arith, ints, s.forward, s.within, low, high, some));
+          fits = (omega (arith, ints, s.forward, low), omega (arith, ints, s.forward, s.within, r, low, high, some));
+          is = omega (arith, ints);
+        }
 
 -- what is found of the first index
 pub record IsFirstCell (a : Axis) (low high radius : ℤ) : Type 0 where

@@ -1,6 +1,6 @@
 pub mod SuccessorBoxes
 pub mod Deviations
 pub mod PairExtents
-pub mod CellColumns
+pub mod CellLines
 pub mod Laws
 pub mod inside

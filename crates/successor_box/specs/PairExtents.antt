@@ -1,15 +1,14 @@
 -- The successor box of a pair, state by state.
-use Rattle.std.specs.Prelude.{◌≡◌, ℕ, ◌+◌, ◌-◌, ◌<◌, pos, Bool, not, ◌&&◌, ◌==◌, List, [], take, length, slice_index_or, Option, None, IsTrue, if◌then◌else◌, nat_lt}
-use Rattle.fixed_expr.specs.declared.lanes.TheConstants.{LANES}
+use Rattle.std.specs.Prelude.{◌≡◌, ℕ, ◌+◌, ◌-◌, ◌<◌, pos, Bool, not, ◌&&◌, ◌==◌, List, take, length, slice_index, slice_index_or, Option, IsTrue, if◌then◌else◌, nat_lt}
 use Rattle.fixed_expr.specs.Mentions.{mentions}
 use Rattle.fixed_expr.specs.Moves.{shifts_with}
 use Rattle.grid_quantiser.specs.declared.boxes.CellBox.{CellBox}
 use Rattle.grid_quantiser.specs.declared.extents.Extent.{Extent}
-use Rattle.grid_quantiser.specs.Axes.{no_axis, cells_of}
+use Rattle.grid_quantiser.specs.Axes.{no_axis}
 use Rattle.grid_quantiser.specs.Indices.{index_along}
 use Rattle.grid_quantiser.specs.Extents.{IsExtentOf, IsExtentBefore}
 use Rattle.grid_quantiser.specs.ExtentBoxes.{IsBoxMeeting}
-use Rattle.plant_record.specs.Description.{Description, axes_of, vectors_of}
+use Rattle.plant_record.specs.Description.{Description, axes_of}
 use Rattle.plant_record.specs.ValueIndices.{value_index}
 use Rattle.plant_record.specs.Steps.{equation_at}
 use Rattle.successor_box.specs.SuccessorBoxes.{low_corner, high_corner}
@@ -39,19 +38,9 @@ abbrev pub IsExtentBeforeAt : Description → ℕ → ℕ → ℕ → ℕ → Op
 IsExtentBeforeAt p c u i indices extent =
     IsExtentBefore (slice_index_or (axes_of p) i no_axis) indices (slice_index_or (low_corner p c u) i (pos 0)) (slice_index_or (high_corner p c u) i (pos 0)) extent
 
--- A lane of columns of indices, one for each state and then each input variable, holds those of a cell and an input.
-pub record IsPairInLane (p : Description) (indices : List (List ℕ)) (lane c u : ℕ) : Type 0 where
-  pub cell : c < cells_of (axes_of p)
-  pub input : u < vectors_of p.inputs
-  pub each : (k : ℕ) → k < length p.states + length p.inputs → slice_index_or (slice_index_or indices k []) lane 0 ≡ index_in p c u k
-
--- each lane holds the indices of a cell and an input
-abbrev pub HasPairInEachLane : Description → List (List ℕ) → Type 0
-HasPairInEachLane p indices = (lane : ℕ) → lane < LANES → (c : ℕ) × (u : ℕ) × IsPairInLane p indices lane c u
-
--- the extents of the first pairs in the lanes, along the axis of a state, on the prolonged axis
-abbrev pub HoldExtents : Description → List (List ℕ) → ℕ → List (Option Extent) → Type 0
-HoldExtents p indices i extents = (lane c u : ℕ) → lane < length extents → IsPairInLane p indices lane c u → IsExtentBeforeAt p c u i 0 (slice_index_or extents lane None)
+-- indices, behind those of the states, are those of an input vector's values
+abbrev pub AreInputIndices : Description → List ℕ → ℕ → Type 0
+AreInputIndices p indices u = (k : ℕ) → k < length p.inputs → slice_index indices (length p.states + k) ≡ value_index p.inputs k u
 
 -- an extent depends on a variable that stands in the state's equation, but for the state itself where the extent moves with it
 abbrev pub depends_on : Description → ℕ → ℕ → Bool

@@ -1,5 +1,4 @@
 -- What only private clauses and proofs name.
 pub mod Area
-pub mod Blocks
-pub mod Columns
+pub mod Lines
 pub mod Props

@@ -1,58 +1,72 @@
-//! The spans of an equation over the cells of many pairs, in blocks of lanes.
+//! The spans of an equation over cells in a line.
 ghost use Rattle.std.specs.Prelude.{◌≡◌, ℕ, ◌<◌, ◌≤◌, length, slice_index_or, pos, ◌+ℤ◌};
+ghost use Rattle.base.specs.declared.limits.TheConstants.{VARIABLES_LIMIT};
 ghost use Rattle.fixed_expr.specs.declared.lanes.TheConstants.{LANES};
 ghost use Rattle.fixed_expr.specs.Expression.{expression_of};
+ghost use Rattle.fixed_expr.specs.LaneEval.{lane_of};
 ghost use Rattle.fixed_expr.specs.NarrowValues.{IsNarrow};
 ghost use Rattle.fixed_expr.specs.Value.{IsWellFormed};
 ghost use Rattle.interval_eval.specs.LaneSpans.{interval_in, area_in};
 ghost use Rattle.interval_eval.specs.Span.{SpanStaysInRange, span_of};
-ghost use Rattle.successor_box.specs.PairExtents.{HasPairInEachLane};
+ghost use Rattle.plant_record.specs.Description.{vectors_of};
 ghost use Rattle.successor_box.specs.inside.Area.{variables_of, no_range};
-ghost use Rattle.successor_box.specs.inside.Blocks.{HoldsInLanes, HoldSpans, AreCellAreas, HoldCellRanges};
-ghost use Rattle.base.specs.declared.limits.TheConstants.{VARIABLES_LIMIT};
+ghost use Rattle.successor_box.specs.inside.Lines.{HoldsInLanes, HaveValuesUnder, HoldSpans, AreCellAreas, HoldCellRanges};
 
 use crate::area::{NO_RANGE, offset};
-use crate::block::Block;
+use crate::sampled::Sampled;
 use base::limits::VARIABLES_LIMIT;
-use fixed_expr::{Expr, LANES};
+use fixed_expr::{Expr, LANES, ValuesAlong};
 use interval_eval::{Interval, IntervalColumn, NO_INTERVALS, span, span_lanes};
 
-impl Block<'_> {
-    /// The span of an equation over the cell of each pair.
-    pub(crate) fn spans(&self, state: u32) -> [Interval; LANES]
-        requires pairs { HasPairInEachLane self.now.sampled.plant.now self.now.indices.now }
-        requires state { state < length self.now.sampled.plant.now.equations }
-        ensures { HoldSpans self.now.sampled.plant.now self.now.indices.now state result }
+impl Sampled<'_> {
+    /// The span of an equation over each cell.
+    pub(crate) fn spans(&self, input: u32, state: u32, at: &ValuesAlong<'_>) -> [Interval; LANES]
+        requires input { input < vectors_of self.now.plant.now.inputs }
+        requires state { state < length self.now.plant.now.equations }
+        requires values { HaveValuesUnder self.now.plant.now input at.now }
+        ensures { HoldSpans self.now.plant.now at.now input state result }
     {
-        let p = self.sampled.plant;
-        let area = self.cell_columns();
+        let p = self.plant;
+        let area = self.cell_columns(at);
         spans_in_lanes(p.equation(state), &area[..p.variables() as usize])
     }
 
-    /// The ranges of the variables over the cells of the pairs, one column for each. Nothing is said of the columns past the last.
-    fn cell_columns(&self) -> [IntervalColumn; VARIABLES_LIMIT]
-        requires pairs { HasPairInEachLane self.now.sampled.plant.now self.now.indices.now }
-        ensures { AreCellAreas self.now.sampled.plant.now self.now.indices.now result }
+    /// The ranges of the variables over the cells, one column for each. Nothing is said of the columns past the last.
+    fn cell_columns(&self, at: &ValuesAlong<'_>) -> [IntervalColumn; VARIABLES_LIMIT]
+        requires { (u : ℕ) × HaveValuesUnder self.now.plant.now u at.now }
+        ensures { AreCellAreas self.now.plant.now at.now result }
     {
         let mut area = [NO_INTERVALS; VARIABLES_LIMIT];
-        for k in 0..self.sampled.plant.variables() {
-            area[k as usize] = self.cell_column(k);
+        for k in 0..self.plant.variables() {
+            area[k as usize] = self.cell_column(at, k);
         }
         area
     }
 
     /// The ranges of one variable: its values at the centres, moved by how far the ends of its range lie from there.
-    fn cell_column(&self, k: u32) -> IntervalColumn
-        requires pairs { HasPairInEachLane self.now.sampled.plant.now self.now.indices.now }
-        requires variable { k < variables_of self.now.sampled.plant.now }
-        ensures { HoldCellRanges self.now.sampled.plant.now self.now.indices.now k result }
+    fn cell_column(&self, at: &ValuesAlong<'_>, k: u32) -> IntervalColumn
+        requires values { (u : ℕ) × HaveValuesUnder self.now.plant.now u at.now }
+        requires variable { k < variables_of self.now.plant.now }
+        ensures { HoldCellRanges self.now.plant.now at.now k result }
     {
-        let offset = offset(self.sampled.plant, k);
-        let centres = &self.columns[k as usize];
+        let offset = offset(self.plant, k);
+        let centres = column(at, k);
         IntervalColumn {
-            lo: moved(centres, offset.lo as i64),
-            hi: moved(centres, offset.hi as i64),
+            lo: moved(&centres, offset.lo as i64),
+            hi: moved(&centres, offset.hi as i64),
         }
+    }
+}
+
+/// The values of one variable.
+fn column(at: &ValuesAlong<'_>, k: u32) -> [i64; LANES]
+    requires { k < length at.now.values.now }
+    ensures { HoldsInLanes (pos 0) (λ lane. slice_index_or (lane_of at.now lane) k (pos 0)) result }
+{
+    if k == at.along {
+        *at.column
+    } else {
+        [at.values[k as usize]; LANES]
     }
 }
 

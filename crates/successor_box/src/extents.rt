@@ -5,7 +5,7 @@ ghost use Rattle.interval_eval.specs.Span.{span_of};
 ghost use Rattle.plant_record.specs.Steps.{equation_at};
 ghost use Rattle.successor_box.specs.SuccessorBoxes.{cell_area_of, intersection_of};
 ghost use Rattle.successor_box.specs.PairExtents.{IsExtentAt};
-ghost use Rattle.successor_box.specs.inside.Blocks.{IsPair, IsSomeValue, deviation_along, value_at, next_interval_at};
+ghost use Rattle.successor_box.specs.inside.Lines.{IsPair, IsSomeValue, deviation_along, value_at, next_interval_at};
 
 use crate::area::cell_area;
 use crate::noise_centres::noise_centres;

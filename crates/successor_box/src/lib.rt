@@ -6,22 +6,23 @@
 #![tactic(auto)]
 
 mod area;
-mod block;
-mod cell_columns;
+mod cell_line;
 mod cell_spans;
+mod central_value;
 mod extents;
 mod index_columns;
-mod lane_extents;
+mod input_numbers;
 pub mod laws;
+mod line_extents;
 mod noise_centres;
 mod one_pair;
 mod sampled;
 mod slope_fault;
 mod slopes;
-mod variable_columns;
 
-pub use cell_columns::CentralColumns;
-pub use index_columns::{INDEX_COLUMNS, IndexColumns};
+pub use cell_line::CellLine;
+pub use index_columns::INDEX_COLUMNS;
+pub use input_numbers::input_number;
 pub use one_pair::successors;
 pub use sampled::Sampled;
 pub use slope_fault::SlopeFault;

@@ -1,6 +1,6 @@
 //! The centres of the noises' ranges.
 
-ghost use Rattle.std.specs.Prelude.{◌≡◌, ◌<◌, ◌^◌, nat_abs, pos, ◌+ℤ◌, ◌-ℤ◌, map};
+ghost use Rattle.std.specs.Prelude.{◌≡◌, ◌<◌, nat_abs, pos, ◌+ℤ◌, ◌-ℤ◌, map};
 ghost use Rattle.fixed_expr.specs.DivExpr.{floor_div};
 ghost use Rattle.grid_quantiser.specs.Cells.{point_of};
 ghost use Rattle.plant_record.specs.Limits.{IsWithinLimits};

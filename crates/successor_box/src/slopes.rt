@@ -6,7 +6,7 @@ ghost use Rattle.plant_record.specs.Description.{vectors_of};
 ghost use Rattle.plant_record.specs.Steps.{equation_at};
 ghost use Rattle.successor_box.specs.Deviations.{AnswersDeviation, HasNoOverflowAt, HasNoOverflow, deviations_of, deviations_along, IsOverflow};
 ghost use Rattle.successor_box.specs.inside.Area.{AreRadii, IsOverflowAlong};
-ghost use Rattle.successor_box.specs.inside.Blocks.{deviation_along};
+ghost use Rattle.successor_box.specs.inside.Lines.{deviation_along};
 
 use crate::area::{domain_area, radii};
 use crate::slope_fault::SlopeFault;
@@ -43,15 +43,6 @@ impl Slopes {
         ensures { result ≡ slice_index_or (slice_index_or self.now equation []) input (pos 0) }
     {
         self.lanes[equation as usize][input as usize]
-    }
-
-    /// How far an equation moves within a cell, by input vector.
-    #[inline]
-    pub(crate) fn along(&self, equation: u32) -> &[i128]
-        requires { equation < length self.now }
-        ensures { result.now ≡ slice_index_or self.now equation [] }
-    {
-        &self.lanes[equation as usize]
     }
 }
 

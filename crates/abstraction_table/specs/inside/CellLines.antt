@@ -1,12 +1,12 @@
 -- Rows of cells, and the boxes of cells one after another.
-use Rattle.std.specs.Prelude.{◌≡◌, ℕ, ◌+◌, ◌-◌, ◌*◌, ◌/◌, ◌%◌, ◌<◌, ◌≤◌, ◌≢◌, min, List, length, replicate, slice_index_or, Option, None, IfSome, IsTrue}
+use Rattle.std.specs.Prelude.{◌≡◌, ℕ, ◌+◌, ◌-◌, ◌*◌, ◌/◌, ◌%◌, ◌<◌, ◌≤◌, ◌≢◌, List, length, replicate, slice_index_or, Option, None, IfSome, IsTrue}
 use Rattle.std.specs.List.{All}
 use Rattle.fixed_expr.specs.declared.lanes.TheConstants.{LANES}
 use Rattle.grid_quantiser.specs.declared.boxes.CellBox.{CellBox}
 use Rattle.grid_quantiser.specs.declared.extents.Extent.{Extent}
 use Rattle.grid_quantiser.specs.Axes.{no_axis, cells_of}
 use Rattle.plant_record.specs.Description.{Description, axes_of, vectors_of}
-use Rattle.successor_box.specs.PairExtents.{IsExtentBeforeAt, IsPairInLane}
+use Rattle.successor_box.specs.PairExtents.{IsExtentBeforeAt}
 use Rattle.successor_box.specs.SuccessorBoxes.{IsBoxOf}
 use Rattle.grid_quantiser.specs.ExtentBoxes.{one_cell}
 use Rattle.abstraction_table.specs.declared.digits.Digit.{Digit}
@@ -105,14 +105,6 @@ AreSumsUnder p u n boxes = (k : ℕ) → k < n → IfSome (slice_index_or boxes 
 abbrev pub KeepsOtherInputs : Description → ℕ → List (Option CellBox) → List (Option CellBox) → Type 0
 KeepsOtherInputs p u old new =
     (k w : ℕ) → w < vectors_of p.inputs → w ≢ u → slice_index_or new (k * vectors_of p.inputs + w) None ≡ slice_index_or old (k * vectors_of p.inputs + w) None
-
--- the cells in the lanes, from one on, and the last of so many in the lanes past it
-abbrev pub cell_in : ℕ → ℕ → ℕ → ℕ
-cell_in c n lane = c + min lane (n - 1)
-
--- the lanes hold the indices of these cells and of the first input
-abbrev pub HoldCells : Description → ℕ → ℕ → List (List ℕ) → Type 0
-HoldCells p c n indices = (lane : ℕ) → lane < LANES → IsPairInLane p indices lane (cell_in c n lane) 0
 
 -- The terms of a state's table depend on no slot along the last state, nor move with it.
 pub record StaysAlongLines (last i : ℕ) (t : TermTable) : Type 0 where

@@ -1,7 +1,6 @@
 -- The digits of an equation: indices in the variables on which extents depend, as one number, the slot of an extent.
 use Rattle.std.specs.Prelude.{◌≡◌, ℕ, ◌+◌, ◌-◌, ◌*◌, ◌/◌, ◌%◌, ◌<◌, ◌≤◌, ◌⊎◌, ◌==◌, List, [], ◌∷◌, ◌++◌, length, slice_index, slice_index_or, sum_by, if◌then◌else◌, nat_lt, IsTrue}
-use Rattle.std.specs.List.{All, fold}
-use Rattle.fixed_expr.specs.declared.lanes.TheConstants.{LANES}
+use Rattle.std.specs.List.{All}
 use Rattle.grid_quantiser.specs.Axes.{counts_of}
 use Rattle.plant_record.specs.Description.{Description, axes_of, vectors_of}
 use Rattle.plant_record.specs.ValueIndices.{value_count}
@@ -10,6 +9,7 @@ use Rattle.successor_box.specs.PairExtents.{depends_on, index_in}
 use Rattle.successor_box.specs.declared.index_columns.TheConstants.{INDEX_COLUMNS}
 use Rattle.abstraction_table.specs.declared.digits.Digit.{Digit}
 use Rattle.abstraction_table.specs.declared.digits.Digits.{Digits}
+use Rattle.abstraction_table.specs.declared.extent_lines.SlotLines.{SlotLines}
 
 -- how many indices a state has, or how many values an input variable
 abbrev pub count_in : Description → ℕ → ℕ
@@ -21,22 +21,28 @@ slot_at digits indices = sum_by (λ (d : Digit). indices d.variable * d.stride) 
 
 -- the index of a slot in a variable: the digit of that variable, or 0 where it has none
 abbrev pub index_at : List Digit → ℕ → ℕ → ℕ
-index_at digits variable slot = fold (λ index (d : Digit). if d.variable == variable then slot / d.stride % d.count else index) 0 digits
+index_at [] variable slot = 0
+index_at (d ∷ digits) variable slot = if variable == d.variable then slot / d.stride % d.count else index_at digits variable slot
 
--- the lanes hold, variable by variable, the indices of a slot and of the next ones
-abbrev pub HoldIndicesFrom : List Digit → ℕ → List (List ℕ) → Type 0
-HoldIndicesFrom digits slot indices = (k j : ℕ) → k < INDEX_COLUMNS → j < LANES → slice_index_or (slice_index_or indices k []) j 0 ≡ index_at digits k (slot + j)
+-- indices are those of a slot
+abbrev pub AreIndicesAt : List Digit → ℕ → List ℕ → Type 0
+AreIndicesAt digits slot indices = (k : ℕ) → k < INDEX_COLUMNS → slice_index indices k ≡ index_at digits k slot
+
+-- so many slots lie in a line: from one to the next the index in one variable rises, and the others stay
+abbrev pub LieAlong : List Digit → ℕ → ℕ → ℕ → Type 0
+LieAlong digits along slot n = (j k : ℕ) → j < n → index_at digits k (slot + j) ≡ index_at digits k slot + (if k == along then j else 0)
+
+-- All slots lie in lines along a state.
+pub record LieInLines (p : Description) (digits : List Digit) (lines : SlotLines) : Type 0 where
+  pub state : lines.along < length p.states
+  pub some : 1 ≤ lines.count
+  pub each : (slot n : ℕ) → slot % lines.count + n ≤ lines.count → LieAlong digits lines.along slot n
 
 -- what each input brings to the slot of a pair
 abbrev pub HoldSlots : Description → List Digit → List ℕ → Type 0
 HoldSlots p digits inputs = (u : ℕ) → u < vectors_of p.inputs → slice_index_or inputs u 0 ≡ slot_at digits (index_in p 0 u)
 
--- A digit of a number, with the stride t and below m, and for how many numbers from this one on it stays the same.
-pub record IsDigitAt (t m n digit left : ℕ) : Type 0 where
-  pub digit_is : digit ≡ n / t % m
-  pub left_is : left + n % t ≡ t
-
--- a digit can be read from slots, into the column of its variable
+-- a digit can be read from slots, as the index in its variable
 abbrev pub IsReadable : Digit → Type 0
 IsReadable d = (d.variable < INDEX_COLUMNS) × (0 < d.count) × (0 < d.stride)
 

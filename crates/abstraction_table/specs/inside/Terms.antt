@@ -4,7 +4,6 @@ use Rattle.std.specs.List.{All}
 use Rattle.grid_quantiser.specs.declared.boxes.CellBox.{CellBox}
 use Rattle.grid_quantiser.specs.declared.extents.Extent.{Extent}
 use Rattle.grid_quantiser.specs.Axes.{no_axis, cells_of}
-use Rattle.plant_record.specs.declared.version.PlantVersion.TheVariants.{One}
 use Rattle.plant_record.specs.Description.{Description, axes_of, vectors_of}
 use Rattle.successor_box.specs.PairExtents.{index_in, moves_along, shifted_by, IsExtentAt, IsExtentBeforeAt, IsBoxAlong}
 use Rattle.abstraction_table.specs.declared.digits.Digit.{Digit}
@@ -79,10 +78,10 @@ pub record IsTermTableOf (p : Description) (i : ℕ) (t : TermTable) : Type 0 wh
   pub slot : (c u : ℕ) → c < cells_of (axes_of p) → u < vectors_of p.inputs → first_of p t.digits.items c + slice_index t.inputs.items u < count_of t.terms
   pub term : (c u : ℕ) → c < cells_of (axes_of p) → u < vectors_of p.inputs → HasTermAt p c u i t.terms (first_of p t.digits.items c + slice_index t.inputs.items u)
 
--- a state's terms stand in a table, or, in version 1, are found pair by pair
+-- a state's terms stand in a table, or are found pair by pair
 abbrev pub AreTermsOf : Description → ℕ → StateTerms → Type 0
 AreTermsOf p i (Table t) = IsTermTableOf p i t
-AreTermsOf p i (PerPair stride) = (stride ≡ stride_of p i) × (p.version ≡ One)
+AreTermsOf p i (PerPair stride) = stride ≡ stride_of p i
 
 -- The terms of all pairs along all axes.
 pub record AreTermTablesOf (p : Description) (tables : List StateTerms) : Type 0 where

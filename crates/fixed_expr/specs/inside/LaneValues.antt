@@ -2,6 +2,7 @@
 use Rattle.std.specs.Prelude.{◌≡◌, ℕ, ◌<◌, ℤ, pos, List, slice_index_or, Option, MatchOption}
 use Rattle.fixed_expr.specs.declared.lanes.TheConstants.{LANES}
 use Rattle.fixed_expr.specs.declared.lane_eval.LaneValues.{LaneValues}
+use Rattle.fixed_expr.specs.declared.lane_eval.ValuesAlong.{ValuesAlong}
 use Rattle.fixed_expr.specs.declared.lane_eval.LaneValues.TheVariants.{Alike, Listed}
 use Rattle.fixed_expr.specs.declared.operation.Binary.{Binary}
 use Rattle.fixed_expr.specs.Expression.{Expression}
@@ -28,6 +29,6 @@ abbrev pub AnswersNumbers : Option LaneValues → List ℤ → (ℕ → ℤ) →
 AnswersNumbers answer lanes wanted = MatchOption answer (¬ (AreNarrow wanted)) (λ values. AreNumbers values lanes wanted)
 
 -- an answer is given exactly where each lane stays in 64 bits, and then it gives the value in each lane
-abbrev pub AnswersValues : Option LaneValues → Expression → List (List ℤ) → List ℤ → Type 0
-AnswersValues answer e columns lanes =
-    MatchOption answer (¬ (StaysNarrowInLanes e columns)) (λ values. StaysNarrowInLanes e columns × ((k : ℕ) → k < LANES → value_in values lanes k ≡ value_of e (lane_of columns k)))
+abbrev pub AnswersValues : Option LaneValues → Expression → ValuesAlong → List ℤ → Type 0
+AnswersValues answer e v lanes =
+    MatchOption answer (¬ (StaysNarrowInLanes e v)) (λ values. StaysNarrowInLanes e v × ((k : ℕ) → k < LANES → value_in values lanes k ≡ value_of e (lane_of v k)))

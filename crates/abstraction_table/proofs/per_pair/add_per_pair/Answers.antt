@@ -1,15 +1,17 @@
-use Rattle.std.proofs.Common.{◌≡◌, ◌≢◌, ℕ, ◌+◌, ◌*◌, ◌/◌, ◌<◌, ◌≤◌, ◌^◌, ◌∙◌, List, Option, None, length, get_or, below_more, refl, sym, ap, subst, arith}
+use Rattle.std.proofs.Common.{◌≡◌, ◌≢◌, ℕ, ◌+◌, ◌-◌, ◌*◌, ◌/◌, ◌<◌, ◌^◌, ◌∙◌, List, Option, None, length, get_or, below_more, refl, sym, ap, subst, arith}
 use Rattle.std.specs.Prelude.{IfSome}
 use Rattle.grid_quantiser.specs.declared.boxes.CellBox.{CellBox}
+use Rattle.grid_quantiser.specs.declared.extents.Extent.{Extent}
 use Rattle.std.proofs.lemmas.List.{length-take-le}
 use Rattle.plant_record.specs.Description.{Description, vectors_of}
 use Rattle.plant_record.proofs.lemmas.SoundPlants.{sound as sound_plant}
-use Rattle.abstraction_table.specs.inside.CellLines.{AreCellsFrom, cell_in}
+use Rattle.successor_box.specs.CellLines.{LiesInGrid, HaveCentresOf, AreCentresOf, HoldExtentsAtCentres}
+use Rattle.abstraction_table.specs.inside.CellLines.{AreCellsFrom, AreExtentsUnder}
 use Rattle.abstraction_table.specs.inside.Sums.{plus}
 use Rattle.abstraction_table.specs.inside.Terms.{IsTermAt, IsSumAlong}
 use Rattle.abstraction_table.proofs.BoxSums.{ends_fit, rest_more}
-use Rattle.abstraction_table.proofs.CellBlocks.{extents_here}
 use Rattle.abstraction_table.proofs.LineBoxes.{cell_count}
+use Rattle.abstraction_table.proofs.LaneCells.{cell_in, cells_on, cells_in_grid, extents_here}
 use Rattle.base.proofs.Products.{nothing_below}
 use Rattle.abstraction_table.proofs.per_pair.add_per_pair.Goals as goal
 use Rattle.abstraction_table.proofs.per_pair.add_per_pair.Goals.{In-loop-input}
@@ -22,34 +24,49 @@ one_each c n long = c.loop-input.invariant.cells ∙ cell_count (length c.args.b
 counted : (p : Description) (indices : List ℕ) (d n boxes inputs : ℕ) → boxes ≡ n * vectors_of p.inputs → inputs ≡ vectors_of p.inputs → 0 < inputs → AreCellsFrom p indices d n → AreCellsFrom p indices d (boxes / inputs)
 counted p indices d n boxes inputs long count some = subst (AreCellsFrom p indices d) (sym (cell_count boxes n inputs (vectors_of p.inputs) long count some))
 
-pub extents_under-requires-clause-columns : goal.extents_under-requires-clause-columns
-extents_under-requires-clause-columns c =
-    let cells = c.requires.cells.1 in
-    (cell_in cells.0 (length c.args.boxes.now / c.vectors-inputs.result), c.loop-input.invariant.centres cells.0 (counted c.args.sampled.now.plant.now c.args.indices.now cells.0 cells.1 (length c.args.boxes.now) c.vectors-inputs.result cells.3.one_each c.vectors-inputs.ensures.count c.vectors-inputs.ensures.some cells.2))
+-- the line has the centres of the cells from one with these indices on
+centres : (c : goal.In-loop-input) (d n : ℕ) → length c.args.boxes.now ≡ n * vectors_of c.args.sampled.now.plant.now.inputs → AreCellsFrom c.args.sampled.now.plant.now c.args.indices.now d n →
+    AreCentresOf c.args.sampled.now.plant.now (cell_in d (length c.args.boxes.now / c.vectors-inputs.result)) c.loop-input.line
+centres c d n long from =
+    let p = c.args.sampled.now.plant.now in
+    let size : ℕ = length c.args.boxes.now / c.vectors-inputs.result in
+    c.loop-input.invariant.centres (cell_in d size)
+    (cells_on p c.args.sampled.now.within.plant c.args.indices.now d size (counted p c.args.indices.now d n (length c.args.boxes.now) c.vectors-inputs.result long c.vectors-inputs.ensures.count c.vectors-inputs.ensures.some from))
+
+-- and extents at these are theirs
+found : (c : goal.In-loop-input) (d n : ℕ) → length c.args.boxes.now ≡ n * vectors_of c.args.sampled.now.plant.now.inputs → AreCellsFrom c.args.sampled.now.plant.now c.args.indices.now d n → (extents : List (Option Extent)) →
+    length extents ≡ length c.loop-input.extents → HoldExtentsAtCentres c.args.sampled.now.plant.now c.loop-input.line c.loop-input.input c.args.state extents → AreExtentsUnder c.args.sampled.now.plant.now d c.loop-input.input c.args.state extents
+found c d n long from extents all held =
+    let size : ℕ = length c.args.boxes.now / c.vectors-inputs.result in
+    extents_here c.args.sampled.now.plant.now d size c.loop-input.input c.args.state extents (all ∙ c.loop-input.invariant.cells) (held (cell_in d size) (centres c d n long from))
+
+pub extents_under-requires-clause-line : goal.extents_under-requires-clause-line
+extents_under-requires-clause-line c = let cells = c.requires.cells.1 in (cell_in cells.0 (length c.args.boxes.now / c.vectors-inputs.result), centres (goal.at.extents_under-requires-clause-line c).In-loop-input cells.0 cells.1 cells.3.one_each cells.2)
 
 pub extents_under-requires-clause-few : goal.extents_under-requires-clause-few
 extents_under-requires-clause-few c = let cells = c.requires.cells.1 in omega (arith, one_each (goal.at.extents_under-requires-clause-few c).In-loop-input cells.1 cells.3.one_each, cells.3.few)
 
-pub indices_of_cells-requires-clause-cells : goal.indices_of_cells-requires-clause-cells
-indices_of_cells-requires-clause-cells c = let cells = c.requires.cells.1 in (cells.0, counted c.args.sampled.now.plant.now c.args.indices.now cells.0 cells.1 (length c.args.boxes.now) c.vectors-inputs.result cells.3.one_each c.vectors-inputs.ensures.count c.vectors-inputs.ensures.some cells.2)
+pub new-line-requires-clause-along : goal.new-line-requires-clause-along
+new-line-requires-clause-along c = omega (arith, c.states.ensures, c.args.sampled.now.within.plant.some_state)
 
-pub indices_of_cells-requires-clause-few : goal.indices_of_cells-requires-clause-few
-indices_of_cells-requires-clause-few c =
+pub new-line-requires-clause-some : goal.new-line-requires-clause-some
+new-line-requires-clause-some c =
     let cells = c.requires.cells.1 in
-    omega (arith, cells.3.few, cell_count (length c.args.boxes.now) cells.1 c.vectors-inputs.result (vectors_of c.args.sampled.now.plant.now.inputs) cells.3.one_each c.vectors-inputs.ensures.count c.vectors-inputs.ensures.some)
+    omega (arith, cells.2.0.some, cell_count (length c.args.boxes.now) cells.1 c.vectors-inputs.result (vectors_of c.args.sampled.now.plant.now.inputs) cells.3.one_each c.vectors-inputs.ensures.count c.vectors-inputs.ensures.some)
 
-pub central_columns-columns-requires : goal.central_columns-columns-requires
-central_columns-columns-requires c =
+pub new-line-requires-clause-within : goal.new-line-requires-clause-within
+new-line-requires-clause-within c =
+    let p = c.args.sampled.now.plant.now in
     let cells = c.requires.cells.1 in
     let n : ℕ = length c.args.boxes.now / c.vectors-inputs.result in
-    let from = counted c.args.sampled.now.plant.now c.args.indices.now cells.0 cells.1 (length c.args.boxes.now) c.vectors-inputs.result cells.3.one_each c.vectors-inputs.ensures.count c.vectors-inputs.ensures.some cells.2 in
-    record { pairs = λ lane lt. (cell_in cells.0 n lane, 0, c.indices_of_cells.ensures cells.0 from lane lt) }
+    subst (λ (k : ℕ). LiesInGrid p c.args.indices.now (k - 1) n) (sym c.states.ensures)
+    (cells_in_grid p c.args.sampled.now.within.plant c.args.indices.now cells.0 n (counted p c.args.indices.now cells.0 cells.1 (length c.args.boxes.now) c.vectors-inputs.result cells.3.one_each c.vectors-inputs.ensures.count c.vectors-inputs.ensures.some cells.2))
 
 pub loop-input-init : goal.loop-input-init
 loop-input-init c = record {
   long = refl;
   cells = length-take-le (length c.args.boxes.now / c.vectors-inputs.result) _ (let cells = c.requires.cells.1 in omega (arith, cells.3.few, cell_count (length c.args.boxes.now) cells.1 c.vectors-inputs.result (vectors_of c.args.sampled.now.plant.now.inputs) cells.3.one_each c.vectors-inputs.ensures.count c.vectors-inputs.ensures.some));
-  centres = λ d from. c.central_columns-columns.ensures (cell_in d (length c.args.boxes.now / c.vectors-inputs.result)) (λ lane lt. (0, c.indices_of_cells.ensures d from lane lt));
+  centres = subst (λ (k : ℕ). HaveCentresOf c.args.sampled.now.plant.now c.args.indices.now (k - 1) (length c.args.boxes.now / c.vectors-inputs.result) c.new-line.result) c.states.ensures c.new-line.ensures;
   added = λ bases d n from sums k u lt none. nothing_below u none;
   left = λ k u from short. refl;
 }
@@ -57,10 +74,7 @@ loop-input-init c = record {
 pub add_extents-requires-clause-extents : goal.add_extents-requires-clause-extents
 add_extents-requires-clause-extents c =
     let cells = c.requires.cells.1 in
-    let n : ℕ = length c.args.boxes.now / c.vectors-inputs.result in
-    let from = counted c.args.sampled.now.plant.now c.args.indices.now cells.0 cells.1 (length c.args.boxes.now) c.vectors-inputs.result cells.3.one_each c.vectors-inputs.ensures.count c.vectors-inputs.ensures.some cells.2 in
-    let hold = c.extents_under.ensures.each (cell_in cells.0 n) (c.loop-input.invariant.centres cells.0 from) in
-    (cells.0, extents_here c.args.sampled.now.plant.now cells.0 n c.loop-input.input c.args.state c.extents_under.new.extents (c.extents_under.ensures.long ∙ c.loop-input.invariant.cells) hold)
+    (cells.0, found (goal.at.add_extents-requires-clause-extents c).In-loop-input cells.0 cells.1 cells.3.one_each cells.2 c.extents_under.new.extents c.extents_under.ensures.long c.extents_under.ensures.each)
 
 pub add_extents-requires-clause-one_each : goal.add_extents-requires-clause-one_each
 add_extents-requires-clause-one_each c =
@@ -93,13 +107,10 @@ loop-input-preserved c =
     record {
       long = c.add_extents.ensures.long ∙ so_far.long;
       cells = c.extents_under.ensures.long ∙ so_far.cells;
-      centres = λ d from. c.extents_under.ensures.kept (cell_in d (length c.args.boxes.now / c.vectors-inputs.result)) (so_far.centres d from);
+      centres = λ cell on. c.extents_under.ensures.kept cell (so_far.centres cell on);
       added = λ bases d n from sums k u lt.
           let count = one_each (goal.at.loop-input-preserved c).In-loop-input n sums.one_each in
-          let size : ℕ = length c.args.boxes.now / c.vectors-inputs.result in
-          let cells = counted c.args.sampled.now.plant.now c.args.indices.now d n (length c.args.boxes.now) c.vectors-inputs.result sums.one_each c.vectors-inputs.ensures.count c.vectors-inputs.ensures.some from in
-          let hold = c.extents_under.ensures.each (cell_in d size) (so_far.centres d cells) in
-          let here = extents_here p d size input i c.extents_under.new.extents (c.extents_under.ensures.long ∙ so_far.cells) hold in
+          let here = found (goal.at.loop-input-preserved c).In-loop-input d n sums.one_each from c.extents_under.new.extents c.extents_under.ensures.long c.extents_under.ensures.each in
           let below : k < length c.extents_under.new.extents = omega (arith, lt, count, c.extents_under.ensures.long) in
           let change = c.add_extents.ensures.added k below in
           let term : IsTermAt p (d + k) input i change.0 = change.1 (d + k) input (here k below) in

@@ -9,8 +9,7 @@ use Rattle.grid_quantiser.specs.Cells.{low_of, high_of, radius_of, point_of}
 use Rattle.grid_quantiser.proofs.Suffixes.{some_cells}
 use Rattle.plant_record.specs.Description.{axis_of, axes_of}
 use Rattle.plant_record.proofs.lemmas.SoundPlants.{sound as sound_plant}
-use Rattle.successor_box.proofs.Columns.{axis_at}
-use Rattle.successor_box.proofs.Middles.{IsFirstCell, first_cell, low_at, high_at}
+use Rattle.successor_box.proofs.Middles.{axis_at, IsFirstCell, first_cell, low_at, high_at}
 use Rattle.successor_box.proofs.area.cell_offset.Goals as goal
 
 pub low-requires : goal.low-requires

@@ -1,9 +1,8 @@
-use Rattle.std.proofs.Common.{◌≡◌}
+use Rattle.std.proofs.Common.{sym}
 use Rattle.std.specs.Prelude.{pos}
-use Rattle.std.proofs.lemmas.Option.{get_or_from_slice_get}
-use Rattle.fixed_expr.specs.Expression.{NumExpr, expression_of}
-use Rattle.plant_record.specs.Steps.{equation_at}
+use Rattle.fixed_expr.specs.Expression.{NumExpr}
 use Rattle.plant_record.proofs.lemmas.SoundPlants.{sound as sound_plant}
+use Rattle.successor_box.proofs.CellRanges.{equation_is}
 use Rattle.successor_box.proofs.Steps.{formed_over}
 use Rattle.successor_box.proofs.Radii.{radii_not_negative}
 use Rattle.successor_box.proofs.slopes.deviation_at.Goals as goal
@@ -12,8 +11,8 @@ pub deviation_over-requires-clause-well_formed : goal.deviation_over-requires-cl
 deviation_over-requires-clause-well_formed c =
     let p = c.args.p.now in
     let sound = sound_plant p c.variables-count.ensures.limits.plant in
-    let is : equation_at p c.args.equation ≡ expression_of c.equation.result.now = get_or_from_slice_get p.equations c.args.equation (expression_of c.equation.result.now) (NumExpr (pos 0)) c.equation.ensures in
-    rw (c.variables-count.ensures.count, c.domain_area.ensures, ← is) (formed_over p c.args.input sound c.args.equation (NumExpr (pos 0)) c.requires.equation)
+    let is = equation_is p c.args.equation c.equation.result.now c.equation.ensures in
+    rw (c.variables-count.ensures.count, c.domain_area.ensures, is) (formed_over p c.args.input sound c.args.equation (NumExpr (pos 0)) c.requires.equation)
 
 pub deviation_over-requires-clause-not_negative : goal.deviation_over-requires-clause-not_negative
 deviation_over-requires-clause-not_negative c =
@@ -23,5 +22,5 @@ deviation_over-requires-clause-not_negative c =
 pub returns : goal.returns
 returns c =
     let p = c.args.p.now in
-    let is : equation_at p c.args.equation ≡ expression_of c.equation.result.now = get_or_from_slice_get p.equations c.args.equation (expression_of c.equation.result.now) (NumExpr (pos 0)) c.equation.ensures in
-    rw is (rw (c.variables-count.ensures.count, c.domain_area.ensures, c.requires.radii c.args.input) at c.deviation_over.ensures)
+    let is = equation_is p c.args.equation c.equation.result.now c.equation.ensures in
+    rw (sym is) (rw (c.variables-count.ensures.count, c.domain_area.ensures, c.requires.radii c.args.input) at c.deviation_over.ensures)

@@ -1,0 +1,13 @@
+use Rattle.std.proofs.Common.{◌≡◌, ℕ, ◌+◌, ◌<◌, length, get_or}
+use Rattle.std.specs.Prelude.{pos}
+use Rattle.plant_record.specs.Description.{vector_of}
+use Rattle.successor_box.specs.inside.Lines.{KeepOthers}
+use Rattle.successor_box.proofs.cell_line.set_input.Given as goal
+
+-- the values so far
+abbrev pub invariant-loop-k : goal.invariant-loop-k
+invariant-loop-k l = record {
+  long : length l.values ≡ 15;
+  set : (i : ℕ) → i < l.k → get_or l.values (length l.p.states + i) (pos 0) ≡ get_or (vector_of l.p.inputs l.input) i (pos 0);
+  others : KeepOthers l.p l.fn.values l.values;
+}

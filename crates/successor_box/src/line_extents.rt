@@ -1,0 +1,222 @@
+//! The extents of cells in a line under an input vector.
+ghost use Rattle.std.specs.Prelude.{◌≡◌, ℕ, ◌<◌, ◌≤◌, pos, length, slice_index_or};
+ghost use Rattle.base.specs.declared.limits.TheConstants.{VARIABLES_LIMIT};
+ghost use Rattle.fixed_expr.specs.declared.lanes.TheConstants.{LANES};
+ghost use Rattle.fixed_expr.specs.Expression.{expression_of};
+ghost use Rattle.fixed_expr.specs.LaneEval.{lane_of};
+ghost use Rattle.fixed_expr.specs.Value.{IsWellFormed, StaysInRange, value_of};
+ghost use Rattle.plant_record.specs.declared.version.PlantVersion.TheVariants.{One};
+ghost use Rattle.plant_record.specs.Description.{vectors_of};
+ghost use Rattle.successor_box.specs.CellLines.{HaveCentres, KeepCentres, HoldExtentsAtCentres};
+ghost use Rattle.successor_box.specs.inside.Area.{no_range};
+ghost use Rattle.successor_box.specs.inside.Lines.{HoldsInLanes, HaveValuesUnder, HoldGrowths, HoldNextIntervals, HoldExtentsAround, HoldExtentsOf, intersection_in};
+
+use crate::area::NO_RANGE;
+use crate::cell_line::{CellLine, set_input};
+use crate::extents::intersection;
+use crate::sampled::Sampled;
+use base::limits::VARIABLES_LIMIT;
+use fixed_expr::{Expr, LANES, ValuesAlong, eval, eval_along};
+use grid_quantiser::Extent;
+use interval_eval::Interval;
+use plant_record::PlantVersion;
+
+impl Sampled<'_> {
+    /// The extents of successor boxes along the axis of a state prolonged by its own length below, from which `Grid::shifted_extent`
+    /// goes on, each None where one of the box's ends leaves that too: of the first cells of a line, under an input vector. It takes
+    /// no memory, and leaves the vector's values in the line.
+    pub fn extents_under(
+        &self,
+        input: u32,
+        state: u32,
+        line: &mut CellLine,
+        extents: &mut [Option<Extent>],
+    )
+        requires input { input < vectors_of self.now.plant.now.inputs }
+        requires state { state < length self.now.plant.now.equations }
+        requires line { HaveCentres self.now.plant.now line.old }
+        requires few { length extents.old ≤ LANES }
+        ensures long { length extents.new ≡ length extents.old }
+        ensures kept { KeepCentres self.now.plant.now line.old line.new }
+        ensures each { HoldExtentsAtCentres self.now.plant.now line.old input state extents.new }
+    {
+        let p = self.plant;
+        set_input(p, input, &mut line.values);
+        let at = line.lanes(p.variables());
+        match p.plant_version() {
+            PlantVersion::One => self.growth_extents(input, state, &at, extents),
+            PlantVersion::Two => self.next_extents(input, state, &at, extents),
+        }
+    }
+
+    /// The extents between the ends of the growth bounds: at once from values in 64 bits, which most equations never leave.
+    fn growth_extents(
+        &self,
+        input: u32,
+        state: u32,
+        at: &ValuesAlong<'_>,
+        extents: &mut [Option<Extent>],
+    )
+        requires version { self.now.plant.now.version ≡ One }
+        requires input { input < vectors_of self.now.plant.now.inputs }
+        requires state { state < length self.now.plant.now.equations }
+        requires values { HaveValuesUnder self.now.plant.now input at.now }
+        requires few { length extents.old ≤ LANES }
+        ensures long { length extents.new ≡ length extents.old }
+        ensures each { HoldExtentsOf self.now.plant.now at.now input state extents.new }
+    {
+        let mut values = [0; LANES];
+        match eval_along(self.plant.equation(state), at, &mut values) {
+            Some(()) => self.narrow_extents(input, state, &values, extents),
+            None => self.next_extents(input, state, at, extents),
+        }
+    }
+
+    /// The extents between the ends of the growth bounds around these values.
+    fn narrow_extents(
+        &self,
+        input: u32,
+        state: u32,
+        values: &[i64; LANES],
+        extents: &mut [Option<Extent>],
+    )
+        requires version { self.now.plant.now.version ≡ One }
+        requires input { input < vectors_of self.now.plant.now.inputs }
+        requires state { state < length self.now.plant.now.equations }
+        requires few { length extents.old ≤ LANES }
+        ensures long { length extents.new ≡ length extents.old }
+        ensures each { HoldExtentsAround self.now.plant.now values.now input state extents.new }
+    {
+        let quantiser = self.plant.grid().extended_quantiser(state);
+        let deviation = self.slopes.of(state, input);
+        for j in 0..extents.len() {
+            extents[j] = quantiser.extent_around(i128::from(values[j]), deviation);
+        }
+    }
+
+    /// The extents between the ends of where an equation leads: in version 1 only where a value leaves 64 bits.
+    fn next_extents(
+        &self,
+        input: u32,
+        state: u32,
+        at: &ValuesAlong<'_>,
+        extents: &mut [Option<Extent>],
+    )
+        requires input { input < vectors_of self.now.plant.now.inputs }
+        requires state { state < length self.now.plant.now.equations }
+        requires values { HaveValuesUnder self.now.plant.now input at.now }
+        requires few { length extents.old ≤ LANES }
+        ensures long { length extents.new ≡ length extents.old }
+        ensures each { HoldExtentsOf self.now.plant.now at.now input state extents.new }
+    {
+        let next_intervals = self.next_intervals(input, state, at);
+        let quantiser = self.plant.grid().extended_quantiser(state);
+        for j in 0..extents.len() {
+            extents[j] = quantiser.extent(next_intervals[j].lo, next_intervals[j].hi);
+        }
+    }
+
+    /// Where an equation leads from each cell.
+    fn next_intervals(&self, input: u32, state: u32, at: &ValuesAlong<'_>) -> [Interval; LANES]
+        requires input { input < vectors_of self.now.plant.now.inputs }
+        requires state { state < length self.now.plant.now.equations }
+        requires values { HaveValuesUnder self.now.plant.now input at.now }
+        ensures { HoldNextIntervals self.now.plant.now at.now input state result }
+    {
+        let growth_intervals = self.growth_intervals(input, state, at);
+        match self.plant.plant_version() {
+            PlantVersion::One => growth_intervals,
+            PlantVersion::Two => intersections(&growth_intervals, &self.spans(input, state, at)),
+        }
+    }
+
+    /// The value of an equation at the centre of each cell, less and plus how far it moves within the cell.
+    fn growth_intervals(&self, input: u32, state: u32, at: &ValuesAlong<'_>) -> [Interval; LANES]
+        requires input { input < vectors_of self.now.plant.now.inputs }
+        requires state { state < length self.now.plant.now.equations }
+        requires values { HaveValuesUnder self.now.plant.now input at.now }
+        ensures { HoldGrowths self.now.plant.now at.now input state result }
+    {
+        let next = values_in_lanes(self.plant.equation(state), at);
+        let mut growth_intervals = [NO_RANGE; LANES];
+        for j in 0..LANES {
+            growth_intervals[j] = self.growth(next[j], input, state);
+        }
+        growth_intervals
+    }
+}
+
+/// What the intervals of each lane have in common.
+fn intersections(first: &[Interval; LANES], second: &[Interval; LANES]) -> [Interval; LANES]
+    ensures { HoldsInLanes no_range (intersection_in first.now second.now) result }
+{
+    let mut intersections = [NO_RANGE; LANES];
+    for j in 0..LANES {
+        intersections[j] = intersection(first[j], second[j]);
+    }
+    intersections
+}
+
+/// The value of an expression in each lane: in 64 bits for all at once, or lane by lane where that leaves them.
+fn values_in_lanes(e: &Expr, at: &ValuesAlong<'_>) -> [i128; LANES]
+    requires formed { IsWellFormed (expression_of e.now) (length at.now.values.now) }
+    requires few { length at.now.values.now ≤ VARIABLES_LIMIT }
+    requires along { at.now.along < length at.now.values.now }
+    requires fits { (j : ℕ) → j < LANES → StaysInRange (expression_of e.now) (lane_of at.now j) }
+    ensures { HoldsInLanes (pos 0) (λ j. value_of (expression_of e.now) (lane_of at.now j)) result }
+{
+    let mut narrow = [0; LANES];
+    match eval_along(e, at, &mut narrow) {
+        Some(()) => widened(&narrow),
+        None => wide_values_in_lanes(e, at),
+    }
+}
+
+/// The same numbers in 128 bits.
+#[inline]
+fn widened(narrow: &[i64; LANES]) -> [i128; LANES]
+    ensures { HoldsInLanes (pos 0) (λ j. slice_index_or narrow.now j (pos 0)) result }
+{
+    let mut wide = [0; LANES];
+    for j in 0..LANES {
+        wide[j] = i128::from(narrow[j]);
+    }
+    wide
+}
+
+/// The value of an expression in each lane, one lane after the other.
+#[cold]
+fn wide_values_in_lanes(e: &Expr, at: &ValuesAlong<'_>) -> [i128; LANES]
+    requires formed { IsWellFormed (expression_of e.now) (length at.now.values.now) }
+    requires few { length at.now.values.now ≤ VARIABLES_LIMIT }
+    requires along { at.now.along < length at.now.values.now }
+    requires fits { (j : ℕ) → j < LANES → StaysInRange (expression_of e.now) (lane_of at.now j) }
+    ensures { HoldsInLanes (pos 0) (λ j. value_of (expression_of e.now) (lane_of at.now j)) result }
+{
+    let mut values = [0; LANES];
+    for j in 0..LANES {
+        values[j] = value_in_lane(e, at, j);
+    }
+    values
+}
+
+/// The value of an expression in one lane.
+fn value_in_lane(e: &Expr, at: &ValuesAlong<'_>, j: usize) -> i128
+    requires formed { IsWellFormed (expression_of e.now) (length at.now.values.now) }
+    requires few { length at.now.values.now ≤ VARIABLES_LIMIT }
+    requires along { at.now.along < length at.now.values.now }
+    requires lane { j < LANES }
+    requires fits { StaysInRange (expression_of e.now) (lane_of at.now j) }
+    ensures { result ≡ value_of (expression_of e.now) (lane_of at.now j) }
+{
+    let count = at.values.len();
+    let mut values = [0; VARIABLES_LIMIT];
+    for k in 0..count {
+        values[k] = i128::from(at.values[k]);
+    }
+    values[at.along as usize] = i128::from(at.column[j]);
+    match eval(e, &values[..count]) {
+        Some(value) => value,
+        None => unreachable!(),
+    }
+}
