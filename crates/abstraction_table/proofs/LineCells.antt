@@ -1,8 +1,8 @@
 -- Cells in a row differ in the place along the last state alone.
-use Rattle.std.proofs.Common.{◌≡◌, ◌≢◌, ℕ, zero, suc, ◌+◌, ◌*◌, ◌/◌, ◌%◌, ◌<◌, ◌≤◌, List, [], ◌∷◌, All, Bool, true, false, length, drop, set, get_or, get_or-set_other, get_or-set_same, refl, sym, ap, subst, ◌∙◌, arith, inl, inr}
-use Rattle.std.specs.Prelude.{IsTrue, if◌then◌else◌}
+use Rattle.std.proofs.Common.{◌≡◌, ◌≢◌, ℕ, zero, suc, ◌+◌, ◌*◌, ◌/◌, ◌%◌, ◌<◌, ◌≤◌, List, [], ◌∷◌, All, Bool, true, false, eqb, length, drop, set, get_or, get_or-set_other, get_or-set_same, refl, sym, ap, subst, ◌∙◌, arith, inl, inr}
+use Rattle.std.specs.Prelude.{◌==◌, IsTrue, if◌then◌else◌}
 use Rattle.std.proofs.Math.Nat.{mul_assoc, mul_comm, div-div-eq-div-mul, div-one, div-add-mod'}
-use Rattle.std.proofs.lemmas.Bool.{cases_lt}
+use Rattle.std.proofs.lemmas.Bool.{cases_lt, cond_both, eqb-true, eqb-false}
 use Rattle.std.proofs.lemmas.List.{length-map, drop_all}
 use Rattle.std.proofs.lemmas.List.Elements.{All-weaker}
 use Rattle.std.proofs.lemmas.Nat.{div-mul-add, mod-mul-add}
@@ -16,9 +16,9 @@ use Rattle.successor_box.specs.PairExtents.{index_in, moves_along}
 use Rattle.abstraction_table.specs.declared.digits.Digit.{Digit}
 use Rattle.abstraction_table.specs.declared.terms.TermTable.{TermTable}
 use Rattle.abstraction_table.specs.inside.CellLines.{last_state, line_length, AreInLine, IsInLineOf, StaysAlongLines}
-use Rattle.abstraction_table.specs.inside.Terms.{AreIndicesOf, BringAs, IsTermTableOf}
+use Rattle.abstraction_table.specs.inside.Terms.{AreIndicesOf, step_of, Brings, IsTermTableOf}
 use Rattle.abstraction_table.specs.inside.Digits.{slot_at}
-use Rattle.abstraction_table.proofs.PackedDigits.{same_slots}
+use Rattle.abstraction_table.proofs.PackedDigits.{next_digit, same_slots}
 use Rattle.abstraction_table.proofs.PairDigits.{state_slot, no_value_index}
 
 -- the cells along the later axes are whole rows
@@ -79,8 +79,8 @@ module _ (p : Description) (plant : IsPlant p) where
   same_moves i c d false lt same stays = refl
 
   -- what brings to a table what a cell does, does so for its whole row
-  pub brings_in_row : (i : ℕ) (t : TermTable) (indices : List ℕ) (c d : ℕ) → i < length p.states → IsTermTableOf p i t → StaysAlongLines (last_state p) i t → IsInLineOf p c d → BringAs p i t indices c → BringAs p i t indices d
-  brings_in_row i t indices c d lt held stays row brought = record {
+  pub brings_in_row : (i : ℕ) (t : TermTable) (first own c d : ℕ) → i < length p.states → IsTermTableOf p i t → StaysAlongLines (last_state p) i t → IsInLineOf p c d → Brings p i t first own c → Brings p i t first own d
+  brings_in_row i t first own c d lt held stays row brought = record {
     cell = row.0;
     first = brought.first ∙ same_first c d t.digits.items row.1 stays.digits;
     moves = brought.moves ∙ same_moves i c d (moves_along p i) lt row.1 (λ moves. stays.moves (subst IsTrue (sym held.moves) moves));
@@ -94,6 +94,44 @@ module _ (p : Description) (plant : IsPlant p) where
   later_place c k n row lt =
       let last : last_state p < length p.states = omega (arith, plant.some_state) in
       omega (arith, state_slot p c 0 (last_state p) last, state_slot p (c + k) 0 (last_state p) last, last_slot (axes_of p) (last_state p) c long, last_slot (axes_of p) (last_state p) (c + k) long, (line_step c k (line_length p) (omega (arith, row.row, lt))).1)
+
+  -- the index of a cell further in the row
+  place_in_line : (c k n j : ℕ) → AreInLine p c n → k < n → index_in p (c + k) 0 j ≡ index_in p c 0 j + k * (if j == last_state p then 1 else 0)
+  place_in_line c k n j row lt =
+      cond_both (eqb j (last_state p)) 1 0 (λ (m : ℕ). index_in p (c + k) 0 j ≡ index_in p c 0 j + k * m)
+      (λ own. let is = eqb-true j (last_state p) own in omega (arith, later_place c k n row lt, ap (index_in p c 0) is, ap (index_in p (c + k) 0) is))
+      (λ other. omega (arith, same_place c k n j row lt (eqb-false j (last_state p) other)))
+
+  -- what it brings to a table, and by how much it moves the extents
+  first_in_line : (c k n : ℕ) (ds : List Digit) → AreInLine p c n → k < n → slot_at ds (index_in p (c + k) 0) ≡ slot_at ds (index_in p c 0) + k * slot_at ds (λ (j : ℕ). if j == last_state p then 1 else 0)
+  first_in_line c k n [] row lt = omega arith
+  first_in_line c k n (d ∷ ds) row lt =
+      let unit : ℕ → ℕ = λ j. if j == last_state p then 1 else 0 in
+      let here = ap (λ (m : ℕ). m * d.stride) (place_in_line c k n d.variable row lt) in
+      omega (arith, here, first_in_line c k n ds row lt, next_digit (index_in p (c + k) 0) d ds, next_digit (index_in p c 0) d ds, ap (λ (m : ℕ). k * m) (next_digit unit d ds))
+
+  moved_in_line : (i c k n : ℕ) (b : Bool) → i < length p.states → AreInLine p c n → k < n →
+      (if b then index_along (axes_of p) i c else 0) + k * (if b then (if i == last_state p then 1 else 0) else 0) ≡ (if b then index_along (axes_of p) i (c + k) else 0)
+  moved_in_line i c k n true lt row within = omega (arith, state_slot p c 0 i lt, state_slot p (c + k) 0 i lt, place_in_line c k n i row within)
+  moved_in_line i c k n false lt row within = omega arith
+
+  -- where a row has one cell, the step is of no account
+  pub brings_in_line : (i : ℕ) (t : TermTable) (c k n first own step own_step : ℕ) → i < length p.states → t.moves ≡ moves_along p i → AreInLine p c n → k < n →
+      (1 < n → step ≡ step_of t (last_state p)) → own_step ≡ (if t.moves then (if i == last_state p then 1 else 0) else 0) → Brings p i t first own c → Brings p i t (first + k * step) (own + k * own_step) (c + k)
+  brings_in_line i t c k n first own step own_step lt moves row within step_is own_is brought =
+      let steps : k * step ≡ k * step_of t (last_state p) =
+      elim (cases_lt 1 n) [
+        | inl more ↦ ap (λ (m : ℕ). k * m) (step_is more)
+        | inr one ↦ let none : k ≡ 0 = omega (arith, within, one) in omega (arith, ap (λ (m : ℕ). m * step) none, ap (λ (m : ℕ). m * step_of t (last_state p)) none)
+      ]
+      in
+      let unit : ℕ = if i == last_state p then 1 else 0 in
+      let own_by : own_step ≡ (if moves_along p i then unit else 0) = own_is ∙ ap (λ (b : Bool). if b then unit else 0) moves in
+      record {
+        cell = omega (arith, row.within, within);
+        first = omega (arith, brought.first, steps, first_in_line c k n t.digits.items row within);
+        moves = omega (arith, brought.moves, ap (λ (m : ℕ). k * m) own_by, moved_in_line i c k n (moves_along p i) lt row within);
+      }
 
   -- the indices of a cell further in the row
   pub indices_in_line : (c k n first : ℕ) (indices : List ℕ) → AreInLine p c n → k < n → last_state p < length indices → first ≡ index_in p c 0 (last_state p) →

@@ -1,6 +1,6 @@
 -- Terms that are listed, added to the boxes of a cell.
 use Rattle.std.proofs.Common.{◌≡◌, ℕ, ◌+◌, ◌-◌, ◌^◌, ◌<◌, ◌≤◌, List, All, Option, None, take, drop, length, get_or, refl, sym, ap, subst, ◌∙◌, arith}
-use Rattle.std.specs.Prelude.{IfSome, if◌then◌else◌}
+use Rattle.std.specs.Prelude.{IfSome}
 use Rattle.std.specs.Global.{Vec}
 use Rattle.std.proofs.lemmas.List.{length-take-le, length-drop, get_or-take, get_or-drop, get_or_default}
 use Rattle.grid_quantiser.specs.declared.boxes.CellBox.{CellBox}
@@ -11,26 +11,25 @@ use Rattle.abstraction_table.specs.declared.terms.Terms.{Terms}
 use Rattle.abstraction_table.specs.declared.terms.Terms.TheVariants.{Listed}
 use Rattle.abstraction_table.specs.declared.terms.TermTable.{TermTable}
 use Rattle.abstraction_table.specs.inside.Sums.{plus}
-use Rattle.abstraction_table.specs.inside.Terms.{first_in, count_of, HasTermAt, IsTermAt, Brings, BringAs, IsSumAlong, AreSumsAlong, IsTermTableOf}
+use Rattle.abstraction_table.specs.inside.Terms.{count_of, HasTermAt, IsTermAt, Brings, IsSumAlong, AreSumsAlong, IsTermTableOf}
 use Rattle.abstraction_table.proofs.BoxSums.{ends_fit, term_few, rest_more}
 use Rattle.abstraction_table.proofs.PairDigits.{some_vectors}
-use Rattle.abstraction_table.proofs.TermTables.{brought_by, has_term, slot_within}
+use Rattle.abstraction_table.proofs.TermTables.{has_term, slot_within}
 
 -- the last cell of a box is below this
 abbrev Fits28 : Option CellBox → Type 0
 Fits28 b = IfSome b (λ (b : CellBox). b.last < 2 ^ 28)
 
--- The terms of a state are listed, and a cell of these indices finds its own from a slot on.
-pub record FindsTerms (p : Description) (i : ℕ) (t : TermTable) (indices : List ℕ) (first : ℕ) (terms : List (Option CellBox)) : Type 0 where
+-- The terms of a state are listed.
+pub record FindsTerms (p : Description) (i : ℕ) (t : TermTable) (terms : List (Option CellBox)) : Type 0 where
   pub limits : IsWithinLimits p
   pub state : i < length p.equations
   pub held : IsTermTableOf p i t
-  pub first_is : first ≡ first_in t indices
   pub listed : Vec (Option CellBox)
   pub is : t.terms ≡ Listed listed
   pub terms_are : terms ≡ listed.items
 
-module _ {p : Description} {i : ℕ} {t : TermTable} {indices : List ℕ} {first : ℕ} {terms : List (Option CellBox)} (f : FindsTerms p i t indices first terms) where
+module _ {p : Description} {i : ℕ} {t : TermTable} {terms : List (Option CellBox)} (f : FindsTerms p i t terms) (first own : ℕ) where
   count_is : count_of t.terms ≡ length terms
   count_is = ap count_of f.is ∙ sym (ap length f.terms_are)
 
@@ -41,15 +40,9 @@ module _ {p : Description} {i : ℕ} {t : TermTable} {indices : List ℕ} {first
   abbrev pub found : List (Option CellBox)
   found = take (length terms - first) (drop first terms)
 
-  abbrev own : ℕ
-  own = if t.moves then get_or indices i 0 else 0
-
-  module _ (c : ℕ) (brought : BringAs p i t indices c) where
-    by : Brings p i t first own c
-    by = brought_by p i t indices first own c f.first_is refl brought
-
+  module _ (c : ℕ) (brought : Brings p i t first own c) where
     within : (u : ℕ) → u < vectors_of p.inputs → first + get_or t.inputs.items u 0 < length terms
-    within u input = omega (arith, count_is, slot_within p (sound_plant p f.limits.plant) i f.state t f.held first own u (first + get_or t.inputs.items u 0) refl c by input)
+    within u input = omega (arith, count_is, slot_within p (sound_plant p f.limits.plant) i f.state t f.held first own u (first + get_or t.inputs.items u 0) refl c brought input)
 
     pub first_within : first ≤ length terms
     first_within = omega (arith, within 0 (some_vectors p f.limits.plant))
@@ -64,7 +57,7 @@ module _ {p : Description} {i : ℕ} {t : TermTable} {indices : List ℕ} {first
     term_found u input =
         let n : ℕ = get_or t.inputs.items u 0 in
         let read : get_or found n None ≡ get_or terms (first + n) None = get_or-take (length terms - first) (drop first terms) n None (omega (arith, within u input)) ∙ get_or-drop first terms n None in
-        subst (IsTermAt p c u i) (sym read) (term_is c u (first + n) (has_term p (sound_plant p f.limits.plant) i f.state t f.held first own u (first + n) refl c u by input refl))
+        subst (IsTermAt p c u i) (sym read) (term_is c u (first + n) (has_term p (sound_plant p f.limits.plant) i f.state t f.held first own u (first + n) refl c u brought input refl))
 
     pub terms_fit : All (λ (n : ℕ). Fits28 (get_or found n None)) t.inputs.items
     terms_fit k d short =

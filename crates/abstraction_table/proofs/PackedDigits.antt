@@ -10,7 +10,7 @@ use Rattle.successor_box.specs.PairExtents.{depends_on, index_in}
 use Rattle.abstraction_table.specs.declared.digits.Digit.{Digit}
 use Rattle.abstraction_table.specs.inside.Digits.{count_in, slot_at, index_at, IsDigitOf, HasDigit, ArePacked}
 
-next_digit : (f : ℕ → ℕ) (d : Digit) (ds : List Digit) → slot_at (d ∷ ds) f ≡ f d.variable * d.stride + slot_at ds f
+pub next_digit : (f : ℕ → ℕ) (d : Digit) (ds : List Digit) → slot_at (d ∷ ds) f ≡ f d.variable * d.stride + slot_at ds f
 next_digit f d ds = sum_by-cons (λ (d : Digit). f d.variable * d.stride) d ds
 
 -- ---- the slot that has indices below the counts

@@ -1,12 +1,13 @@
 -- Tables of the terms of all boxes.
-use Rattle.std.proofs.Common.{◌≡◌, ℕ, ◌+◌, ◌^◌, ◌<◌, ◌-◌, List, [], ◌∷◌, ◌++◌, All, length, get_or, Bool, refl, sym, ap, ap₂, subst, ◌∙◌, arith, inl, inr}
+use Rattle.std.proofs.Common.{◌≡◌, ℕ, ◌+◌, ◌/◌, ◌^◌, ◌<◌, ◌≤◌, ◌-◌, List, [], ◌∷◌, ◌++◌, All, length, drop, get_or, Bool, refl, sym, ap, ap₂, subst, ◌∙◌, arith, inl, inr}
 use Rattle.std.specs.Prelude.{if◌then◌else◌, IsTrue}
+use Rattle.std.proofs.Math.Nat.{mod-le, div-le_self}
 use Rattle.std.proofs.lemmas.Bool.{cases_lt, cond_both}
 use Rattle.std.proofs.lemmas.List.{length-map, get_or_append_left, get_or-append_right}
 use Rattle.std.proofs.lemmas.List.Elements.{All-get_or, All-weaker}
 use Rattle.grid_quantiser.specs.Axes.{IsAxis, no_axis, cells_of}
 use Rattle.grid_quantiser.specs.Indices.{index_along}
-use Rattle.grid_quantiser.proofs.OwnIndices.{index_along_below}
+use Rattle.grid_quantiser.proofs.OwnIndices.{index_along_is, index_along_below}
 use Rattle.plant_record.specs.Description.{Description, axis_of, axes_of, vectors_of}
 use Rattle.plant_record.specs.Plants.{IsPlant}
 use Rattle.plant_record.specs.Soundness.{IsSound}
@@ -15,7 +16,7 @@ use Rattle.abstraction_table.specs.declared.digits.Digit.{Digit}
 use Rattle.abstraction_table.specs.declared.terms.StateTerms.{StateTerms}
 use Rattle.abstraction_table.specs.declared.terms.TermTable.{TermTable}
 use Rattle.abstraction_table.specs.inside.ExtentTables.{first_of}
-use Rattle.abstraction_table.specs.inside.Terms.{AreIndicesOf, first_in, count_of, HasTermAt, Brings, BringAs, IsTermTableOf, AreTermsOf}
+use Rattle.abstraction_table.specs.inside.Terms.{AreIndicesOf, first_in, count_of, HasTermAt, Brings, IsTermTableOf, AreTermsOf}
 use Rattle.abstraction_table.proofs.PackedDigits.{slot_is}
 use Rattle.abstraction_table.proofs.PairDigits.{state_slot, some_vectors}
 
@@ -48,26 +49,30 @@ pub first_is : (p : Description) (t : TermTable) (c : ℕ) (indices : List ℕ) 
 first_is p t c indices each are = slot_is p c 0 indices t.digits.items each are
 
 -- a cell's indices bring to each table what the cell does
-pub brings : (p : Description) → IsSound p → (i : ℕ) (t : TermTable) (c : ℕ) (indices : List ℕ) → i < length p.equations → IsTermTableOf p i t → c < cells_of (axes_of p) → AreIndicesOf p c indices → BringAs p i t indices c
-brings p sound i t c indices lt held cell are =
+pub brings : (p : Description) → IsSound p → (i : ℕ) (t : TermTable) (c first own : ℕ) (indices : List ℕ) → i < length p.equations → IsTermTableOf p i t → c < cells_of (axes_of p) → AreIndicesOf p c indices →
+    first ≡ first_in t indices → own ≡ (if t.moves then get_or indices i 0 else 0) → Brings p i t first own c
+brings p sound i t c first own indices lt held cell are first_by own_by =
     let state : i < length p.states = omega (arith, lt, sound.one_each) in
     let here : get_or indices i 0 ≡ index_along (axes_of p) i c = are i (omega (arith, state)) ∙ sym (state_slot p c 0 i state) in
     record {
       cell = cell;
-      first = first_is p t c indices held.digits are;
-      moves = ap₂ (λ (b : Bool) (n : ℕ). if b then n else 0) held.moves here;
+      first = first_by ∙ first_is p t c indices held.digits are;
+      moves = own_by ∙ ap₂ (λ (b : Bool) (n : ℕ). if b then n else 0) held.moves here;
     }
 
 -- the variables are among the nine
 pub variables_few : (p : Description) → IsPlant p → (ds : List Digit) → All (HasVariable p) ds → All (λ (d : Digit). d.variable < 9) ds
 variables_few p plant ds each = All-weaker (HasVariable p) (λ (d : Digit). d.variable < 9) (λ d h. omega (arith, h, plant.states_bound, plant.inputs_bound)) ds each
 
--- what indices bring is among the terms
-pub first_fits : (p : Description) → IsPlant p → (i : ℕ) (t : TermTable) (indices : List ℕ) (c : ℕ) → IsTermTableOf p i t → BringAs p i t indices c → first_in t indices < 2 ^ 32
-first_fits p plant i t indices c held brought = omega (arith, brought.first, held.slot c 0 brought.cell (some_vectors p plant), held.few)
+-- what a cell brings is among the terms, and it moves the extents by no more than it is
+pub first_fits : (p : Description) → IsPlant p → (i : ℕ) (t : TermTable) (first own c : ℕ) → IsTermTableOf p i t → Brings p i t first own c → first < 2 ^ 32
+first_fits p plant i t first own c held brought = omega (arith, brought.first, held.slot c 0 brought.cell (some_vectors p plant), held.few)
 
-pub brought_by : (p : Description) (i : ℕ) (t : TermTable) (indices : List ℕ) (first own c : ℕ) → first ≡ first_in t indices → own ≡ (if t.moves then get_or indices i 0 else 0) → BringAs p i t indices c → Brings p i t first own c
-brought_by p i t indices first own c first_is own_is brought = record { cell = brought.cell; first = first_is ∙ brought.first; moves = own_is ∙ brought.moves }
+pub own_few : (p : Description) (i : ℕ) (t : TermTable) (first own c : ℕ) → Brings p i t first own c → own ≤ c
+own_few p i t first own c brought =
+    let later : ℕ = cells_of (drop (i + 1) (axes_of p)) in
+    let along : index_along (axes_of p) i c ≤ c = omega (arith, index_along_is (axes_of p) i c, mod-le (c / later) (get_or (axes_of p) i no_axis).count, div-le_self c later) in
+    subst (λ (n : ℕ). n ≤ c) (sym brought.moves) (cond_both (moves_along p i) (index_along (axes_of p) i c) 0 (λ (n : ℕ). n ≤ c) (λ moves. along) (λ fixed. omega arith))
 
 -- in a free table each input brings nothing
 pub none_brought : (p : Description) (i : ℕ) (t : TermTable) (u : ℕ) → IsTermTableOf p i t → IsTrue t.free → u < vectors_of p.inputs → get_or t.inputs.items u 0 ≡ 0

@@ -8,7 +8,7 @@ ghost use Rattle.plant_record.specs.Description.{axes_of, vectors_of};
 ghost use Rattle.plant_record.specs.Limits.{IsWithinLimits};
 ghost use Rattle.abstraction_table.specs.inside.Sums.{plus, term_under, AreChangedBy};
 ghost use Rattle.abstraction_table.specs.inside.CellLines.{AreInputsOfLine, AreSumsOfLine, AreCopiedTo, AreSumsOfCells, HaveCells, AddsToCells, BecomeWhole, BecomeBoxes, AreBoxesFrom};
-ghost use Rattle.abstraction_table.specs.inside.Terms.{AreIndicesOf, Brings, BringAs, IsFreeTerm, AreSumsAlong, HasSums, AddsTerms, AddsState, IsTermTableOf, AreTermTablesOf};
+ghost use Rattle.abstraction_table.specs.inside.Terms.{AreIndicesOf, Brings, AreSumsAlong, HasSums, AddsTerms, AddsState, IsTermTableOf, AreTermTablesOf};
 ghost use Rattle.abstraction_table.specs.declared.pair_box.TheConstants.{SUMS_LIMIT};
 
 use crate::pair_box::PairBox;
@@ -17,7 +17,10 @@ use crate::terms::{StateTerms, TermTable, Terms};
 use fixed_expr::LANES;
 use grid_quantiser::CellBox;
 use plant_record::Plant;
-use successor_box::{INDEX_COLUMNS, Sampled};
+use successor_box::{INDICES_LIMIT, Sampled};
+
+/// The boxes of about so many pairs are gone over at once.
+const PAIRS_AT_ONCE: usize = 256;
 
 /// The boxes of cells in a row, one for each input, which differ in the place along the last state alone. What the
 /// first states bring is the same along the row, and is found once: the first cell's boxes keep it for the others.
@@ -40,7 +43,7 @@ pub(crate) fn boxes_in_line(
     let first = indices[last];
     let early = add_early(p, tables, &indices, &mut boxes[..inputs]);
     let cells = boxes.len() / inputs;
-    let size = cells_at_once(&tables[early..]);
+    let size = cells_at_once(inputs, &tables[early..]);
     for block in (0..cells.div_ceil(size)).rev() {
         let start = block * size;
         let end = cells.min(start + size);
@@ -55,7 +58,7 @@ pub(crate) fn boxes_in_line(
 fn add_early(
     p: &Plant,
     tables: &[StateTerms],
-    indices: &[u32; INDEX_COLUMNS],
+    indices: &[u32; INDICES_LIMIT],
     boxes: &mut [PairBox],
 ) -> usize
     requires plant { IsWithinLimits p.now }
@@ -75,13 +78,17 @@ fn add_early(
         if !table.stays_along_lines(state as u32, last) {
             return state;
         }
-        add_terms(p, table, state as u32, indices, boxes);
+        let first = table.first(indices);
+        let own = table.shifted_by(indices[state]);
+        add_terms(p, table, state as u32, first, own, boxes);
     }
     tables.len()
 }
 
-/// How many cells are gone over at once: as many as have their extents found at once, where a state is without a table.
-fn cells_at_once(late: &[StateTerms]) -> usize
+/// How many cells are gone over at once: as many as have their extents found at once, where a state is without a table, and
+/// else so many that their boxes stay in fast memory while one state's terms after another are added.
+fn cells_at_once(inputs: usize, late: &[StateTerms]) -> usize
+    requires { 0 < inputs }
     ensures some { 1 ≤ result }
     ensures few { result ≤ LANES }
 {
@@ -90,7 +97,7 @@ fn cells_at_once(late: &[StateTerms]) -> usize
             return LANES;
         }
     }
-    1
+    (PAIRS_AT_ONCE / inputs).max(1).min(LANES)
 }
 
 /// Copies the boxes of the first cell to the cells from one up to another.
@@ -114,7 +121,7 @@ fn add_late(
     sampled: &Sampled<'_>,
     tables: &[StateTerms],
     from: usize,
-    indices: &[u32; INDEX_COLUMNS],
+    indices: &[u32; INDICES_LIMIT],
     boxes: &mut [PairBox],
 )
     requires tables { AreTermTablesOf sampled.now.plant.now tables.now }
@@ -143,7 +150,7 @@ fn add_table(
     p: &Plant,
     table: &TermTable,
     state: u32,
-    indices: &[u32; INDEX_COLUMNS],
+    indices: &[u32; INDICES_LIMIT],
     bases: &mut [PairBox; LANES],
     boxes: &mut [PairBox],
 )
@@ -155,13 +162,19 @@ fn add_table(
     ensures added { AddsToCells p.now state indices.now bases.old bases.new boxes.old boxes.new }
 {
     let inputs = p.vectors() as usize;
-    let last = p.states() as usize - 1;
-    let mut of_cell = *indices;
-    for cell in 0..boxes.len() / inputs {
-        of_cell[last] = indices[last] + cell as u32;
+    let last = p.states() - 1;
+    let cells = boxes.len() / inputs;
+    let first = table.first(indices);
+    // One cell alone makes no step, and none then needs to fit.
+    let step = if cells > 1 { table.step(last) } else { 0 };
+    let own = table.shifted_by(indices[state as usize]);
+    let own_step = table.shifted_by(u32::from(state == last));
+    for cell in 0..cells {
+        let slot = first + cell as u32 * step;
+        let own = own + cell as u32 * own_step;
         let at = cell * inputs;
         let cell_boxes = &mut boxes[at..at + inputs];
-        bases[cell] = add_state(p, table, state, &of_cell, bases[cell], cell_boxes);
+        bases[cell] = add_state(p, table, state, slot, own, bases[cell], cell_boxes);
     }
 }
 
@@ -179,69 +192,46 @@ fn add_bases(p: &Plant, bases: &[PairBox; LANES], boxes: &mut [PairBox])
     }
 }
 
-/// Adds the terms of a state to the boxes of a cell, or to the sum of what is the same under all inputs.
+/// Adds the terms of a state to the boxes of a cell that brings `first` and moves the extents so many indices, or to the sum of
+/// what is the same under all inputs.
 #[inline]
 fn add_state(
     p: &Plant,
     table: &TermTable,
     state: u32,
-    indices: &[u32; INDEX_COLUMNS],
+    first: u32,
+    own: u32,
     base: PairBox,
     boxes: &mut [PairBox],
 ) -> PairBox
     requires plant { IsWithinLimits p.now }
     requires table { IsTermTableOf p.now state table.now }
     requires state { state < length p.now.equations }
-    requires cell { (c : ℕ) × BringAs p.now state table.now indices.now c × AreSumsAlong p.now state c base boxes.old }
+    requires cell { (c : ℕ) × Brings p.now state table.now first own c × AreSumsAlong p.now state c base boxes.old }
     requires one_each { length boxes.old ≡ vectors_of p.now.inputs }
     ensures long { length boxes.new ≡ length boxes.old }
-    ensures added { AddsState p.now state (BringAs p.now state table.now indices.now) base result boxes.old boxes.new }
+    ensures added { AddsState p.now state (Brings p.now state table.now first own) base result boxes.old boxes.new }
 {
     if !table.free {
-        add_terms(p, table, state, indices, boxes);
+        add_terms(p, table, state, first, own, boxes);
         return base;
     }
-    base.plus(free_term(p, table, state, indices))
+    base.plus(table.term(p, state, first, own, 0))
 }
 
-/// The term of a state that depends on no input.
-#[inline]
-fn free_term(p: &Plant, table: &TermTable, state: u32, indices: &[u32; INDEX_COLUMNS]) -> PairBox
+/// Adds the terms of a state to the boxes of such a cell, one for each input.
+fn add_terms(p: &Plant, table: &TermTable, state: u32, first: u32, own: u32, boxes: &mut [PairBox])
     requires plant { IsWithinLimits p.now }
     requires table { IsTermTableOf p.now state table.now }
     requires state { state < length p.now.equations }
-    requires cell { (c : ℕ) × BringAs p.now state table.now indices.now c }
-    requires free { IsTrue table.now.free }
-    ensures { IsFreeTerm p.now state (BringAs p.now state table.now indices.now) result }
-{
-    let first = table.first(indices);
-    let own = table.shifted_by(indices[state as usize]);
-    table.term(p, state, first, own, 0)
-}
-
-/// Adds the terms of a state to the boxes of a cell, one for each input.
-fn add_terms(
-    p: &Plant,
-    table: &TermTable,
-    state: u32,
-    indices: &[u32; INDEX_COLUMNS],
-    boxes: &mut [PairBox],
-)
-    requires plant { IsWithinLimits p.now }
-    requires table { IsTermTableOf p.now state table.now }
-    requires state { state < length p.now.equations }
-    requires cell { HasSums p.now state (BringAs p.now state table.now indices.now) boxes.old }
+    requires cell { HasSums p.now state (Brings p.now state table.now first own) boxes.old }
     requires one_each { length boxes.old ≡ vectors_of p.now.inputs }
     ensures long { length boxes.new ≡ length boxes.old }
-    ensures added { AddsTerms p.now state (BringAs p.now state table.now indices.now) boxes.old boxes.new }
+    ensures added { AddsTerms p.now state (Brings p.now state table.now first own) boxes.old boxes.new }
 {
-    let first = table.first(indices);
     match &table.terms {
         Terms::Listed(terms) => add_listed(&table.inputs, &terms[first as usize..], boxes),
-        Terms::Moved(_) => {
-            let own = table.shifted_by(indices[state as usize]);
-            add_moved(p, table, state, first, own, boxes)
-        }
+        Terms::Moved(_) => add_moved(p, table, state, first, own, boxes),
     }
 }
 
@@ -293,12 +283,12 @@ fn add_base(base: PairBox, boxes: &mut [PairBox])
 
 /// The indices of a cell along the axes, and 0 for each input variable.
 #[inline]
-fn indices_of(p: &Plant, c: u32) -> [u32; INDEX_COLUMNS]
+fn indices_of(p: &Plant, c: u32) -> [u32; INDICES_LIMIT]
     requires { IsWithinLimits p.now }
     ensures { AreIndicesOf p.now c result }
 {
     let along = p.grid().indices(c);
-    let mut indices = [0; INDEX_COLUMNS];
+    let mut indices = [0; INDICES_LIMIT];
     for state in 0..p.states() {
         indices[state as usize] = along[state as usize];
     }

@@ -3,12 +3,12 @@ ghost use Rattle.std.specs.Prelude.{◌≡◌, ℕ, ◌+◌, ◌*◌, ◌^◌, �
 ghost use Rattle.std.specs.List.{All};
 ghost use Rattle.plant_record.specs.Limits.{IsWithinLimits};
 ghost use Rattle.successor_box.specs.PairExtents.{depends_on};
-ghost use Rattle.successor_box.specs.declared.index_columns.TheConstants.{INDEX_COLUMNS};
+ghost use Rattle.successor_box.specs.declared.indices_limit.TheConstants.{INDICES_LIMIT};
 ghost use Rattle.abstraction_table.specs.inside.Digits.{AreDigitsOf, IsWithDigit, IsAsBefore, count_in, slot_at};
 
 use plant_record::Plant;
 use std::alloc::{AllocError, Global};
-use successor_box::INDEX_COLUMNS;
+use successor_box::INDICES_LIMIT;
 
 /// A state or an input variable that stands in an equation: how many indices it has, and how many slots
 /// of a table there are from one index to the next.
@@ -93,8 +93,8 @@ fn count_of(p: &Plant, variable: u32) -> u32
 
 /// The slot that has these indices.
 #[inline]
-pub(crate) fn slot_of(digits: &[Digit], indices: &[u32; INDEX_COLUMNS]) -> u32
-    requires variables { All (λ d. d.variable < INDEX_COLUMNS) digits.now }
+pub(crate) fn slot_of(digits: &[Digit], indices: &[u32; INDICES_LIMIT]) -> u32
+    requires variables { All (λ d. d.variable < INDICES_LIMIT) digits.now }
     requires fits { slot_at digits.now (λ k. slice_index indices.now k) < 2 ^ 32 }
     ensures { result ≡ slot_at digits.now (λ k. slice_index indices.now k) }
 {

@@ -10,7 +10,7 @@ use crate::digits::{Digit, Digits};
 use fixed_expr::LANES;
 use grid_quantiser::Extent;
 use plant_record::Plant;
-use successor_box::{CellLine, INDEX_COLUMNS, Sampled, input_number};
+use successor_box::{CellLine, INDICES_LIMIT, Sampled, input_number};
 
 /// To start a thread takes as long as to find so many extents.
 pub(crate) const EXTENTS_PER_TASK: usize = 1024;
@@ -97,11 +97,11 @@ fn fill_line(
 }
 
 /// The indices of a slot, in each state and each input variable.
-fn indices_at(digits: &[Digit], slot: u32) -> [u32; INDEX_COLUMNS]
+fn indices_at(digits: &[Digit], slot: u32) -> [u32; INDICES_LIMIT]
     requires { All IsReadable digits.now }
     ensures { AreIndicesAt digits.now slot result }
 {
-    let mut indices = [0; INDEX_COLUMNS];
+    let mut indices = [0; INDICES_LIMIT];
     for k in (0..digits.len()).rev() {
         let d = digits[k];
         indices[d.variable as usize] = slot / d.stride % d.count;

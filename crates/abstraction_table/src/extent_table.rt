@@ -13,7 +13,7 @@ use plant_record::Plant;
 use rayon::prelude::*;
 use std::alloc::{AllocError, Global};
 use std::thread::Threads;
-use successor_box::{INDEX_COLUMNS, Sampled};
+use successor_box::{INDICES_LIMIT, Sampled};
 
 /// The extents along the axis of a state: one for each combination of the indices in the variables of the
 /// state's equation, since those of all pairs depend on these. Where the equation moves with the state itself,
@@ -71,11 +71,11 @@ fn build_inputs(
 }
 
 /// The indices of an input among the values of the input variables, and 0 for each state.
-fn indices_of_input(p: &Plant, input: u32) -> [u32; INDEX_COLUMNS]
+fn indices_of_input(p: &Plant, input: u32) -> [u32; INDICES_LIMIT]
     requires { IsWithinLimits p.now }
     ensures { (k : ℕ) → k < length p.now.states + length p.now.inputs → slice_index result k ≡ index_in p.now 0 input k }
 {
-    let mut indices = [0; INDEX_COLUMNS];
+    let mut indices = [0; INDICES_LIMIT];
     let mut rest = input;
     for variable in (0..p.input_variables()).rev() {
         let count = p.input_values(variable);

@@ -11,14 +11,14 @@ use crate::terms::term_of;
 use fixed_expr::LANES;
 use grid_quantiser::Extent;
 use plant_record::Plant;
-use successor_box::{CellLine, INDEX_COLUMNS, Sampled};
+use successor_box::{CellLine, INDICES_LIMIT, Sampled};
 
 /// Adds the terms of a state to the boxes of cells in a row, from the one with these indices on.
 pub(crate) fn add_per_pair(
     sampled: &Sampled<'_>,
     stride: u32,
     state: u32,
-    indices: &[u32; INDEX_COLUMNS],
+    indices: &[u32; INDICES_LIMIT],
     boxes: &mut [PairBox],
 )
     requires state { state < length sampled.now.plant.now.equations }

@@ -5,10 +5,10 @@ ghost use Rattle.grid_quantiser.specs.Axes.{no_axis};
 ghost use Rattle.plant_record.specs.Description.{axes_of, vectors_of};
 ghost use Rattle.plant_record.specs.Limits.{IsWithinLimits};
 ghost use Rattle.successor_box.specs.PairExtents.{moves_along};
-ghost use Rattle.successor_box.specs.declared.index_columns.TheConstants.{INDEX_COLUMNS};
+ghost use Rattle.successor_box.specs.declared.indices_limit.TheConstants.{INDICES_LIMIT};
 ghost use Rattle.abstraction_table.specs.inside.CellLines.{StaysAlongLines};
 ghost use Rattle.abstraction_table.specs.inside.ExtentTables.{IsRelativeExtent, IsExtentTableOf};
-ghost use Rattle.abstraction_table.specs.inside.Terms.{first_in, stride_of, own_count, IsTermFrom, Brings, IsTermBrought, HoldTermsFrom, IsTermTableOf, AreTermsOf, AreTermTablesOf};
+ghost use Rattle.abstraction_table.specs.inside.Terms.{first_in, step_of, stride_of, own_count, IsTermFrom, Brings, IsTermBrought, HoldTermsFrom, IsTermTableOf, AreTermsOf, AreTermTablesOf};
 ghost use Rattle.base.specs.declared.limits.TheConstants.{PAIRS_LIMIT};
 
 use crate::digits::{Digit, Digits, build_digits, slot_of};
@@ -18,7 +18,7 @@ use grid_quantiser::Extent;
 use plant_record::Plant;
 use std::alloc::{AllocError, Global};
 use std::thread::Threads;
-use successor_box::{INDEX_COLUMNS, Sampled};
+use successor_box::{INDICES_LIMIT, Sampled};
 
 /// Terms are listed where there are at least so many pairs for each.
 const PAIRS_FOR_EACH_TERM: usize = 8;
@@ -55,12 +55,26 @@ pub(crate) struct TermTable {
 impl TermTable {
     /// What the indices of a cell bring to the slot of its terms.
     #[inline]
-    pub(crate) fn first(&self, indices: &[u32; INDEX_COLUMNS]) -> u32
-        requires variables { All (λ d. d.variable < INDEX_COLUMNS) self.now.digits.items }
+    pub(crate) fn first(&self, indices: &[u32; INDICES_LIMIT]) -> u32
+        requires variables { All (λ d. d.variable < INDICES_LIMIT) self.now.digits.items }
         requires fits { first_in self.now indices.now < 2 ^ 32 }
         ensures { result ≡ first_in self.now indices.now }
     {
         slot_of(&self.digits, indices)
+    }
+
+    /// How many slots a cell is from the one before it in a line, which differs in its index along the last state.
+    pub(crate) fn step(&self, last: u32) -> u32
+        requires fits { step_of self.now last < 2 ^ 32 }
+        ensures { result ≡ step_of self.now last }
+    {
+        let mut step = 0;
+        for d in &self.digits {
+            if d.variable == last {
+                step += d.stride;
+            }
+        }
+        step
     }
 
     /// How many indices a cell moves the extents, by its own slot along the axis.

@@ -7,7 +7,7 @@ ghost use Rattle.successor_box.specs.CellLines.{LiesInGrid, HaveCentresOf};
 ghost use Rattle.successor_box.specs.inside.Lines.{HoldsInLanes, AreInputValues, KeepOthers, middle_after, HasMiddleAfter};
 
 use crate::central_value::{central_value, first_middle, middle};
-use crate::index_columns::INDEX_COLUMNS;
+use crate::indices_limit::INDICES_LIMIT;
 use base::limits::VARIABLES_LIMIT;
 use fixed_expr::{LANES, ValuesAlong};
 use plant_record::Plant;
@@ -24,7 +24,7 @@ pub struct CellLine {
 impl CellLine {
     /// So many cells along a state, from the one that has these indices in the states on. The last of them stands in the lanes
     /// past it too.
-    pub fn new(p: &Plant, indices: &[u32; INDEX_COLUMNS], along: u32, cells: usize) -> CellLine
+    pub fn new(p: &Plant, indices: &[u32; INDICES_LIMIT], along: u32, cells: usize) -> CellLine
         requires along { along < length p.now.states }
         requires some { 1 ≤ cells }
         requires within { LiesInGrid p.now indices.now along cells }

@@ -8,7 +8,7 @@ ghost use Rattle.plant_record.specs.Limits.{IsWithinLimits};
 ghost use Rattle.successor_box.specs.SuccessorBoxes.{noise_centre};
 ghost use Rattle.successor_box.specs.inside.Area.{variables_of, axis_along};
 
-use crate::index_columns::INDEX_COLUMNS;
+use crate::indices_limit::INDICES_LIMIT;
 use crate::noise_centres::noise_centre;
 use grid_quantiser::Point;
 use plant_record::Plant;
@@ -19,7 +19,7 @@ pub(crate) fn central_value(
     p: &Plant,
     low: &Point,
     high: &Point,
-    indices: &[u32; INDEX_COLUMNS],
+    indices: &[u32; INDICES_LIMIT],
     k: u32,
 ) -> i64
     requires plant { IsWithinLimits p.now }

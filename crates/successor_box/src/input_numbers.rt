@@ -4,11 +4,11 @@ ghost use Rattle.plant_record.specs.Description.{vectors_of};
 ghost use Rattle.plant_record.specs.Limits.{IsWithinLimits};
 ghost use Rattle.successor_box.specs.PairExtents.{AreInputIndices};
 
-use crate::index_columns::INDEX_COLUMNS;
+use crate::indices_limit::INDICES_LIMIT;
 use plant_record::Plant;
 
 /// The number of the input vector whose values have these indices, which stand behind those of the states.
-pub fn input_number(p: &Plant, indices: &[u32; INDEX_COLUMNS]) -> u32
+pub fn input_number(p: &Plant, indices: &[u32; INDICES_LIMIT]) -> u32
     requires plant { IsWithinLimits p.now }
     requires indices { (u : ℕ) × (u < vectors_of p.now.inputs) × AreInputIndices p.now indices.now u }
     ensures below { result < vectors_of p.now.inputs }

@@ -10,7 +10,7 @@ mod cell_line;
 mod cell_spans;
 mod central_value;
 mod extents;
-mod index_columns;
+mod indices_limit;
 mod input_numbers;
 pub mod laws;
 mod line_extents;
@@ -21,7 +21,7 @@ mod slope_fault;
 mod slopes;
 
 pub use cell_line::CellLine;
-pub use index_columns::INDEX_COLUMNS;
+pub use indices_limit::INDICES_LIMIT;
 pub use input_numbers::input_number;
 pub use one_pair::successors;
 pub use sampled::Sampled;

@@ -6,7 +6,7 @@ use Rattle.plant_record.specs.Description.{Description, axes_of, vectors_of}
 use Rattle.plant_record.specs.ValueIndices.{value_count}
 use Rattle.plant_game.specs.Abstraction.{pairs_of}
 use Rattle.successor_box.specs.PairExtents.{depends_on, index_in}
-use Rattle.successor_box.specs.declared.index_columns.TheConstants.{INDEX_COLUMNS}
+use Rattle.successor_box.specs.declared.indices_limit.TheConstants.{INDICES_LIMIT}
 use Rattle.abstraction_table.specs.declared.digits.Digit.{Digit}
 use Rattle.abstraction_table.specs.declared.digits.Digits.{Digits}
 use Rattle.abstraction_table.specs.declared.extent_lines.SlotLines.{SlotLines}
@@ -26,7 +26,7 @@ index_at (d ∷ digits) variable slot = if variable == d.variable then slot / d.
 
 -- indices are those of a slot
 abbrev pub AreIndicesAt : List Digit → ℕ → List ℕ → Type 0
-AreIndicesAt digits slot indices = (k : ℕ) → k < INDEX_COLUMNS → slice_index indices k ≡ index_at digits k slot
+AreIndicesAt digits slot indices = (k : ℕ) → k < INDICES_LIMIT → slice_index indices k ≡ index_at digits k slot
 
 -- so many slots lie in a line: from one to the next the index in one variable rises, and the others stay
 abbrev pub LieAlong : List Digit → ℕ → ℕ → ℕ → Type 0
@@ -44,7 +44,7 @@ HoldSlots p digits inputs = (u : ℕ) → u < vectors_of p.inputs → slice_inde
 
 -- a digit can be read from slots, as the index in its variable
 abbrev pub IsReadable : Digit → Type 0
-IsReadable d = (d.variable < INDEX_COLUMNS) × (0 < d.count) × (0 < d.stride)
+IsReadable d = (d.variable < INDICES_LIMIT) × (0 < d.count) × (0 < d.stride)
 
 -- A digit is that of a variable on which extents depend.
 pub record IsDigitOf (p : Description) (i : ℕ) (d : Digit) : Type 0 where

@@ -1,5 +1,5 @@
 -- Boxes as sums of terms, and the terms of all boxes in one table for each state.
-use Rattle.std.specs.Prelude.{◌≡◌, ℕ, ◌+◌, ◌*◌, ◌<◌, ◌≤◌, List, drop, length, slice_index, slice_index_or, sum_by, Option, None, IfSome, IsTrue, if◌then◌else◌}
+use Rattle.std.specs.Prelude.{◌≡◌, ℕ, ◌+◌, ◌*◌, ◌<◌, ◌≤◌, ◌==◌, List, drop, length, slice_index, slice_index_or, sum_by, Option, None, IfSome, IsTrue, if◌then◌else◌}
 use Rattle.std.specs.List.{All}
 use Rattle.grid_quantiser.specs.declared.boxes.CellBox.{CellBox}
 use Rattle.grid_quantiser.specs.declared.extents.Extent.{Extent}
@@ -12,6 +12,7 @@ use Rattle.abstraction_table.specs.declared.terms.Terms.TheVariants.{Listed, Mov
 use Rattle.abstraction_table.specs.declared.terms.TermTable.{TermTable}
 use Rattle.abstraction_table.specs.declared.terms.StateTerms.{StateTerms}
 use Rattle.abstraction_table.specs.declared.terms.StateTerms.TheVariants.{Table, PerPair}
+use Rattle.abstraction_table.specs.inside.Digits.{slot_at}
 use Rattle.abstraction_table.specs.inside.ExtentTables.{first_of}
 use Rattle.abstraction_table.specs.inside.Sums.{term, plus, enlarged}
 use Rattle.base.specs.declared.limits.TheConstants.{CELLS_LIMIT, PAIRS_LIMIT}
@@ -57,6 +58,10 @@ AreIndicesOf p c indices = (k : ℕ) → k < length p.states + length p.inputs �
 abbrev pub first_in : TermTable → List ℕ → ℕ
 first_in t indices = sum_by (λ (d : Digit). slice_index indices d.variable * d.stride) t.digits.items
 
+-- how many slots a cell is from the one before it in its row: the slot that has an index of 1 in the last state alone
+abbrev pub step_of : TermTable → ℕ → ℕ
+step_of t last = slot_at t.digits.items (λ k. if k == last then 1 else 0)
+
 -- how many indices terms have
 abbrev pub count_of : Terms → ℕ
 count_of (Listed terms) = length terms.items
@@ -98,14 +103,6 @@ pub record Brings (p : Description) (i : ℕ) (t : TermTable) (brought own c : �
 abbrev pub IsTermBrought : Description → ℕ → TermTable → ℕ → ℕ → ℕ → Option CellBox → Type 0
 IsTermBrought p i t brought own input b =
     (c u : ℕ) → Brings p i t brought own c → u < vectors_of p.inputs → slice_index t.inputs.items u ≡ slice_index t.inputs.items input → IsTermAt p c u i b
-
--- indices along the axes bring to a state's table what a cell brings
-abbrev pub BringAs : Description → ℕ → TermTable → List ℕ → ℕ → Type 0
-BringAs p i t indices c = Brings p i t (first_in t indices) (if t.moves then slice_index indices i else 0) c
-
--- a box is a state's term of each cell that brings this, under each input
-abbrev pub IsFreeTerm : Description → ℕ → (ℕ → Type 0) → Option CellBox → Type 0
-IsFreeTerm p i brings b = (c u : ℕ) → brings c → u < vectors_of p.inputs → IsTermAt p c u i b
 
 -- boxes are with one more the sums of a cell that brings this
 abbrev pub HasSums : Description → ℕ → (ℕ → Type 0) → List (Option CellBox) → Type 0

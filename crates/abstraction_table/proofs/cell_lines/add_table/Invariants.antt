@@ -1,5 +1,5 @@
-use Rattle.std.proofs.Common.{◌≡◌, ◌≢◌, ℕ, ◌+◌, ◌*◌, ◌<◌, ◌≤◌, length, get_or, None}
-use Rattle.abstraction_table.specs.inside.CellLines.{last_state, AreCellsFrom, AreSumsOfCells}
+use Rattle.std.proofs.Common.{◌≡◌, ℕ, ◌+◌, ◌*◌, ◌<◌, ◌≤◌, length, get_or, None}
+use Rattle.abstraction_table.specs.inside.CellLines.{AreCellsFrom, AreSumsOfCells}
 use Rattle.abstraction_table.specs.inside.Terms.{IsSumAlong}
 use Rattle.abstraction_table.proofs.cell_lines.add_table.Given as goal
 
@@ -8,8 +8,6 @@ abbrev pub invariant-loop-cell : goal.invariant-loop-cell
 invariant-loop-cell l = record {
   long : length l.boxes ≡ length l.fn.boxes;
   bases : length l.bases ≡ 32;
-  nine : length l.of_cell ≡ 9;
-  indices : (k : ℕ) → k ≢ last_state l.p → get_or l.of_cell k 0 ≡ get_or l.indices k 0;
   added : (c n : ℕ) → AreCellsFrom l.p l.indices c n → AreSumsOfCells l.p l.state c n l.fn.bases l.fn.boxes → (k u : ℕ) → k < l.cell → u < l.inputs → IsSumAlong l.p (l.state + 1) (c + k) u (get_or l.bases k None) (get_or l.boxes (k * l.inputs + u) None);
   left : (i : ℕ) → l.cell * l.inputs ≤ i → get_or l.boxes i None ≡ get_or l.fn.boxes i None;
   left_bases : (k : ℕ) → l.cell ≤ k → get_or l.bases k None ≡ get_or l.fn.bases k None;
