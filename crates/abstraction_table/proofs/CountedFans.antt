@@ -18,7 +18,7 @@ use Rattle.abstraction_table.proofs.BelowBoxes.{boxes_are_moved_shapes}
 use Rattle.abstraction_table.proofs.Tallying.{by_cell}
 
 -- the last corner of a box is a cell
-last_below : (axes : List Axis) (f l : ℕ) → 1 ≤ length axes → 1 ≤ cells_of axes → IsCellBox axes f l → l < cells_of axes
+pub last_below : (axes : List Axis) (f l : ℕ) → 1 ≤ length axes → 1 ≤ cells_of axes → IsCellBox axes f l → l < cells_of axes
 last_below [] f l some cells box = absurd (omega (arith, some))
 last_below (a ∷ axes) f l some cells box = by_cell (cells_of axes) 0
     (λ none. let no : a.count * cells_of axes ≡ 0 = ap (λ (n : ℕ). a.count * n) none ∙ mul-zero a.count in absurd (omega (arith, no, cells)))

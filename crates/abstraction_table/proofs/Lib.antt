@@ -4,6 +4,7 @@ pub mod PairBoxes
 pub mod CountedFans
 pub mod Tallying
 pub mod BandIndices
+pub mod BandCuts
 pub mod SourceBands
 pub mod LeadingPairs
 pub mod SourceSteps

@@ -1,16 +1,20 @@
 -- The bands of all cells.
-use Rattle.std.proofs.Common.{◌≡◌, ℕ, ◌+◌, ◌-◌, ◌*◌, ◌/◌, ◌%◌, ◌<◌, ◌≤◌, min, List, [], ◌∷◌, length, map, Option, ap, ◌∙◌, arith}
-use Rattle.std.specs.Prelude.{Ok, IfOk}
+use Rattle.std.proofs.Common.{◌≡◌, ℕ, ◌+◌, ◌/◌, ◌<◌, ◌≤◌, List, [], ◌∷◌, length, map, get_or, Option, ap, subst, ◌∙◌, arith}
+use Rattle.std.specs.Prelude.{Ok, Err, IfOk, MatchResult}
 use Rattle.std.specs.declared.result.Result.{Result}
 use Rattle.std.specs.List.{AllZip, range_with_len}
 use Rattle.std.specs.Int.{div_ceil}
 use Rattle.std.proofs.lemmas.Grind.{div_ceil_times}
-use Rattle.std.proofs.lemmas.Nat.{div-add-mod', div_below, mod_below, mul-le}
+use Rattle.std.proofs.lemmas.Nat.{div-add-mod', div_below, mod_below}
 use Rattle.std.proofs.Math.Nat.{mul-le-mul_right}
 use Rattle.grid_quantiser.specs.declared.axis.Axis.{Axis}
 use Rattle.grid_quantiser.specs.declared.boxes.CellBox.{CellBox}
 use Rattle.grid_quantiser.specs.Axes.{cells_of}
-use Rattle.abstraction_table.specs.inside.SourceLists.{AreBandRows, AreSourceBands, band_of, sources_among}
+use Rattle.edge_rows.specs.Rows.{row_at}
+use Rattle.abstraction_table.specs.declared.cuts.Cuts.{Cuts}
+use Rattle.abstraction_table.specs.declared.cuts.Group.{Group}
+use Rattle.abstraction_table.specs.inside.BandCuts.{AreCutsOf, AreGroupsTo, IsGroupIn, band_start, group_at}
+use Rattle.abstraction_table.specs.inside.SourceLists.{AreSourceBands, HasRow, HasBandRows, HoldBands, band_of, slot_in_band, sources_among}
 use Rattle.abstraction_table.proofs.Mapped.{mapped_at, mapped_long}
 
 -- where all calls gave something
@@ -20,37 +24,60 @@ all_ok E P [] (y ∷ ys) each = absurd each
 all_ok E P (x ∷ xs) [] each = absurd each
 all_ok E P (x ∷ xs) (y ∷ ys) each = (each.0, all_ok E P xs ys each.1)
 
--- of 32 bands or fewer each is no narrower than a 32nd of the cells
-pub few_bands : (cells bands size : ℕ) → 0 < bands → bands ≤ 32 → div_ceil cells bands ≤ size → cells ≤ 32 * size
-few_bands cells bands size some few wide = omega (arith, (div_ceil_times cells bands some).0, mul-le (div_ceil cells bands) bands size 32 wide few)
+-- where a call for each band gave something, that is the rows of the bands
+pub hold_bands : {V E : Type 0} (items : V → List (List (List ℕ))) (F : E → Type 0) (axes : List Axis) (boxes : List (Option CellBox)) (cuts : Cuts) (n : ℕ) (rs : List (Result (List (List ℕ)) E)) (r : Result V E) → n + 1 ≡ length cuts.each.items →
+    AllZip (λ k r. IfOk r (HasBandRows axes boxes cuts k)) (range_with_len 0 n) rs → MatchResult r (λ v. (bands : List (List (List ℕ))) × (rs ≡ map Ok bands) × (items v ≡ bands)) F → IfOk r (λ v. HoldBands axes boxes cuts (items v))
+hold_bands items F axes boxes cuts n rs (Err e) bands each h = tt
+hold_bands {E = E} items F axes boxes cuts n rs (Ok v) bands each h =
+    let Held : ℕ → List (List ℕ) → Type 0 = HasBandRows axes boxes cuts in
+    let by_call = subst (λ (rs : List (Result (List (List ℕ)) E)). AllZip (λ (k : ℕ) (r : Result (List (List ℕ)) E). IfOk r (Held k)) (range_with_len 0 n) rs) h.1 each in
+    let by_band = all_ok E Held (range_with_len 0 n) h.0 by_call in
+    rw h.2 (record { one_each = ap (λ (m : ℕ). m + 1) (mapped_long Held n h.0 by_band) ∙ bands; each = λ k lt. mapped_at Held n h.0 by_band k [] (omega (arith, lt, mapped_long Held n h.0 by_band)) })
 
--- each band begins at a cell
-pub band_begins : (cells size k : ℕ) → 0 < size → k < div_ceil cells size → k * size < cells
-band_begins cells size k some below =
-    let more : k + 1 ≤ div_ceil cells size = omega (arith, below) in
-    omega (arith, (div_ceil_times cells size some).1, mul-le-mul_right size more)
+-- each cell lies in a group
+group_of_cell : (cells size c : ℕ) → 0 < size → c < cells → c / size < div_ceil cells size
+group_of_cell cells size c some below = div_below c size (div_ceil cells size) some (omega (arith, below, (div_ceil_times cells size some).0))
 
--- each cell lies in a band
-band_of_cell : (cells size c : ℕ) → 0 < size → c < cells → c / size < div_ceil cells size
-band_of_cell cells size c some below = div_below c size (div_ceil cells size) some (omega (arith, below, (div_ceil_times cells size some).0))
+module _ (axes : List Axis) (boxes : List (Option CellBox)) (cuts : Cuts) (groups : List Group) (bands : List (List (List ℕ))) (cut : AreCutsOf (cells_of axes) cuts)
+    (grouped : AreGroupsTo (div_ceil (cells_of axes) cuts.size) cuts groups) (filled : HoldBands axes boxes cuts bands) (c : ℕ) (cell : c < cells_of axes) where
+  abbrev g : ℕ
+  g = c / cuts.size
 
--- The rows of a band of `size` cells, the last with what is left.
-abbrev pub IsBandAt : List Axis → List (Option CellBox) → ℕ → ℕ → List (List ℕ) → Type 0
-IsBandAt axes boxes size k rows = (len : ℕ) × (len ≡ min size (cells_of axes - k * size)) × AreBandRows axes boxes (k * size) len rows
+  abbrev group : Group
+  group = group_at groups g
 
-module _ (axes : List Axis) (boxes : List (Option CellBox)) (size : ℕ) (bands : List (List (List ℕ))) (some : 0 < size) (bands_are : AllZip (IsBandAt axes boxes size) (range_with_len 0 (div_ceil (cells_of axes) size)) bands) where
-  band : (c : ℕ) → c < cells_of axes → IsBandAt axes boxes size (c / size) (band_of size bands c)
-  band c cell = mapped_at (IsBandAt axes boxes size) (div_ceil (cells_of axes) size) bands bands_are (c / size) [] (band_of_cell (cells_of axes) size c some cell)
+  is_in : IsGroupIn cuts g group
+  is_in = grouped.each g (group_of_cell (cells_of axes) cuts.size c cut.some_size cell)
 
-  short : (c : ℕ) (cell : c < cells_of axes) → c % size < (band c cell).0
-  short c cell = omega (arith, (band c cell).1, mod_below c size some, div-add-mod' c size, cell)
+  rows : HasBandRows axes boxes cuts group.band (band_of cuts.size groups bands c)
+  rows = filled.each group.band (omega (arith, is_in.band, filled.one_each))
 
-  pub are_bands : AreSourceBands axes boxes size bands
-  are_bands = record {
-    some_size = some;
-    inside = λ c cell. (
-      omega (arith, band_of_cell (cells_of axes) size c some cell, mapped_long (IsBandAt axes boxes size) (div_ceil (cells_of axes) size) bands bands_are),
-      omega (arith, short c cell, (band c cell).2.one_each),
-    );
-    each = λ c cell. (band c cell).2.each (c % size) (short c cell) ∙ ap (sources_among axes boxes (length boxes)) (div-add-mod' c size);
+  starts : group.from ≤ c
+  starts = let first = is_in.first in omega (arith, is_in.from, mul-le-mul_right cuts.size first, div-add-mod' c cuts.size)
+
+  short : slot_in_band cuts.size groups c < rows.len
+  short =
+      let next : g + 1 ≤ get_or cuts.each.items (group.band + 1) 0 = omega (arith, is_in.last) in
+      omega (arith, is_in.from, rows.end, starts, mul-le-mul_right cuts.size next, div-add-mod' c cuts.size, mod_below c cuts.size cut.some_size, cell)
+
+  pub has_row : HasRow cuts.size groups bands c
+  has_row = record {
+    some_size = cut.some_size;
+    group = omega (arith, grouped.one_each, group_of_cell (cells_of axes) cuts.size c cut.some_size cell);
+    from = starts;
+    band = omega (arith, is_in.band, filled.one_each);
+    slot = omega (arith, short, rows.rows_are.one_each);
   }
+
+  pub row_is : row_at (band_of cuts.size groups bands c) (slot_in_band cuts.size groups c) ≡ sources_among axes boxes (length boxes) c
+  row_is =
+      let back : band_start cuts group.band + slot_in_band cuts.size groups c ≡ c = omega (arith, is_in.from, starts) in
+      rows.rows_are.each (slot_in_band cuts.size groups c) short ∙ ap (sources_among axes boxes (length boxes)) back
+
+-- each cell has its row
+pub are_bands : (axes : List Axis) (boxes : List (Option CellBox)) (cuts : Cuts) (groups : List Group) (bands : List (List (List ℕ))) → AreCutsOf (cells_of axes) cuts →
+    AreGroupsTo (div_ceil (cells_of axes) cuts.size) cuts groups → HoldBands axes boxes cuts bands → AreSourceBands axes boxes cuts.size groups bands
+are_bands axes boxes cuts groups bands cut grouped filled = record {
+  inside = has_row axes boxes cuts groups bands cut grouped filled;
+  each = row_is axes boxes cuts groups bands cut grouped filled;
+}

@@ -8,6 +8,7 @@ pub mod Props
 pub mod CellLines
 pub mod Shapes
 pub mod ExtentTables
+pub mod BandCuts
 pub mod SourceLists
 pub mod Sums
 pub mod Tallies

@@ -56,7 +56,7 @@ pub fn add_sources<R: Threads + Sync>(
         alloc,
         &boxed.grid,
         &boxed.boxes,
-        boxed.fans.edges,
+        &boxed.fans,
         &forward.shapes,
     );
     let sources = found?;

@@ -13,6 +13,7 @@ mod boxed_game;
 mod build_fault;
 mod builders;
 mod cell_lines;
+mod cuts;
 mod digits;
 mod extent_lines;
 mod extent_table;
