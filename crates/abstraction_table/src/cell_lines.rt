@@ -137,8 +137,9 @@ fn add_late(
             StateTerms::Table(table) => {
                 add_table(p, table, state as u32, indices, &mut bases, boxes);
             }
-            StateTerms::PerPair { stride } => {
-                add_per_pair(sampled, *stride, state as u32, indices, boxes);
+            StateTerms::PerPair { stride, increments } => {
+                let increments = increments.as_deref();
+                add_per_pair(sampled, *stride, increments, state as u32, indices, boxes);
             }
         }
     }

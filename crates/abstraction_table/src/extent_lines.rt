@@ -93,7 +93,8 @@ fn fill_line(
     let p = sampled.plant;
     let indices = indices_at(&digits.each, slot);
     let mut cells = CellLine::new(p, &indices, along, line.len());
-    sampled.extents_under(input_number(p, &indices), state, &mut cells, line);
+    let input = input_number(p, &indices);
+    sampled.extents_under(input, state, None, &mut cells, line);
 }
 
 /// The indices of a slot, in each state and each input variable.

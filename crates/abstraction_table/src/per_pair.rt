@@ -1,8 +1,9 @@
 //! The terms of a state of which each pair has its own, found as the boxes are made.
-ghost use Rattle.std.specs.Prelude.{◌≡◌, ℕ, ◌*◌, ◌<◌, ◌≤◌, length};
+ghost use Rattle.std.specs.Prelude.{◌≡◌, ℕ, ◌*◌, ◌<◌, ◌≤◌, length, IfSome};
 ghost use Rattle.fixed_expr.specs.declared.lanes.TheConstants.{LANES};
 ghost use Rattle.plant_record.specs.Description.{vectors_of};
 ghost use Rattle.plant_record.specs.Limits.{IsWithinLimits};
+ghost use Rattle.successor_box.specs.AdditiveInputs.{AreInputIncrements};
 ghost use Rattle.abstraction_table.specs.inside.CellLines.{HaveSums, AddsTo, AreExtentsUnder, AddsTermsUnder, AreSumsUnder, KeepsOtherInputs};
 ghost use Rattle.abstraction_table.specs.inside.Terms.{stride_of};
 
@@ -17,12 +18,14 @@ use successor_box::{CellLine, INDICES_LIMIT, Sampled};
 pub(crate) fn add_per_pair(
     sampled: &Sampled<'_>,
     stride: u32,
+    increments: Option<&[i64]>,
     state: u32,
     indices: &[u32; INDICES_LIMIT],
     boxes: &mut [PairBox],
 )
     requires state { state < length sampled.now.plant.now.equations }
     requires stride { stride ≡ stride_of sampled.now.plant.now state }
+    requires increments { IfSome increments (λ increments. AreInputIncrements sampled.now.plant.now state increments.now) }
     requires cells { HaveSums sampled.now.plant.now state indices.now boxes.old }
     ensures long { length boxes.new ≡ length boxes.old }
     ensures added { AddsTo sampled.now.plant.now state indices.now boxes.old boxes.new }
@@ -33,8 +36,9 @@ pub(crate) fn add_per_pair(
     let mut line = CellLine::new(p, indices, p.states() - 1, cells);
     let mut extents = [None; LANES];
     let extents = &mut extents[..cells];
+    let additive = sampled.additive_line(state, increments, &mut line);
     for input in 0..inputs {
-        sampled.extents_under(input, state, &mut line, extents);
+        sampled.extents_under(input, state, additive.as_ref(), &mut line, extents);
         add_extents(p, stride, state, input, extents, boxes);
     }
 }

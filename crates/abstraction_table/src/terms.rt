@@ -23,11 +23,15 @@ use successor_box::{INDICES_LIMIT, Sampled};
 /// Terms are listed where there are at least so many pairs for each.
 const PAIRS_FOR_EACH_TERM: usize = 8;
 
-/// The terms of a state: in a table, or each found where its pair's box is made, since no two pairs share an extent.
+/// The terms of a state: in a table, or each found where its pair's box is made, since no two pairs share an extent,
+/// with how much each input vector adds to the equation's value where inputs are only added.
 #[derive(Drop)]
 pub(crate) enum StateTerms {
     Table(TermTable),
-    PerPair { stride: u32 },
+    PerPair {
+        stride: u32,
+        increments: Option<Vec<i64>>,
+    },
 }
 
 /// What the extents along an axis add to boxes.
@@ -168,7 +172,8 @@ fn build_state<R: Threads + Sync>(
     let p = sampled.plant;
     let digits = build_digits(alloc, p, state)?;
     if has_slot_for_each_pair(p, state, &digits) {
-        return Ok(StateTerms::PerPair { stride });
+        let increments = sampled.input_increments(alloc, state)?;
+        return Ok(StateTerms::PerPair { stride, increments });
     }
     let extents = build_table(rt, alloc, sampled, state, digits)?;
     let table = build_terms(alloc, p, state, stride, extents)?;

@@ -28,9 +28,12 @@ cells_since listed accounts = map (λ slot. cell_at slot (all_logs accounts)) (r
 
 -- what a round did between two stands
 pub record Played (g : Game) (fits : BoardModel → Type 0) (keeps : Account → Type 0) (board : BoardModel) (workers : ℕ) (old new : Rounds) : Type 0 where
+  -- the list in the order in which it was done
+  pub order : List ℕ
+  pub alike : IsPermutation old.list.items order
   pub members : List (Member HandModel)
-  pub worked : AllAtWork g fits keeps board old.list.items members
-  pub swept : IsPermutation (range_with_len 0 (length old.list.items)) (notes_of members)
+  pub worked : AllAtWork g fits keeps board order members
+  pub swept : IsPermutation (range_with_len 0 (length order)) (notes_of members)
   pub accounts : new.root.accounts ≡ old.root.accounts ++ reverse (accounts_of members)
   pub lawful : IsLawful new.root.accounts board.starts board.least
   pub at : new.root.board ≡ board
@@ -44,24 +47,26 @@ pub record Played (g : Game) (fits : BoardModel → Type 0) (keeps : Account →
   pub capacity : g.cells ≤ vec_capacity new.list
 
 module _ (g : Game) (fits : BoardModel → Type 0) (first : ℕ → Bool) (keeps : ℕ → Account → Type 0) (holds_before : ℕ → List ℕ → List Account → Type 0) (board : BoardModel) (leads : LeadsOn g board first keeps holds_before) where
-  module _ (d : ℕ) (list : List ℕ) (accounts : List Account) (members : List (Member HandModel)) (early : d ≤ g.cells) (some' : 0 < length list) (was : holds_before d list accounts) (worked : AllAtWork g fits (keeps d) board list members) (swept : IsPermutation (range_with_len 0 (length list)) (notes_of members)) (lawful : IsLawful (accounts ++ reverse (accounts_of members)) board.starts board.least) where
+  module _ (d : ℕ) (list order : List ℕ) (alike : IsPermutation list order) (accounts : List Account) (members : List (Member HandModel)) (early : d ≤ g.cells) (some' : 0 < length list) (was : holds_before d list accounts) (worked : AllAtWork g fits (keeps d) board order members) (swept : IsPermutation (range_with_len 0 (length order)) (notes_of members)) (lawful : IsLawful (accounts ++ reverse (accounts_of members)) board.starts board.least) where
     abbrev more : List Account
     more = reverse (accounts_of members)
 
     -- what holds of each member's account holds of each account that is added
-    of_each : (P : Account → Type 0) → ((h : HandModel) → IsAtWork g fits (keeps d) board list h → P h.account) → All P more
+    of_each : (P : Account → Type 0) → ((h : HandModel) → IsAtWork g fits (keeps d) board order h → P h.account) → All P more
     of_each P is =
         All-permutation P (accounts_of members) more (IsPermutation-reverse (accounts_of members))
         (All-map P (λ (m : Member HandModel). m.hand.account) members
-        (All-weaker (λ (m : Member HandModel). IsAtWork g fits (keeps d) board list m.hand) (λ (m : Member HandModel). P m.hand.account) (λ m w. is m.hand w) members worked))
+        (All-weaker (λ (m : Member HandModel). IsAtWork g fits (keeps d) board order m.hand) (λ (m : Member HandModel). P m.hand.account) (λ m w. is m.hand w) members worked))
 
     round : IsRound g (keeps d) list more
     round = record {
       each = of_each (keeps d) (λ h w. w.kept);
       cuts = λ pair lt.
-          cuts_by_notes pair (cuts_for g list pair) more (of_each (λ (a : Account). times pair (counters_of a.cuts) ≡ sum_by (cuts_for g list pair) a.notes) (λ h w. w.cuts pair lt))
-          ∙ (sum_by-IsPermutation (cuts_for g list pair) (range_with_len 0 (length list)) (notes_in more) (IsPermutation-trans (range_with_len 0 (length list)) (notes_of members) (notes_in more) swept (notes_reversed members))
-          ∙ (sum_positions (λ c. times c (successors_at g pair)) 0 list ∙ from_both_sides list (successors_at g pair)));
+          let done_to = λ (c : ℕ). times c (successors_at g pair) in
+          cuts_by_notes pair (cuts_for g order pair) more (of_each (λ (a : Account). times pair (counters_of a.cuts) ≡ sum_by (cuts_for g order pair) a.notes) (λ h w. w.cuts pair lt))
+          ∙ (sum_by-IsPermutation (cuts_for g order pair) (range_with_len 0 (length order)) (notes_in more) (IsPermutation-trans (range_with_len 0 (length order)) (notes_of members) (notes_in more) swept (notes_reversed members))
+          ∙ (sum_positions done_to 0 order
+          ∙ (sum_by-IsPermutation done_to list order alike ∙ from_both_sides list (successors_at g pair))));
     }
 
     leads_to : (next : List ℕ) → ((c : ℕ) → times c next ≡ times c (logged_cells (all_logs more))) → holds_before (suc d) next (accounts ++ more)
@@ -89,11 +94,11 @@ module _ (g : Game) (fits : BoardModel → Type 0) (first : ℕ → Bool) (keeps
     pub early : old.tally.rounds ≤ g.cells
     early = let a = was.early some' in let b = was.all_listed in let c = leads.few old.tally.rounds old.list.items old.root.accounts was.by_rule in omega arith
 
-    pub few_after : (members : List (Member HandModel)) (now : List Account) → AllAtWork g fits (keeps old.tally.rounds) board old.list.items members → IsPermutation (range_with_len 0 (length old.list.items)) (notes_of members)
-        → now ≡ old.root.accounts ++ reverse (accounts_of members) → IsLawful now board.starts board.least → log_count now ≤ g.cells
-    few_after members now worked swept e lawful =
+    pub few_after : (order : List ℕ) (members : List (Member HandModel)) (now : List Account) → IsPermutation old.list.items order → AllAtWork g fits (keeps old.tally.rounds) board order members
+        → IsPermutation (range_with_len 0 (length order)) (notes_of members) → now ≡ old.root.accounts ++ reverse (accounts_of members) → IsLawful now board.starts board.least → log_count now ≤ g.cells
+    few_after order members now alike worked swept e lawful =
         subst (λ l. log_count l ≤ g.cells) (sym e)
-        (few old.tally.rounds old.list.items old.root.accounts members early some' was.by_rule worked swept (subst (λ l. IsLawful l board.starts board.least) e lawful))
+        (few old.tally.rounds old.list.items order alike old.root.accounts members early some' was.by_rule worked swept (subst (λ l. IsLawful l board.starts board.least) e lawful))
 
     -- a round leads from one stand to the next, and on
     pub stands_after : (new : Rounds) → Played g fits (keeps old.tally.rounds) board workers old new → IsRoundInvariant holds_before board g.cells workers new × (to_go g.cells new < to_go g.cells old)
@@ -103,10 +108,10 @@ module _ (g : Game) (fits : BoardModel → Type 0) (first : ℕ → Bool) (keeps
         let all = accounts ++ reverse (accounts_of p.members) in
         let lawful : IsLawful all board.starts board.least = subst (λ l. IsLawful l board.starts board.least) p.accounts p.lawful in
         let listed : new.list.items ≡ cells_since (log_count accounts) all = p.list ∙ ap₂ cells_since was.all_listed p.accounts in
-        let next : holds_before (suc d) new.list.items all = subst (λ l. holds_before (suc d) l all) (sym listed) (next_stand d old.list.items accounts p.members early some' was.by_rule p.worked p.swept lawful was.log) in
+        let next : holds_before (suc d) new.list.items all = subst (λ l. holds_before (suc d) l all) (sym listed) (next_stand d old.list.items p.order p.alike accounts p.members early some' was.by_rule p.worked p.swept lawful was.log) in
         let back : all ≡ new.root.accounts = sym p.accounts in
         let rule : holds_before new.tally.rounds new.list.items new.root.accounts = subst (λ k. holds_before k new.list.items new.root.accounts) (sym p.rounds) (subst (holds_before (suc d) new.list.items) back next) in
-        let added = logs_more d old.list.items accounts p.members early some' was.by_rule p.worked p.swept lawful in
+        let added = logs_more d old.list.items p.order p.alike accounts p.members early some' was.by_rule p.worked p.swept lawful in
         let most = leads.few new.tally.rounds new.list.items new.root.accounts rule in
         let before = was.all_listed in
         let after = p.listed ∙ ap log_count p.accounts in
@@ -120,7 +125,7 @@ module _ (g : Game) (fits : BoardModel → Type 0) (first : ℕ → Bool) (keeps
         let sooner = was.early some' in (
           record {
             by_rule = rule;
-            log = subst IsLawfulLog back (new_log d old.list.items accounts p.members early some' was.by_rule p.worked p.swept lawful);
+            log = subst IsLawfulLog back (new_log d old.list.items p.order p.alike accounts p.members early some' was.by_rule p.worked p.swept lawful);
             all_listed = p.listed;
             at = p.at;
             settled = p.settled;

@@ -19,6 +19,7 @@ use crate::workers::{add_workers, take_in, work};
 use cell_counters::{Board, Root};
 use frontier_pool::{Gate, Member, hands_for};
 use game_core::{NoMemory, Tally};
+use rayon::prelude::*;
 use std::alloc::Global;
 use std::thread::Threads;
 
@@ -104,6 +105,7 @@ impl Rounds {
         let cuts = expected_cuts(rule, &self.list);
         let hands = hands_for(self.tally.rounds, items, cuts, workers);
         add_workers(board, &mut self.root, &mut self.members, hands);
+        arrange(rt, &mut self.list, hands);
         let round_job = RoundJob {
             rule,
             board,
@@ -115,6 +117,18 @@ impl Rounds {
         take_in(board, &mut self.root, &mut self.members, &mut self.tally);
         self.listed = read_log(board, &mut self.root, &mut self.list, self.listed);
         self.tally.rounds += 1;
+    }
+}
+
+/// Puts the cells of a list in order where several hands do them, so that one hand mostly cuts what lies together. The order
+/// in which hands logged them has neighbours far apart.
+fn arrange<R: Threads + Sync>(rt: &R, list: &mut Vec<u32>, hands: u32)
+    ensures same { IsPermutation list.old.items list.new.items }
+    ensures long { vec_len list.new ≡ vec_len list.old }
+    ensures capacity { vec_capacity list.new ≡ vec_capacity list.old }
+{
+    if hands > 1 {
+        par_sort_unstable(rt, list);
     }
 }
 

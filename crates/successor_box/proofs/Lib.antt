@@ -18,4 +18,5 @@ pub mod PairExtents
 pub mod InputNumbers
 pub mod Middles
 pub mod LineValues
+pub mod AdditiveInputs
 pub mod CellRanges

@@ -1,6 +1,6 @@
 -- The values of the variables at the centres of cells in a line.
 use Rattle.std.proofs.Common.{◌≡◌, ◌≢◌, ℕ, ◌+◌, ◌-◌, ◌/◌, ◌<◌, ◌≤◌, List, length, map, take, set, get_or, get_or-set_other, get_or-set_same, refl, sym, ap, subst, ◌∙◌, arith, inl, inr}
-use Rattle.std.specs.Prelude.{ℤ, pos, min, ◌==◌}
+use Rattle.std.specs.Prelude.{ℤ, pos, min, ◌==◌, ◌↔◌}
 use Rattle.std.proofs.Math.Nat.{mod-le, div-le_self}
 use Rattle.std.proofs.lemmas.Bool.{cases_lt, cases_eq, eq-eqb, ne_eqb, cond-true, cond-false}
 use Rattle.std.proofs.lemmas.List.{length-map, length-set, length-take-le, get_or-take, ext_get_or}
@@ -41,7 +41,7 @@ module _ (p : Description) (c u : ℕ) where
   noise_value k past lt = sym (central_noise p c u k past ∙ get_or-take (length p.noises) (map noise_centre p.noises) (k - length p.states - length p.inputs) (pos 0) (omega (arith, past, lt)))
 
   -- what is no input has its value under every input
-  same_centre : (v k : ℕ) → IsNoInput p k → get_or (central_values p c v) k (pos 0) ≡ get_or (central_values p c u) k (pos 0)
+  pub same_centre : (v k : ℕ) → IsNoInput p k → get_or (central_values p c v) k (pos 0) ≡ get_or (central_values p c u) k (pos 0)
   same_centre v k other =
       elim (cases_lt k (length p.states + length p.inputs)) [
         | inl early ↦ central_state p c v k (other early) ∙ sym (central_state p c u k (other early))
@@ -60,12 +60,30 @@ module _ (p : Description) (c u : ℕ) where
 set_at : (xs : List ℤ) (a k : ℕ) (x : ℤ) → k ≡ a → a < length xs → get_or (set xs a x) k (pos 0) ≡ x
 set_at xs a k x same lt = ap (λ (n : ℕ). get_or (set xs a x) n (pos 0)) same ∙ get_or-set_same xs a x (pos 0) lt
 
-set_both : (xs ys : List ℤ) (a k : ℕ) (x : ℤ) → a < length xs → a < length ys → get_or xs k (pos 0) ≡ get_or ys k (pos 0) → get_or (set xs a x) k (pos 0) ≡ get_or (set ys a x) k (pos 0)
+pub set_both : (xs ys : List ℤ) (a k : ℕ) (x : ℤ) → a < length xs → a < length ys → get_or xs k (pos 0) ≡ get_or ys k (pos 0) → get_or (set xs a x) k (pos 0) ≡ get_or (set ys a x) k (pos 0)
 set_both xs ys a k x first second is =
     elim (cases_eq k a) [
       | inl same ↦ set_at xs a k x same first ∙ sym (set_at ys a k x same second)
       | inr other ↦ get_or-set_other xs a k x (pos 0) other ∙ is ∙ sym (get_or-set_other ys a k x (pos 0) other)
     ]
+
+-- ---- a line with other values of the input variables
+
+kept_by : (p : Description) (cell : ℕ → ℕ) (old : CellLine) (values : List ℤ) → KeepOthers p old.values values → variables_of p ≤ length values → length old.values ≡ length values → AreCentresOf p cell old → AreCentresOf p cell (record { values = values; along = old.along; column = old.column })
+kept_by p cell old values kept enough before centres = record {
+  along = centres.along;
+  cells = centres.cells;
+  each = λ lane k lt below other.
+      let within : old.along < length values = omega (arith, centres.along, enough) in
+      set_both values old.values old.along k (get_or old.column lane (pos 0)) within (omega (arith, within, before)) (kept k other) ∙ centres.each lane k lt below other;
+}
+
+-- it has the centres of the same cells
+pub same_centres : (p : Description) (cell : ℕ → ℕ) (old : CellLine) (values : List ℤ) → KeepOthers p old.values values → variables_of p ≤ length values → length old.values ≡ length values → AreCentresOf p cell old ↔ AreCentresOf p cell (record { values = values; along = old.along; column = old.column })
+same_centres p cell old values kept enough before = (
+  kept_by p cell old values kept enough before,
+  kept_by p cell (record { values = values; along = old.along; column = old.column }) old.values (λ k other. sym (kept k other)) (omega (arith, enough, before)) (sym before),
+)
 
 -- ---- a line whose input is set
 
@@ -73,15 +91,7 @@ module _ (p : Description) (cell : ℕ → ℕ) (old : CellLine) (values : List 
   within : old.along < length values
   within = omega (arith, centres.along, enough)
 
-  -- it keeps its centres
-  pub centres_kept : AreCentresOf p cell (record { values = values; along = old.along; column = old.column })
-  centres_kept = record {
-    along = centres.along;
-    cells = centres.cells;
-    each = λ lane k lt below other. set_both values old.values old.along k (get_or old.column lane (pos 0)) within (omega (arith, within, before)) (kept k other) ∙ centres.each lane k lt below other;
-  }
-
-  -- and has its values under the input
+  -- it has its values under the input
   pub values_under : (u n : ℕ) (at : ValuesAlong) → AreInputValues p u values → n ≡ variables_of p → at.values.now ≡ take n values → at.along ≡ old.along → at.column.now ≡ old.column → AreValuesUnder p cell u at
   values_under u n at are all values-are along-is column-is =
       let long : length (take n values) ≡ n = length-take-le n values (omega (arith, all, enough)) in

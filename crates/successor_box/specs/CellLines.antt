@@ -1,5 +1,5 @@
 -- Cells in a line, with the values of the variables at their centres.
-use Rattle.std.specs.Prelude.{◌≡◌, ℕ, ◌+◌, ◌-◌, ◌<◌, ◌==◌, min, ℤ, pos, List, length, slice_index, slice_index_or, slice_set, Option, None, if◌then◌else◌}
+use Rattle.std.specs.Prelude.{◌≡◌, ◌↔◌, ℕ, ◌+◌, ◌-◌, ◌<◌, ◌==◌, min, ℤ, pos, List, length, slice_index, slice_index_or, slice_set, Option, None, if◌then◌else◌}
 use Rattle.fixed_expr.specs.declared.lanes.TheConstants.{LANES}
 use Rattle.grid_quantiser.specs.declared.extents.Extent.{Extent}
 use Rattle.grid_quantiser.specs.Axes.{cells_of}
@@ -48,9 +48,9 @@ HaveCentres p line = (cell : ℕ → ℕ) × AreCentresOf p cell line
 abbrev pub HaveCentresOf : Description → List ℕ → ℕ → ℕ → CellLine → Type 0
 HaveCentresOf p indices along cells line = (cell : ℕ → ℕ) → AreCellsOn p indices along cells cell → AreCentresOf p cell line
 
--- a line keeps the centres of the same cells
+-- two lines have the centres of the same cells
 abbrev pub KeepCentres : Description → CellLine → CellLine → Type 0
-KeepCentres p old new = (cell : ℕ → ℕ) → AreCentresOf p cell old → AreCentresOf p cell new
+KeepCentres p old new = (cell : ℕ → ℕ) → AreCentresOf p cell old ↔ AreCentresOf p cell new
 
 -- the extents of the first cells under an input, along the axis of a state, on the prolonged axis
 abbrev pub HoldExtentsUnder : Description → (ℕ → ℕ) → ℕ → ℕ → List (Option Extent) → Type 0

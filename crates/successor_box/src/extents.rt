@@ -72,7 +72,7 @@ impl Sampled<'_> {
 
     /// One state of the next from the centre of a cell, at the noises' centres.
     #[inline]
-    fn next_along(&self, c: u32, input: u32, state: u32) -> i128
+    pub(crate) fn next_along(&self, c: u32, input: u32, state: u32) -> i128
         requires pair { IsPair self.now.plant.now c input }
         requires state { state < length self.now.plant.now.equations }
         ensures { result ≡ value_at self.now.plant.now state c input }

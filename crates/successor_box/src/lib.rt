@@ -5,6 +5,7 @@
 //! the extents of many boxes along one axis at once.
 #![tactic(auto)]
 
+mod additive;
 mod area;
 mod cell_line;
 mod cell_spans;
@@ -20,6 +21,7 @@ mod sampled;
 mod slope_fault;
 mod slopes;
 
+pub use additive::AdditiveLine;
 pub use cell_line::CellLine;
 pub use indices_limit::INDICES_LIMIT;
 pub use input_numbers::input_number;

@@ -1,16 +1,19 @@
 //! The extents of cells in a line under an input vector.
-ghost use Rattle.std.specs.Prelude.{◌≡◌, ℕ, ◌<◌, ◌≤◌, pos, length, slice_index_or};
+ghost use Rattle.std.specs.Prelude.{◌≡◌, ℕ, ◌<◌, ◌≤◌, pos, length, slice_index_or, IfSome};
 ghost use Rattle.base.specs.declared.limits.TheConstants.{VARIABLES_LIMIT};
 ghost use Rattle.fixed_expr.specs.declared.lanes.TheConstants.{LANES};
 ghost use Rattle.fixed_expr.specs.Expression.{expression_of};
-ghost use Rattle.fixed_expr.specs.LaneEval.{lane_of};
+ghost use Rattle.fixed_expr.specs.LaneEval.{lane_of, AreValuesInLanes};
 ghost use Rattle.fixed_expr.specs.Value.{IsWellFormed, StaysInRange, value_of};
 ghost use Rattle.plant_record.specs.declared.version.PlantVersion.TheVariants.{One};
 ghost use Rattle.plant_record.specs.Description.{vectors_of};
+ghost use Rattle.plant_record.specs.Steps.{equation_at};
 ghost use Rattle.successor_box.specs.CellLines.{HaveCentres, KeepCentres, HoldExtentsAtCentres};
+ghost use Rattle.successor_box.specs.AdditiveInputs.{IsAdditiveLineOf};
 ghost use Rattle.successor_box.specs.inside.Area.{no_range};
-ghost use Rattle.successor_box.specs.inside.Lines.{HoldsInLanes, HaveValuesUnder, HoldGrowths, HoldNextIntervals, HoldExtentsAround, HoldExtentsOf, intersection_in};
+ghost use Rattle.successor_box.specs.inside.Lines.{HoldsInLanes, HaveValuesUnder, HoldGrowths, HoldNextIntervals, HoldExtentsAround, HoldExtentsOf, GivesValues, intersection_in};
 
+use crate::additive::AdditiveLine;
 use crate::area::NO_RANGE;
 use crate::cell_line::{CellLine, set_input};
 use crate::extents::intersection;
@@ -24,16 +27,19 @@ use plant_record::PlantVersion;
 impl Sampled<'_> {
     /// The extents of successor boxes along the axis of a state prolonged by its own length below, from which `Grid::shifted_extent`
     /// goes on, each None where one of the box's ends leaves that too: of the first cells of a line, under an input vector. It takes
-    /// no memory, and leaves the vector's values in the line.
+    /// no memory, and leaves the vector's values in the line. With what `additive_line` gives of the line the equation isn't evaluated
+    /// again.
     pub fn extents_under(
         &self,
         input: u32,
         state: u32,
+        additive: Option<&AdditiveLine<'_>>,
         line: &mut CellLine,
         extents: &mut [Option<Extent>],
     )
         requires input { input < vectors_of self.now.plant.now.inputs }
         requires state { state < length self.now.plant.now.equations }
+        requires additive { IfSome additive (λ a. IsAdditiveLineOf self.now.plant.now line.old state a.now) }
         requires line { HaveCentres self.now.plant.now line.old }
         requires few { length extents.old ≤ LANES }
         ensures long { length extents.new ≡ length extents.old }
@@ -44,7 +50,7 @@ impl Sampled<'_> {
         set_input(p, input, &mut line.values);
         let at = line.lanes(p.variables());
         match p.plant_version() {
-            PlantVersion::One => self.growth_extents(input, state, &at, extents),
+            PlantVersion::One => self.growth_extents(input, state, additive, &at, extents),
             PlantVersion::Two => self.next_extents(input, state, &at, extents),
         }
     }
@@ -54,19 +60,21 @@ impl Sampled<'_> {
         &self,
         input: u32,
         state: u32,
+        additive: Option<&AdditiveLine<'_>>,
         at: &ValuesAlong<'_>,
         extents: &mut [Option<Extent>],
     )
         requires version { self.now.plant.now.version ≡ One }
         requires input { input < vectors_of self.now.plant.now.inputs }
         requires state { state < length self.now.plant.now.equations }
+        requires additive { IfSome additive (λ a. GivesValues (equation_at self.now.plant.now state) at.now input a.now) }
         requires values { HaveValuesUnder self.now.plant.now input at.now }
         requires few { length extents.old ≤ LANES }
         ensures long { length extents.new ≡ length extents.old }
         ensures each { HoldExtentsOf self.now.plant.now at.now input state extents.new }
     {
         let mut values = [0; LANES];
-        match eval_along(self.plant.equation(state), at, &mut values) {
+        match eval_beside(self.plant.equation(state), input, additive, at, &mut values) {
             Some(()) => self.narrow_extents(input, state, &values, extents),
             None => self.next_extents(input, state, at, extents),
         }
@@ -143,6 +151,25 @@ impl Sampled<'_> {
             growth_intervals[j] = self.growth(next[j], input, state);
         }
         growth_intervals
+    }
+}
+
+/// The values of an expression in the lanes under an input vector, by those of a line where it is given, unless one leaves 64
+/// bits. After None nothing is said of `found`.
+fn eval_beside(
+    e: &Expr,
+    input: u32,
+    additive: Option<&AdditiveLine<'_>>,
+    at: &ValuesAlong<'_>,
+    found: &mut [i64; LANES],
+) -> Option<()>
+    requires formed { IsWellFormed (expression_of e.now) (length at.now.values.now) }
+    requires additive { IfSome additive (λ a. GivesValues (expression_of e.now) at.now input a.now) }
+    ensures { IfSome result (λ _. AreValuesInLanes (expression_of e.now) at.now found.new) }
+{
+    match additive {
+        Some(additive) => additive.values_under(input, found),
+        None => eval_along(e, at, found),
     }
 }
 

@@ -5,6 +5,7 @@ use Rattle.grid_quantiser.specs.declared.boxes.CellBox.{CellBox}
 use Rattle.grid_quantiser.specs.declared.extents.Extent.{Extent}
 use Rattle.grid_quantiser.specs.Axes.{no_axis, cells_of}
 use Rattle.plant_record.specs.Description.{Description, axes_of, vectors_of}
+use Rattle.successor_box.specs.AdditiveInputs.{AreInputIncrements}
 use Rattle.successor_box.specs.PairExtents.{index_in, moves_along, shifted_by, IsExtentAt, IsExtentBeforeAt, IsBoxAlong}
 use Rattle.abstraction_table.specs.declared.digits.Digit.{Digit}
 use Rattle.abstraction_table.specs.declared.terms.Terms.{Terms}
@@ -86,7 +87,7 @@ pub record IsTermTableOf (p : Description) (i : ℕ) (t : TermTable) : Type 0 wh
 -- a state's terms stand in a table, or are found pair by pair
 abbrev pub AreTermsOf : Description → ℕ → StateTerms → Type 0
 AreTermsOf p i (Table t) = IsTermTableOf p i t
-AreTermsOf p i (PerPair stride) = stride ≡ stride_of p i
+AreTermsOf p i (PerPair stride increments) = (stride ≡ stride_of p i) × IfSome increments (λ s. AreInputIncrements p i s.items)
 
 -- The terms of all pairs along all axes.
 pub record AreTermTablesOf (p : Description) (tables : List StateTerms) : Type 0 where

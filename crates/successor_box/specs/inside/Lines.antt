@@ -3,6 +3,7 @@ use Rattle.std.specs.Prelude.{◌≡◌, ℕ, ◌+◌, ◌<◌, ◌^◌, ℤ, po
 use Rattle.base.specs.Narrow.{IsNarrow}
 use Rattle.fixed_expr.specs.declared.lane_eval.ValuesAlong.{ValuesAlong}
 use Rattle.fixed_expr.specs.declared.lanes.TheConstants.{LANES}
+use Rattle.fixed_expr.specs.Expression.{Expression}
 use Rattle.fixed_expr.specs.LaneEval.{lane_of}
 use Rattle.fixed_expr.specs.Value.{value_of}
 use Rattle.interval_eval.specs.declared.columns.IntervalColumn.{IntervalColumn}
@@ -13,7 +14,9 @@ use Rattle.grid_quantiser.specs.declared.extents.Extent.{Extent}
 use Rattle.grid_quantiser.specs.Axes.{cells_of}
 use Rattle.plant_record.specs.Description.{Description, axes_of, vectors_of, vector_of}
 use Rattle.plant_record.specs.Steps.{equation_at}
+use Rattle.successor_box.specs.declared.additive.AdditiveLine.{AdditiveLine}
 use Rattle.successor_box.specs.SuccessorBoxes.{deviation_at, central_values, cell_area_of, growth_of, intersection_of, next_interval_of}
+use Rattle.successor_box.specs.AdditiveInputs.{increased}
 use Rattle.successor_box.specs.CellLines.{IsNoInput, HoldExtentsUnder}
 use Rattle.successor_box.specs.inside.Area.{variables_of, no_range}
 
@@ -101,6 +104,11 @@ HoldCellRanges p at k column = (cell : ℕ → ℕ) (u : ℕ) → AreValuesUnder
 -- the ranges of all variables
 abbrev pub AreCellAreas : Description → ValuesAlong → List IntervalColumn → Type 0
 AreCellAreas p at columns = (k : ℕ) → k < variables_of p → HoldCellRanges p at k (slice_index_or columns k no_column)
+
+-- There is an increment for an input vector, and with it a line has the value of an expression in each lane.
+pub record GivesValues (e : Expression) (at : ValuesAlong) (u : ℕ) (line : AdditiveLine) : Type 0 where
+  pub within : u < length line.increments.now
+  pub each : (lane : ℕ) → lane < LANES → increased line u lane ≡ value_of e (lane_of at lane)
 
 -- the values of a state's equation at the centres of cells
 abbrev pub HoldValuesUnder : Description → (ℕ → ℕ) → ℕ → ℕ → List ℤ → Type 0

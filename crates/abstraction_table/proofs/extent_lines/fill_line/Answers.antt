@@ -31,11 +31,11 @@ new-cells-requires-clause-within c =
     let here = (goal.at.new-cells-requires-clause-within c).After-indices_at-indices in
     lies_in_grid p plant (sound_plant p plant) c.args.state c.args.digits.now.each.items c.args.digits.now.slots c.requires.digits c.args.along c.args.slot (length c.args.line.now) c.indices_at-indices.result c.requires.along (hold here) c.requires.line
 
-pub input_number-requires-clause-indices : goal.input_number-requires-clause-indices
-input_number-requires-clause-indices c =
+pub input_number-input-requires-clause-indices : goal.input_number-input-requires-clause-indices
+input_number-input-requires-clause-indices c =
     let p = c.args.sampled.now.plant.now in
     let plant = c.args.sampled.now.within.plant in
-    let here = (goal.at.input_number-requires-clause-indices c).After-indices_at-indices in
+    let here = (goal.at.input_number-input-requires-clause-indices c).After-indices_at-indices in
     input_here p plant (sound_plant p plant) c.args.state c.args.digits.now.each.items c.args.digits.now.slots c.requires.digits c.args.along c.args.slot (length c.args.line.now) c.indices_at-indices.result c.requires.along (hold here) c.requires.line
 
 pub extents_under-requires-clause-line : goal.extents_under-requires-clause-line
@@ -48,4 +48,4 @@ returns-clause-each c =
     let here = (goal.at.returns-clause-each c).After-indices_at-indices in
     let lanes = cells here in
     extents_in_line p plant (sound_plant p plant) c.args.state c.args.digits.now.each.items c.args.digits.now.slots c.requires.digits c.args.along c.args.slot (length c.args.line.now) c.indices_at-indices.result c.requires.along (hold here) c.requires.line
-    c.requires.state lanes.0 c.input_number.result lanes.1 c.input_number.ensures.below c.input_number.ensures.indices c.extents_under.new.extents c.extents_under.ensures.long c.requires.few (c.extents_under.ensures.each lanes.0 (c.new-cells.ensures lanes.0 lanes.1))
+    c.requires.state lanes.0 c.input_number-input.result lanes.1 c.input_number-input.ensures.below c.input_number-input.ensures.indices c.extents_under.new.extents c.extents_under.ensures.long c.requires.few (c.extents_under.ensures.each lanes.0 (c.new-cells.ensures lanes.0 lanes.1))

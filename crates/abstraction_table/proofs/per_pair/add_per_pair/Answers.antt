@@ -6,6 +6,7 @@ use Rattle.std.proofs.lemmas.List.{length-take-le}
 use Rattle.plant_record.specs.Description.{Description, vectors_of}
 use Rattle.plant_record.proofs.lemmas.SoundPlants.{sound as sound_plant}
 use Rattle.successor_box.specs.CellLines.{LiesInGrid, HaveCentresOf, AreCentresOf, HoldExtentsAtCentres}
+use Rattle.successor_box.proofs.AdditiveInputs.{still_additive}
 use Rattle.abstraction_table.specs.inside.CellLines.{AreCellsFrom, AreExtentsUnder}
 use Rattle.abstraction_table.specs.inside.Sums.{plus}
 use Rattle.abstraction_table.specs.inside.Terms.{IsTermAt, IsSumAlong}
@@ -62,11 +63,20 @@ new-line-requires-clause-within c =
     subst (λ (k : ℕ). LiesInGrid p c.args.indices.now (k - 1) n) (sym c.states.ensures)
     (cells_in_grid p c.args.sampled.now.within.plant c.args.indices.now cells.0 n (counted p c.args.indices.now cells.0 cells.1 (length c.args.boxes.now) c.vectors-inputs.result cells.3.one_each c.vectors-inputs.ensures.count c.vectors-inputs.ensures.some cells.2))
 
+pub additive_line-additive-requires-clause-line : goal.additive_line-additive-requires-clause-line
+additive_line-additive-requires-clause-line c =
+    let p = c.args.sampled.now.plant.now in
+    let cells = c.requires.cells.1 in
+    let n : ℕ = length c.args.boxes.now / c.vectors-inputs.result in
+    let here = counted p c.args.indices.now cells.0 cells.1 (length c.args.boxes.now) c.vectors-inputs.result cells.3.one_each c.vectors-inputs.ensures.count c.vectors-inputs.ensures.some cells.2 in
+    (cell_in cells.0 n, subst (λ (k : ℕ). HaveCentresOf p c.args.indices.now (k - 1) n c.new-line.result) c.states.ensures c.new-line.ensures (cell_in cells.0 n) (cells_on p c.args.sampled.now.within.plant c.args.indices.now cells.0 n here))
+
 pub loop-input-init : goal.loop-input-init
 loop-input-init c = record {
   long = refl;
   cells = length-take-le (length c.args.boxes.now / c.vectors-inputs.result) _ (let cells = c.requires.cells.1 in omega (arith, cells.3.few, cell_count (length c.args.boxes.now) cells.1 c.vectors-inputs.result (vectors_of c.args.sampled.now.plant.now.inputs) cells.3.one_each c.vectors-inputs.ensures.count c.vectors-inputs.ensures.some));
-  centres = subst (λ (k : ℕ). HaveCentresOf c.args.sampled.now.plant.now c.args.indices.now (k - 1) (length c.args.boxes.now / c.vectors-inputs.result) c.new-line.result) c.states.ensures c.new-line.ensures;
+  additive = c.additive_line-additive.ensures.line;
+  centres = λ cell on. (c.additive_line-additive.ensures.kept cell).0 (subst (λ (k : ℕ). HaveCentresOf c.args.sampled.now.plant.now c.args.indices.now (k - 1) (length c.args.boxes.now / c.vectors-inputs.result) c.new-line.result) c.states.ensures c.new-line.ensures cell on);
   added = λ bases d n from sums k u lt none. nothing_below u none;
   left = λ k u from short. refl;
 }
@@ -107,7 +117,8 @@ loop-input-preserved c =
     record {
       long = c.add_extents.ensures.long ∙ so_far.long;
       cells = c.extents_under.ensures.long ∙ so_far.cells;
-      centres = λ cell on. c.extents_under.ensures.kept cell (so_far.centres cell on);
+      additive = still_additive p c.loop-input.line c.extents_under.new.line i c.additive_line-additive.result c.extents_under.ensures.kept so_far.additive;
+      centres = λ cell on. (c.extents_under.ensures.kept cell).0 (so_far.centres cell on);
       added = λ bases d n from sums k u lt.
           let count = one_each (goal.at.loop-input-preserved c).In-loop-input n sums.one_each in
           let here = found (goal.at.loop-input-preserved c).In-loop-input d n sums.one_each from c.extents_under.new.extents c.extents_under.ensures.long c.extents_under.ensures.each in
