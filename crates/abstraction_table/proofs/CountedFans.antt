@@ -1,9 +1,11 @@
 -- One more shape whose cells are counted, and the boxes that have it.
-use Rattle.std.proofs.Common.{◌≡◌, ◌≢◌, ℕ, ◌+◌, ◌-◌, ◌*◌, ◌<◌, ◌≤◌, List, [], ◌∷◌, All, length, take, get_or, set, sum, Option, Some, None, sym, ap, subst, ◌∙◌, arith}
+use Rattle.std.proofs.Common.{◌≡◌, ◌≢◌, ℕ, ◌+◌, ◌-◌, ◌*◌, ◌<◌, ◌≤◌, List, [], ◌∷◌, All, length, take, get_or, set, sum, Option, Some, None, sym, ap, subst, ◌∙◌, arith, inl, inr}
 use Rattle.std.specs.Prelude.{IfSome}
-use Rattle.std.proofs.lemmas.List.{get_or_default, get_or-set_same, get_or-set_other, length-map, take_all}
-use Rattle.std.proofs.lemmas.List.Sums.{sum_by_more}
+use Rattle.std.proofs.lemmas.Bool.{cases_lt}
+use Rattle.std.proofs.lemmas.List.{get_or_default, get_or_past, get_or_append_left, get_or-set_same, get_or-set_other, length-map, take_all}
+use Rattle.std.proofs.lemmas.List.Sums.{sum_by_more, sum_by-append}
 use Rattle.std.proofs.Math.Nat.{div-lt_iff_lt-mul, mul-zero}
+use Rattle.std.proofs.Math.Seq.{get_or-append_right}
 use Rattle.grid_quantiser.specs.declared.axis.Axis.{Axis}
 use Rattle.grid_quantiser.specs.declared.boxes.CellBox.{CellBox}
 use Rattle.grid_quantiser.specs.Axes.{cells_of, AreAxes}
@@ -11,9 +13,10 @@ use Rattle.grid_quantiser.specs.CellBoxes.{IsCellBox, cells_between}
 use Rattle.grid_quantiser.specs.Laws.{IsMovedShape}
 use Rattle.grid_quantiser.proofs.Suffixes.{some_cells}
 use Rattle.successor_box.specs.SuccessorBoxes.{cells_in}
-use Rattle.abstraction_table.specs.inside.Fans.{IsCounted, AreShapes, KeepsFans, FanIsKnown, AreFansOf}
+use Rattle.abstraction_table.specs.inside.Fans.{GoesOnInZeros, IsCounted, AreShapes, KeepsFans, FanIsKnown, AreFansOf}
 use Rattle.abstraction_table.specs.inside.SourceLists.{IsBox}
 use Rattle.abstraction_table.specs.inside.Tallies.{edges_of}
+use Rattle.base.proofs.Counts.{sum_zeros}
 use Rattle.abstraction_table.proofs.BelowBoxes.{boxes_are_moved_shapes}
 use Rattle.abstraction_table.proofs.Tallying.{by_cell}
 
@@ -35,6 +38,41 @@ as_many axes b moved = ap length moved.cells ∙ length-map (cells_between axes 
 -- a box that is there is its shape, moved
 pub is_moved : (axes : List Axis) (o : Option CellBox) (b : CellBox) → o ≡ Some b → AreAxes axes → IsBox axes o → IsMovedShape axes b.first b.last
 is_moved axes o b is grid ordered = boxes_are_moved_shapes axes b.first b.last grid (subst (IsBox axes) is ordered)
+
+-- ---- counts of 0 after the others
+
+zeros_sum : (more : List ℕ) → All (λ n. n ≡ 0) more → sum more ≡ 0
+zeros_sum more none = sum_zeros (λ n. n) more none
+
+module _ (axes : List Axis) (before after : List ℕ) (on : GoesOnInZeros before after) where
+  same_count : (k : ℕ) → get_or after k 0 ≡ get_or before k 0
+  same_count k =
+      ap (λ (ns : List ℕ). get_or ns k 0) on.1
+      ∙ elim (cases_lt k (length before)) [
+        | inl within ↦ get_or_append_left before on.0 0 k within
+        | inr past ↦ get_or-append_right before on.0 k 0 past ∙ none (k - length before) ∙ sym (get_or_past before k 0 past)
+      ]
+    where
+      none : (j : ℕ) → get_or on.0 j 0 ≡ 0
+      none j = elim (cases_lt j (length on.0)) [
+        | inl within ↦ on.2 j 0 within
+        | inr past ↦ get_or_past on.0 j 0 past
+      ]
+
+  pub same_sum : sum after ≡ sum before
+  same_sum = omega (arith, ap sum on.1, sum_by-append (λ n. n) before on.0, zeros_sum on.0 on.2)
+
+  counted_too : (k : ℕ) → IsCounted axes before k → IsCounted axes after k
+  counted_too k h = record { shape = h.shape; some = omega (arith, same_count k, h.some); cells = same_count k ∙ h.cells }
+
+  pub keeps_all : AreShapes axes before → KeepsFans axes before after
+  keeps_all shapes = record {
+    shapes = λ k some. counted_too k (shapes k (omega (arith, same_count k, some)));
+    kept = counted_too;
+  }
+
+pub keeps_both : (axes : List Axis) (before now after : List ℕ) → KeepsFans axes before now → KeepsFans axes now after → KeepsFans axes before after
+keeps_both axes before now after first second = record { shapes = second.shapes; kept = λ k h. second.kept k (first.kept k h) }
 
 -- ---- one more shape
 
@@ -72,10 +110,9 @@ module _ (axes : List Axis) (o : Option CellBox) (b : CellBox) (is : o ≡ Some 
   pub box_below : b.last - b.first < cells_of axes
   box_below = distance_below axes b grid (is_moved axes o b is grid ordered)
 
-  pub is_added : (before : List ℕ) (cells : ℕ) → length before ≡ cells_of axes → AreShapes axes before → 1 ≤ cells → cells ≡ length (cells_between axes b.first b.last) → IsAdded axes before (set before (b.last - b.first) cells) b
-  is_added before cells long shapes some count =
+  pub is_added : (before : List ℕ) (cells : ℕ) → b.last - b.first < length before → AreShapes axes before → 1 ≤ cells → cells ≡ length (cells_between axes b.first b.last) → IsAdded axes before (set before (b.last - b.first) cells) b
+  is_added before cells within shapes some count =
       let moved = is_moved axes o b is grid ordered in
-      let within : b.last - b.first < length before = omega (arith, box_below, long) in
       record {
         counted = counted_here axes before (b.last - b.first) cells within moved.shape some (count ∙ as_many axes b moved);
         kept = keeps_fans axes before (b.last - b.first) cells within moved.shape some (count ∙ as_many axes b moved) shapes;
@@ -84,7 +121,7 @@ module _ (axes : List Axis) (o : Option CellBox) (b : CellBox) (is : o ≡ Some 
 -- ---- the shapes that a loop over the boxes has counted
 
 pub record FansSoFar (axes : List Axis) (boxes : List (Option CellBox)) (n : ℕ) (fans : List ℕ) (edges : ℕ) : Type 0 where
-  pub one_each : length fans ≡ cells_of axes
+  pub distances : length fans ≤ cells_of axes
   pub shapes : AreShapes axes fans
   pub counted : (k : ℕ) → k < n → IfSome (get_or boxes k None) (λ (b : CellBox). IsCounted axes fans (b.last - b.first))
   pub edges_so_far : edges ≡ edges_of axes (take n boxes)
@@ -96,10 +133,10 @@ kept_for axes before after None keep h = tt
 kept_for axes before after (Some b) keep h = keep.kept (b.last - b.first) h
 
 pub fans_more : (axes : List Axis) (boxes : List (Option CellBox)) (n : ℕ) (before after : List ℕ) (edges cells : ℕ) → n < length boxes → FansSoFar axes boxes n before edges →
-    length after ≡ length before → KeepsFans axes before after → IfSome (get_or boxes n None) (λ (b : CellBox). IsCounted axes after (b.last - b.first)) →
+    length after ≤ cells_of axes → KeepsFans axes before after → IfSome (get_or boxes n None) (λ (b : CellBox). IsCounted axes after (b.last - b.first)) →
     cells ≡ length (cells_in axes (get_or boxes n None)) → sum after ≤ sum before + cells → FansSoFar axes boxes (n + 1) after (edges + cells)
-fans_more axes boxes n before after edges cells below h long keep counted count few = record {
-  one_each = long ∙ h.one_each;
+fans_more axes boxes n before after edges cells below h most keep counted count few = record {
+  distances = most;
   shapes = keep.shapes;
   counted = λ k lt. by_cell k n
       (λ same. subst (λ (j : ℕ). IfSome (get_or boxes j None) (λ (b : CellBox). IsCounted axes after (b.last - b.first))) (sym same) counted)
@@ -108,21 +145,28 @@ fans_more axes boxes n before after edges cells below h long keep counted count 
   few = omega (arith, few, h.few);
 }
 
+-- a shape that is counted has a count
+counted_within : (axes : List Axis) (fans : List ℕ) (k : ℕ) → IsCounted axes fans k → k < length fans
+counted_within axes fans k h = elim (cases_lt k (length fans)) [
+  | inl within ↦ within
+  | inr past ↦ absurd (omega (arith, get_or_past fans k 0 past, h.some))
+]
+
 -- the count for a shape is that for the boxes that have it
-has_fan : (axes : List Axis) (fans : List ℕ) (o : Option CellBox) → AreAxes axes → length fans ≡ cells_of axes → IsBox axes o →
+has_fan : (axes : List Axis) (fans : List ℕ) (o : Option CellBox) → AreAxes axes → IsBox axes o →
     IfSome o (λ (b : CellBox). IsCounted axes fans (b.last - b.first)) → FanIsKnown axes fans o
-has_fan axes fans None grid long ordered counted = tt
-has_fan axes fans (Some b) grid long ordered counted =
+has_fan axes fans None grid ordered counted = tt
+has_fan axes fans (Some b) grid ordered counted =
     let moved = boxes_are_moved_shapes axes b.first b.last grid ordered in
-    record { ordered = moved.ordered; within = omega (arith, distance_below axes b grid moved, long); some = counted.some; cells = counted.cells ∙ sym (as_many axes b moved) }
+    record { ordered = moved.ordered; within = counted_within axes fans (b.last - b.first) counted; some = counted.some; cells = counted.cells ∙ sym (as_many axes b moved) }
 
 pub fans_all : (axes : List Axis) (boxes : List (Option CellBox)) (n : ℕ) (fans : List ℕ) (edges : ℕ) → AreAxes axes → All (IsBox axes) boxes →
     length boxes ≤ n → FansSoFar axes boxes n fans edges → AreFansOf axes boxes fans
 fans_all axes boxes n fans edges grid ordered whole h = record {
-  one_each = h.one_each;
+  distances = h.distances;
   shapes = h.shapes;
   each = λ k d lt.
       subst (FanIsKnown axes fans) (get_or_default boxes k None d lt)
-      (has_fan axes fans (get_or boxes k None) grid h.one_each (ordered k None lt) (h.counted k (omega (arith, lt, whole))));
+      (has_fan axes fans (get_or boxes k None) grid (ordered k None lt) (h.counted k (omega (arith, lt, whole))));
   few = omega (arith, h.few, h.edges_so_far, ap (edges_of axes) (take_all n boxes whole));
 }

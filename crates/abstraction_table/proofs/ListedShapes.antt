@@ -109,7 +109,7 @@ module _ (axes : List Axis) (before after : Shapes) (distance_along : ℕ) (with
 -- ---- the shapes that a loop over the distances has listed
 
 pub record ShapesSoFar (axes : List Axis) (fans : List ℕ) (n : ℕ) (s : Shapes) : Type 0 where
-  pub distances : length s.spans.items ≡ cells_of axes
+  pub distances : length s.spans.items ≡ length fans
   pub has : (k : ℕ) → k < n → 1 ≤ get_or fans k 0 → HasSegmentsAt axes s k
   pub few : length s.segments.items ≤ sum (take n fans)
 

@@ -1,9 +1,9 @@
 //! How many cells boxes have.
-ghost use Rattle.std.specs.Prelude.{◌≡◌, ◌+◌, ◌-◌, ◌^◌, ◌<◌, ◌≤◌, length, sum, IfOk, IfSome};
+ghost use Rattle.std.specs.Prelude.{◌≡◌, ◌+◌, ◌-◌, ◌^◌, ◌<◌, ◌≤◌, max, length, sum, IfOk, IfSome};
 ghost use Rattle.std.specs.List.{All};
 ghost use Rattle.grid_quantiser.specs.Axes.{cells_of, AreAxes};
 ghost use Rattle.successor_box.specs.SuccessorBoxes.{cells_in};
-ghost use Rattle.abstraction_table.specs.inside.Fans.{fan_of, IsCounted, AreShapes, KeepsFans, AreFansOf};
+ghost use Rattle.abstraction_table.specs.inside.Fans.{fan_of, GoesOnInZeros, IsCounted, AreShapes, KeepsFans, AreFansOf};
 ghost use Rattle.abstraction_table.specs.inside.SourceLists.{IsBox};
 ghost use Rattle.abstraction_table.specs.inside.Tallies.{edges_of};
 ghost use Rattle.base.specs.declared.limits.TheConstants.{CELLS_LIMIT, PAIRS_LIMIT};
@@ -16,7 +16,7 @@ use std::alloc::{AllocError, Global};
 /// far its last cell is from its first gives the shape.
 #[derive(Drop)]
 pub(crate) struct Fans {
-    /// One for each such distance, 0 where no box has it.
+    /// One for each such distance up to the greatest, 0 where no box has it.
     pub(crate) counts: Vec<u32>,
     /// Of all boxes together.
     pub(crate) edges: u64,
@@ -36,31 +36,47 @@ impl Fans {
         }
     }
 
+    /// Makes room for the count of a distance. Those up to the greatest distance of a box are kept, and no memory past them is
+    /// touched.
+    #[inline]
+    fn reach(&mut self, distance: usize) -> Result<(), AllocError>
+        requires { distance < CELLS_LIMIT }
+        ensures within { IfOk result (λ _. distance < length self.new.counts.items) }
+        ensures few { IfOk result (λ _. length self.new.counts.items ≤ max (length self.old.counts.items) (distance + 1)) }
+        ensures same { IfOk result (λ _. GoesOnInZeros self.old.counts.items self.new.counts.items) }
+    {
+        if distance >= self.counts.len() {
+            self.counts.resize(distance + 1, 0)?;
+        }
+        Ok(())
+    }
+
     /// Counts the cells of a box, where those of its shape aren't counted yet.
     #[inline]
-    fn count(&mut self, grid: &Grid, b: Option<CellBox>) -> u32
+    fn count(&mut self, grid: &Grid, b: Option<CellBox>) -> Result<u32, AllocError>
         requires grid { AreAxes grid.now }
         requires limit { cells_of grid.now ≤ CELLS_LIMIT }
         requires ordered { IsBox grid.now b }
-        requires distances { length self.old.counts.items ≡ cells_of grid.now }
+        requires distances { length self.old.counts.items ≤ cells_of grid.now }
         requires shapes { AreShapes grid.now self.old.counts.items }
-        ensures distances { length self.new.counts.items ≡ length self.old.counts.items }
-        ensures kept { KeepsFans grid.now self.old.counts.items self.new.counts.items }
-        ensures counted { IfSome b (λ b. IsCounted grid.now self.new.counts.items (b.last - b.first)) }
-        ensures cells { result ≡ length (cells_in grid.now b) }
-        ensures few { sum self.new.counts.items ≤ sum self.old.counts.items + result }
+        ensures distances { IfOk result (λ _. length self.new.counts.items ≤ cells_of grid.now) }
+        ensures kept { IfOk result (λ _. KeepsFans grid.now self.old.counts.items self.new.counts.items) }
+        ensures counted { IfOk result (λ _. IfSome b (λ b. IsCounted grid.now self.new.counts.items (b.last - b.first))) }
+        ensures cells { IfOk result (λ cells. cells ≡ length (cells_in grid.now b)) }
+        ensures few { IfOk result (λ cells. sum self.new.counts.items ≤ sum self.old.counts.items + cells) }
     {
         let Some(b) = b else {
-            return 0;
+            return Ok(0);
         };
         let distance = (b.last - b.first) as usize;
+        self.reach(distance)?;
         let known = self.counts[distance];
         if known > 0 {
-            return known;
+            return Ok(known);
         }
         let cells = grid.box_count(b) as u32;
         self.counts[distance] = cells;
-        cells
+        Ok(cells)
     }
 }
 
@@ -73,12 +89,13 @@ pub(crate) fn count_fans(alloc: Global, grid: &Grid, boxes: &[PairBox]) -> Resul
     ensures edges { IfOk result (λ fans. fans.edges ≡ edges_of grid.now boxes.now) }
 {
     let mut fans = Fans {
-        counts: vec![in alloc; 0; grid.cells() as usize]?,
+        counts: Vec::with_capacity(alloc, grid.cells() as usize)?,
         edges: 0,
     };
     let mut edges: u64 = 0;
     for b in boxes {
-        edges += u64::from(fans.count(grid, b.get()));
+        let cells = fans.count(grid, b.get())?;
+        edges += u64::from(cells);
     }
     fans.edges = edges;
     Ok(fans)

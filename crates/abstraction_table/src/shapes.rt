@@ -75,16 +75,17 @@ impl Shapes {
 
 /// The segments of the shapes whose cells are counted.
 pub(crate) fn build_shapes(alloc: Global, grid: &Grid, fans: &Fans) -> Result<Shapes, AllocError>
-    requires distances { length fans.now.counts.items ≡ cells_of grid.now }
+    requires limit { cells_of grid.now ≤ CELLS_LIMIT }
+    requires distances { length fans.now.counts.items ≤ cells_of grid.now }
     requires shapes { AreShapes grid.now fans.now.counts.items }
     requires few { sum fans.now.counts.items ≤ EDGES_LIMIT }
     ensures { IfOk result (λ shapes. EachShapeHasSegments grid.now shapes fans.now.counts.items) }
 {
     let mut shapes = Shapes {
-        spans: vec![in alloc; NO_SEGMENTS; grid.cells() as usize]?,
+        spans: vec![in alloc; NO_SEGMENTS; fans.counts.len()]?,
         segments: Vec::new(alloc),
     };
-    for distance in 0..grid.cells() {
+    for distance in 0..fans.counts.len() as u32 {
         if fans.counts[distance as usize] > 0 {
             shapes.push_shape(grid, distance)?;
         }

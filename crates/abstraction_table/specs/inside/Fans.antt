@@ -1,5 +1,5 @@
 -- How many cells boxes have, by the distance from their first cell to their last.
-use Rattle.std.specs.Prelude.{◌≡◌, ℕ, ◌-◌, ◌<◌, ◌≤◌, List, length, slice_index, sum, Option, Some, None, IfSome}
+use Rattle.std.specs.Prelude.{◌≡◌, ℕ, ◌-◌, ◌<◌, ◌≤◌, List, ◌++◌, length, slice_index, sum, Option, Some, None, IfSome}
 use Rattle.std.specs.List.{All}
 use Rattle.grid_quantiser.specs.declared.axis.Axis.{Axis}
 use Rattle.grid_quantiser.specs.declared.boxes.CellBox.{CellBox}
@@ -11,6 +11,10 @@ use Rattle.abstraction_table.specs.inside.Tallies.{edges_of}
 abbrev pub fan_of : List ℕ → Option CellBox → ℕ
 fan_of fans None = 0
 fan_of fans (Some b) = slice_index fans (b.last - b.first)
+
+-- counts of 0 stand after those before
+abbrev pub GoesOnInZeros : List ℕ → List ℕ → Type 0
+GoesOnInZeros before after = (more : List ℕ) × (after ≡ before ++ more) × All (λ n. n ≡ 0) more
 
 -- A distance is that of a shape, and its count is how many cells the shape has: one at least.
 pub record IsCounted (axes : List Axis) (fans : List ℕ) (distance : ℕ) : Type 0 where
@@ -38,9 +42,9 @@ pub record HasFan (axes : List Axis) (fans : List ℕ) (b : CellBox) : Type 0 wh
 abbrev pub FanIsKnown : List Axis → List ℕ → Option CellBox → Type 0
 FanIsKnown axes fans b = IfSome b (HasFan axes fans)
 
--- There is a count for each distance: how many cells each box of the list has, and all counts together are no more than the boxes' edges.
+-- There is a count for the distance of each box of the list, how many cells it has, and all counts together are no more than the boxes' edges.
 pub record AreFansOf (axes : List Axis) (boxes : List (Option CellBox)) (fans : List ℕ) : Type 0 where
-  pub one_each : length fans ≡ cells_of axes
+  pub distances : length fans ≤ cells_of axes
   pub shapes : AreShapes axes fans
   pub each : All (FanIsKnown axes fans) boxes
   pub few : sum fans ≤ edges_of axes boxes

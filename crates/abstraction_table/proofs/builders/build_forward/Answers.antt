@@ -8,6 +8,9 @@ build_shapes-requires-clause-few g c =
     let game = c.in_ok-boxed.boxed in
     omega (arith, game.in_memory.counted.few, total game.grid game.boxes.items, game.in_memory.graph.edges_bound)
 
+pub build_shapes-requires-clause-limit : goal.build_shapes-requires-clause-limit
+build_shapes-requires-clause-limit g c = omega (arith, c.in_ok-boxed.boxed.in_memory.graph.cells_bound)
+
 pub invariant_of-result : goal.invariant_of-result
 invariant_of-result g c =
     let game = c.in_ok-boxed.boxed in

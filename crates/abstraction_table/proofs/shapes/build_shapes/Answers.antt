@@ -10,7 +10,7 @@ loop-distance-preserved c =
     let axes = c.args.grid.now in
     let fans = c.args.fans.now.counts.items in
     let n = c.loop-distance.distance in
-    let below : n < length fans = omega (arith, c.loop-distance-test.true, c.cells-distance-end.ensures.count, c.requires.distances) in
+    let below : n < length fans = omega (arith, c.loop-distance-test.true, c.len-distance-end.ensures, c.args.fans.now.counts.ok.0) in
     let read : c.index.result.now ≡ get_or fans n 0 = c.index.ensures ∙ get_or_default fans n c.index.result.now 0 below in
     let So : Shapes → Type 0 = ShapesSoFar axes fans (n + 1) in
     elim c.if-index-gt0.branch [
