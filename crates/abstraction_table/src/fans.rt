@@ -1,5 +1,5 @@
 //! How many cells boxes have.
-ghost use Rattle.std.specs.Prelude.{◌≡◌, ◌+◌, ◌-◌, ◌^◌, ◌<◌, ◌≤◌, max, length, sum, IfOk, IfSome};
+ghost use Rattle.std.specs.Prelude.{◌≡◌, ◌+◌, ◌-◌, ◌^◌, ◌<◌, ◌≤◌, max, length, sum, Some, IfOk, IfSome};
 ghost use Rattle.std.specs.List.{All};
 ghost use Rattle.grid_quantiser.specs.Axes.{cells_of, AreAxes};
 ghost use Rattle.successor_box.specs.SuccessorBoxes.{cells_in};
@@ -38,7 +38,6 @@ impl Fans {
 
     /// Makes room for the count of a distance. Those up to the greatest distance of a box are kept, and no memory past them is
     /// touched.
-    #[inline]
     fn reach(&mut self, distance: usize) -> Result<(), AllocError>
         requires { distance < CELLS_LIMIT }
         ensures within { IfOk result (λ _. distance < length self.new.counts.items) }
@@ -69,11 +68,30 @@ impl Fans {
             return Ok(0);
         };
         let distance = (b.last - b.first) as usize;
-        self.reach(distance)?;
-        let known = self.counts[distance];
-        if known > 0 {
-            return Ok(known);
+        if let Some(known) = self.counts.get(distance) {
+            if *known > 0 {
+                return Ok(*known);
+            }
         }
+        self.count_shape(grid, b)
+    }
+
+    /// Counts the cells of the shape of a box.
+    #[cold]
+    fn count_shape(&mut self, grid: &Grid, b: CellBox) -> Result<u32, AllocError>
+        requires grid { AreAxes grid.now }
+        requires limit { cells_of grid.now ≤ CELLS_LIMIT }
+        requires ordered { IsBox grid.now (Some b) }
+        requires distances { length self.old.counts.items ≤ cells_of grid.now }
+        requires shapes { AreShapes grid.now self.old.counts.items }
+        ensures distances { IfOk result (λ _. length self.new.counts.items ≤ cells_of grid.now) }
+        ensures kept { IfOk result (λ _. KeepsFans grid.now self.old.counts.items self.new.counts.items) }
+        ensures counted { IfOk result (λ _. IsCounted grid.now self.new.counts.items (b.last - b.first)) }
+        ensures cells { IfOk result (λ cells. cells ≡ length (cells_in grid.now (Some b))) }
+        ensures few { IfOk result (λ cells. sum self.new.counts.items ≤ sum self.old.counts.items + cells) }
+    {
+        let distance = (b.last - b.first) as usize;
+        self.reach(distance)?;
         let cells = grid.box_count(b) as u32;
         self.counts[distance] = cells;
         Ok(cells)
