@@ -18,7 +18,8 @@ use std::alloc::{AllocError, Global};
 use std::thread::Threads;
 use successor_box::Sampled;
 
-/// About how many pairs one call finds the boxes of: to start a thread takes as long as some thousands of them.
+/// About how many pairs one call finds the boxes of, and twice as many where it finds all: to start a thread takes as long as some
+/// thousands of them.
 const BOXES_PER_TASK: usize = 4096;
 
 /// So many cells share a call at least: what the earlier states bring to a box is added once for those of a row.
@@ -39,7 +40,7 @@ pub(crate) fn build_boxes<R: Threads + Sync>(
     let inputs = p.vectors() as usize;
     let pairs = p.grid().cells() as usize * inputs;
     let mut boxes = vec![in alloc; PairBox::new(Some(CellBox { first: 0, last: 0 })); pairs]?;
-    if pairs <= BOXES_PER_TASK {
+    if pairs <= 2 * BOXES_PER_TASK {
         boxes_of_cells(sampled, tables, 0, &mut boxes);
         return Ok(boxes);
     }

@@ -11,8 +11,8 @@ use Rattle.abstraction_table.proofs.PairBoxes.{all_boxes, are_boxes, chunk_cells
 use Rattle.abstraction_table.proofs.pair_boxes.build_boxes.Goals as goal
 
 -- few pairs, in one call
-pub returns-then-pairs-le-BOXES_PER_TASK : goal.returns-then-pairs-le-BOXES_PER_TASK
-returns-then-pairs-le-BOXES_PER_TASK g c =
+pub returns-then-pairs : goal.returns-then-pairs
+returns-then-pairs g c =
     let p = c.args.sampled.now.plant.now in
     let found = c.boxes_of_cells.new.boxes in
     let pairs : c.cells.result * c.vectors.result ≡ pairs_of p =
