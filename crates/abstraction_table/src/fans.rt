@@ -1,9 +1,9 @@
 //! How many cells boxes have.
-ghost use Rattle.std.specs.Prelude.{◌≡◌, ◌+◌, ◌-◌, ◌^◌, ◌<◌, ◌≤◌, max, length, sum, Some, IfOk, IfSome};
+ghost use Rattle.std.specs.Prelude.{◌≡◌, ◌+◌, ◌-◌, ◌^◌, ◌<◌, ◌≤◌, length, sum, Some, IfOk, IfSome};
 ghost use Rattle.std.specs.List.{All};
 ghost use Rattle.grid_quantiser.specs.Axes.{cells_of, AreAxes};
 ghost use Rattle.successor_box.specs.SuccessorBoxes.{cells_in};
-ghost use Rattle.abstraction_table.specs.inside.Fans.{fan_of, GoesOnInZeros, IsCounted, AreShapes, KeepsFans, AreFansOf};
+ghost use Rattle.abstraction_table.specs.inside.Fans.{fan_of, Reaches, IsCounted, ShapeIsCounted, AreShapes, KeepsFans, AreFansOf};
 ghost use Rattle.abstraction_table.specs.inside.SourceLists.{IsBox};
 ghost use Rattle.abstraction_table.specs.inside.Tallies.{edges_of};
 ghost use Rattle.base.specs.declared.limits.TheConstants.{CELLS_LIMIT, PAIRS_LIMIT};
@@ -40,9 +40,7 @@ impl Fans {
     /// touched.
     fn reach(&mut self, distance: usize) -> Result<(), AllocError>
         requires { distance < CELLS_LIMIT }
-        ensures within { IfOk result (λ _. distance < length self.new.counts.items) }
-        ensures few { IfOk result (λ _. length self.new.counts.items ≤ max (length self.old.counts.items) (distance + 1)) }
-        ensures same { IfOk result (λ _. GoesOnInZeros self.old.counts.items self.new.counts.items) }
+        ensures { IfOk result (λ _. Reaches distance self.old.counts.items self.new.counts.items) }
     {
         if distance >= self.counts.len() {
             self.counts.resize(distance + 1, 0)?;
@@ -60,7 +58,7 @@ impl Fans {
         requires shapes { AreShapes grid.now self.old.counts.items }
         ensures distances { IfOk result (λ _. length self.new.counts.items ≤ cells_of grid.now) }
         ensures kept { IfOk result (λ _. KeepsFans grid.now self.old.counts.items self.new.counts.items) }
-        ensures counted { IfOk result (λ _. IfSome b (λ b. IsCounted grid.now self.new.counts.items (b.last - b.first))) }
+        ensures counted { IfOk result (λ _. ShapeIsCounted grid.now self.new.counts.items b) }
         ensures cells { IfOk result (λ cells. cells ≡ length (cells_in grid.now b)) }
         ensures few { IfOk result (λ cells. sum self.new.counts.items ≤ sum self.old.counts.items + cells) }
     {

@@ -25,7 +25,7 @@ pub(crate) fn add_per_pair(
 )
     requires state { state < length sampled.now.plant.now.equations }
     requires stride { stride ≡ stride_of sampled.now.plant.now state }
-    requires increments { IfSome increments (λ increments. AreInputIncrements sampled.now.plant.now state increments.now) }
+    requires increments { IfSome increments (λ v. AreInputIncrements sampled.now.plant.now state v.now) }
     requires cells { HaveSums sampled.now.plant.now state indices.now boxes.old }
     ensures long { length boxes.new ≡ length boxes.old }
     ensures added { AddsTo sampled.now.plant.now state indices.now boxes.old boxes.new }

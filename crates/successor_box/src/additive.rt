@@ -1,13 +1,12 @@
 //! Equations to which inputs are only added: their values under one input vector give those under all.
-ghost use Rattle.std.specs.Prelude.{◌≡◌, ◌<◌, ℕ, pos, ◌+ℤ◌, length, slice_index_or, IfOk, IfSome, IsTrue, IsFalse};
+ghost use Rattle.std.specs.Prelude.{◌<◌, length, IfOk, IfSome, IsTrue, IsFalse};
 ghost use Rattle.fixed_expr.specs.Expression.{expression_of};
-ghost use Rattle.fixed_expr.specs.declared.lanes.TheConstants.{LANES};
 ghost use Rattle.plant_record.specs.Description.{vectors_of};
 ghost use Rattle.plant_record.specs.Limits.{IsWithinLimits};
 ghost use Rattle.successor_box.specs.CellLines.{HaveCentres, KeepCentres};
-ghost use Rattle.successor_box.specs.AdditiveInputs.{AreInputIncrements, increased, IsAdditiveLineOf};
+ghost use Rattle.successor_box.specs.AdditiveInputs.{AreInputIncrements, IsAdditiveLineOf};
 ghost use Rattle.successor_box.specs.inside.Additive.{NamesNoInput, NamesNoState, HasAdditiveInputs};
-ghost use Rattle.successor_box.specs.inside.Lines.{value_at};
+ghost use Rattle.successor_box.specs.inside.Lines.{IsIncrementTo, AreIncreased};
 
 use crate::cell_line::{CellLine, set_input};
 use crate::sampled::Sampled;
@@ -54,7 +53,7 @@ impl Sampled<'_> {
     fn input_increment(&self, input: u32, state: u32) -> Option<i64>
         requires state { state < length self.now.plant.now.equations }
         requires input { input < vectors_of self.now.plant.now.inputs }
-        ensures { IfSome result (λ increment. value_at self.now.plant.now state 0 input ≡ value_at self.now.plant.now state 0 0 +ℤ increment) }
+        ensures { IfSome result (IsIncrementTo self.now.plant.now state input) }
     {
         let first = self.next_along(0, 0, state);
         let value = self.next_along(0, input, state);
@@ -128,7 +127,7 @@ impl AdditiveLine<'_> {
     /// The values in the lanes under an input vector, unless one leaves 64 bits. After None nothing is said of `found`.
     pub(crate) fn values_under(&self, input: u32, found: &mut [i64; LANES]) -> Option<()>
         requires { input < length self.now.increments.now }
-        ensures { IfSome result (λ _. (lane : ℕ) → lane < LANES → slice_index_or found.new lane (pos 0) ≡ increased self.now input lane) }
+        ensures { IfSome result (λ _. AreIncreased self.now input found.new) }
     {
         let increment = self.increments[input as usize];
         for k in 0..LANES {

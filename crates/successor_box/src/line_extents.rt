@@ -67,7 +67,7 @@ impl Sampled<'_> {
         requires version { self.now.plant.now.version ≡ One }
         requires input { input < vectors_of self.now.plant.now.inputs }
         requires state { state < length self.now.plant.now.equations }
-        requires additive { IfSome additive (λ a. GivesValues (equation_at self.now.plant.now state) at.now input a.now) }
+        requires line { IfSome additive (λ a. GivesValues (equation_at self.now.plant.now state) at.now input a.now) }
         requires values { HaveValuesUnder self.now.plant.now input at.now }
         requires few { length extents.old ≤ LANES }
         ensures long { length extents.new ≡ length extents.old }

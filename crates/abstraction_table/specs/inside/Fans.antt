@@ -1,5 +1,5 @@
 -- How many cells boxes have, by the distance from their first cell to their last.
-use Rattle.std.specs.Prelude.{◌≡◌, ℕ, ◌-◌, ◌<◌, ◌≤◌, List, ◌++◌, length, slice_index, sum, Option, Some, None, IfSome}
+use Rattle.std.specs.Prelude.{◌≡◌, ℕ, ◌+◌, ◌-◌, max, ◌<◌, ◌≤◌, List, ◌++◌, length, slice_index, sum, Option, Some, None, IfSome}
 use Rattle.std.specs.List.{All}
 use Rattle.grid_quantiser.specs.declared.axis.Axis.{Axis}
 use Rattle.grid_quantiser.specs.declared.boxes.CellBox.{CellBox}
@@ -16,11 +16,21 @@ fan_of fans (Some b) = slice_index fans (b.last - b.first)
 abbrev pub GoesOnInZeros : List ℕ → List ℕ → Type 0
 GoesOnInZeros before after = (more : List ℕ) × (after ≡ before ++ more) × All (λ n. n ≡ 0) more
 
+-- Counts of 0 stand after those before, as far as a distance.
+pub record Reaches (distance : ℕ) (before after : List ℕ) : Type 0 where
+  pub within : distance < length after
+  pub few : length after ≤ max (length before) (distance + 1)
+  pub same : GoesOnInZeros before after
+
 -- A distance is that of a shape, and its count is how many cells the shape has: one at least.
 pub record IsCounted (axes : List Axis) (fans : List ℕ) (distance : ℕ) : Type 0 where
   pub shape : IsCellBox axes 0 distance
   pub some : 1 ≤ slice_index fans distance
   pub cells : slice_index fans distance ≡ length (cells_between axes 0 distance)
+
+-- the shape of a box is counted, where there is a box
+abbrev pub ShapeIsCounted : List Axis → List ℕ → Option CellBox → Type 0
+ShapeIsCounted axes fans b = IfSome b (λ b. IsCounted axes fans (b.last - b.first))
 
 -- each count but 0 is that of a shape
 abbrev pub AreShapes : List Axis → List ℕ → Type 0

@@ -105,6 +105,14 @@ HoldCellRanges p at k column = (cell : ℕ → ℕ) (u : ℕ) → AreValuesUnder
 abbrev pub AreCellAreas : Description → ValuesAlong → List IntervalColumn → Type 0
 AreCellAreas p at columns = (k : ℕ) → k < variables_of p → HoldCellRanges p at k (slice_index_or columns k no_column)
 
+-- so much the value of the equation of a state goes on from the first input vector to another, in the first cell
+abbrev pub IsIncrementTo : Description → ℕ → ℕ → ℤ → Type 0
+IsIncrementTo p i u n = value_at p i 0 u ≡ value_at p i 0 0 +ℤ n
+
+-- in each lane stands what a line has there, increased for an input vector
+abbrev pub AreIncreased : AdditiveLine → ℕ → List ℤ → Type 0
+AreIncreased line u found = (lane : ℕ) → lane < LANES → slice_index_or found lane (pos 0) ≡ increased line u lane
+
 -- There is an increment for an input vector, and with it a line has the value of an expression in each lane.
 pub record GivesValues (e : Expression) (at : ValuesAlong) (u : ℕ) (line : AdditiveLine) : Type 0 where
   pub within : u < length line.increments.now

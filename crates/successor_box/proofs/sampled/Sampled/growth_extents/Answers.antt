@@ -12,7 +12,7 @@ eval_beside-requires-clause-formed c =
     formed_at p c.args.state c.equation.result.now _ (sound_plant p c.args.self.now.within.plant) c.requires.state c.equation.ensures c.requires.values.1.long
 
 pub eval_beside-requires-clause-additive : goal.eval_beside-requires-clause-additive
-eval_beside-requires-clause-additive c = subst (λ (e : Expression). IfSome c.args.additive (λ a. GivesValues e c.args.at.now c.args.input a.now)) (sym (equation_is c.args.self.now.plant.now c.args.state c.equation.result.now c.equation.ensures)) c.requires.additive
+eval_beside-requires-clause-additive c = subst (λ (e : Expression). IfSome c.args.additive (λ a. GivesValues e c.args.at.now c.args.input a.now)) (sym (equation_is c.args.self.now.plant.now c.args.state c.equation.result.now c.equation.ensures)) c.requires.line
 
 pub returns-in-Some-clause-each : goal.returns-in-Some-clause-each
 returns-in-Some-clause-each c = λ cell are.
