@@ -44,8 +44,8 @@ is_moved axes o b is grid ordered = boxes_are_moved_shapes axes b.first b.last g
 zeros_sum : (more : List ℕ) → All (λ n. n ≡ 0) more → sum more ≡ 0
 zeros_sum more none = sum_zeros (λ n. n) more none
 
-module _ (axes : List Axis) (before after : List ℕ) (on : GoesOnInZeros before after) where
-  same_count : (k : ℕ) → get_or after k 0 ≡ get_or before k 0
+module _ (before after : List ℕ) (on : GoesOnInZeros before after) where
+  pub same_count : (k : ℕ) → get_or after k 0 ≡ get_or before k 0
   same_count k =
       ap (λ (ns : List ℕ). get_or ns k 0) on.1
       ∙ elim (cases_lt k (length before)) [
@@ -62,12 +62,13 @@ module _ (axes : List Axis) (before after : List ℕ) (on : GoesOnInZeros before
   pub same_sum : sum after ≡ sum before
   same_sum = omega (arith, ap sum on.1, sum_by-append (λ n. n) before on.0, zeros_sum on.0 on.2)
 
+module _ (axes : List Axis) (before after : List ℕ) (on : GoesOnInZeros before after) where
   counted_too : (k : ℕ) → IsCounted axes before k → IsCounted axes after k
-  counted_too k h = record { shape = h.shape; some = omega (arith, same_count k, h.some); cells = same_count k ∙ h.cells }
+  counted_too k h = record { shape = h.shape; some = omega (arith, same_count before after on k, h.some); cells = same_count before after on k ∙ h.cells }
 
   pub keeps_all : AreShapes axes before → KeepsFans axes before after
   keeps_all shapes = record {
-    shapes = λ k some. counted_too k (shapes k (omega (arith, same_count k, some)));
+    shapes = λ k some. counted_too k (shapes k (omega (arith, same_count before after on k, some)));
     kept = counted_too;
   }
 
@@ -146,7 +147,7 @@ fans_more axes boxes n before after edges cells below h most keep counted count 
 }
 
 -- a shape that is counted has a count
-counted_within : (axes : List Axis) (fans : List ℕ) (k : ℕ) → IsCounted axes fans k → k < length fans
+pub counted_within : (axes : List Axis) (fans : List ℕ) (k : ℕ) → IsCounted axes fans k → k < length fans
 counted_within axes fans k h = elim (cases_lt k (length fans)) [
   | inl within ↦ within
   | inr past ↦ absurd (omega (arith, get_or_past fans k 0 past, h.some))

@@ -2,6 +2,7 @@ pub mod BelowBoxes
 pub mod Mapped
 pub mod PairBoxes
 pub mod CountedFans
+pub mod MergedFans
 pub mod Tallying
 pub mod BandIndices
 pub mod BandCuts

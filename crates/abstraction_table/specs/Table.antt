@@ -9,7 +9,7 @@ use Rattle.abstraction_table.specs.BoxGame.{box_game}
 
 -- the game by the boxes of its pairs
 abbrev pub game_in : BoxedGame → Game
-game_in b = box_game b.grid b.inputs b.marks.items b.boxes.items
+game_in b = box_game b.grid b.inputs b.marks.items b.boxes
 
 -- the game that is seen ahead
 abbrev pub forward_game : ForwardAbstraction → Game
@@ -17,7 +17,7 @@ forward_game o = game_in o.boxed
 
 -- the boxes of all pairs
 abbrev pub boxes_forward : ForwardAbstraction → List (Option CellBox)
-boxes_forward o = o.boxed.boxes.items
+boxes_forward o = o.boxed.boxes
 
 -- the game
 abbrev pub game_of : Abstraction → Game
@@ -25,4 +25,4 @@ game_of a = game_in a.boxed
 
 -- the boxes of all pairs
 abbrev pub boxes_of : Abstraction → List (Option CellBox)
-boxes_of a = a.boxed.boxes.items
+boxes_of a = a.boxed.boxes

@@ -11,7 +11,7 @@ use grid_quantiser::CellBox;
 pub struct Abstraction {
     pub(crate) boxed: BoxedGame,
     pub(crate) sources: Sources,
-    ghost in_memory: { AreSourceBands boxed.grid boxed.boxes.items sources.size sources.groups.items sources.bands.items } by { Prim.hlevel box_props },
+    ghost in_memory: { AreSourceBands boxed.grid boxed.boxes sources.size sources.groups.items sources.bands.items } by { Prim.hlevel box_props },
 }
 
 impl Abstraction {

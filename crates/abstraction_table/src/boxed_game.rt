@@ -8,6 +8,7 @@ use crate::fans::Fans;
 use crate::pair_box::PairBox;
 use game_core::Mark;
 use grid_quantiser::{CellBox, Grid};
+use raw_slots::RawList;
 
 /// The game of a plant by the boxes of its pairs. A pair's successors are the cells of its box, in rising
 /// order; they are not listed in memory.
@@ -16,9 +17,9 @@ pub(crate) struct BoxedGame {
     pub(crate) grid: Grid,
     pub(crate) inputs: u32,
     pub(crate) marks: Vec<Mark>,
-    pub(crate) boxes: Vec<PairBox>,
+    pub(crate) boxes: RawList<PairBox>,
     pub(crate) fans: Fans,
-    ghost in_memory: { IsBoxGame grid inputs marks.items boxes.items fans.counts.items } by { Prim.hlevel box_props },
+    ghost in_memory: { IsBoxGame grid inputs marks.items boxes fans.counts.items } by { Prim.hlevel box_props },
 }
 
 impl BoxedGame {
@@ -49,9 +50,9 @@ impl BoxedGame {
     /// The box of a pair: None where its input isn't enabled.
     pub(crate) fn boxes(&self, pair: u32) -> Option<CellBox>
         requires { pair < pairs_of (game_in self.now) }
-        ensures { result ≡ box_at self.now.boxes.items pair }
+        ensures { result ≡ box_at self.now.boxes pair }
     {
-        self.boxes[pair as usize].get()
+        self.boxes.as_slice()[pair as usize].get()
     }
 
     /// How many successors a pair has.

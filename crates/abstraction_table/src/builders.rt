@@ -55,7 +55,7 @@ pub fn add_sources<R: Threads + Sync>(
         rt,
         alloc,
         &boxed.grid,
-        &boxed.boxes,
+        boxed.boxes.as_slice(),
         &boxed.fans,
         &forward.shapes,
     );
@@ -87,13 +87,13 @@ fn build_game<R: Threads + Sync>(
     sampled: &Sampled<'_>,
 ) -> Result<BoxedGame, BuildFault>
     ensures game { IfOk result (λ g. IsGameOf sampled.now.plant.now (game_in g)) }
-    ensures boxes { IfOk result (λ g. AreBoxesOf sampled.now.plant.now g.boxes.items) }
+    ensures boxes { IfOk result (λ g. AreBoxesOf sampled.now.plant.now g.boxes) }
     ensures fault { IfErr result (IsFaultOf sampled.now.plant.now) }
 {
     let p = sampled.plant;
     let grid = *p.grid();
     let boxes = build_boxes(rt, alloc, sampled)?;
-    let fans = count_fans(alloc, &grid, &boxes)?;
+    let fans = count_fans(rt, alloc, &grid, boxes.as_slice())?;
     let edges = fans.edges;
     if edges > EDGES_LIMIT {
         return Err(BuildFault::TooManyEdges { edges });

@@ -1,16 +1,25 @@
 //! How many cells boxes have.
-ghost use Rattle.std.specs.Prelude.{◌≡◌, ◌+◌, ◌-◌, ◌^◌, ◌<◌, ◌≤◌, length, sum, Some, IfOk, IfSome};
+ghost use Rattle.std.specs.Prelude.{◌≡◌, ◌+◌, ◌-◌, ◌*◌, ◌^◌, max, ◌<◌, ◌≤◌, length, sum, Some, IfOk, IfSome};
 ghost use Rattle.std.specs.List.{All};
 ghost use Rattle.grid_quantiser.specs.Axes.{cells_of, AreAxes};
 ghost use Rattle.successor_box.specs.SuccessorBoxes.{cells_in};
-ghost use Rattle.abstraction_table.specs.inside.Fans.{fan_of, Reaches, IsCounted, ShapeIsCounted, AreShapes, KeepsFans, AreFansOf};
+ghost use Rattle.abstraction_table.specs.inside.Fans.{fan_of, Reaches, IsCounted, ShapeIsCounted, AreShapes, KeepsFans, AreFansOf, AreMerged, CountBoxes};
 ghost use Rattle.abstraction_table.specs.inside.SourceLists.{IsBox};
 ghost use Rattle.abstraction_table.specs.inside.Tallies.{edges_of};
+ghost use Rattle.abstraction_table.specs.declared.fans.TheConstants.{BOXES_FOR_A_PART, PARTS_LIMIT};
 ghost use Rattle.base.specs.declared.limits.TheConstants.{CELLS_LIMIT, PAIRS_LIMIT};
 
 use crate::pair_box::PairBox;
 use grid_quantiser::{CellBox, Grid};
+use rayon::current_num_threads;
 use std::alloc::{AllocError, Global};
+use std::thread::{Threads, map_chunks};
+
+/// So many boxes for each part at least: to start a thread takes as long as to count some thousands of them.
+const BOXES_FOR_A_PART: usize = 1 << 16;
+
+/// The most parts. The counts of each take memory of their own.
+const PARTS_LIMIT: usize = 8;
 
 /// How many cells the boxes of each shape have. A box is its shape, moved by its first cell, and how
 /// far its last cell is from its first gives the shape.
@@ -94,10 +103,76 @@ impl Fans {
         self.counts[distance] = cells;
         Ok(cells)
     }
+
+    /// Takes the counts of other boxes as well.
+    fn merge(&mut self, other: &Fans) -> Result<(), AllocError>
+        requires edges { self.old.edges + other.now.edges < 2 ^ 64 }
+        ensures counts { IfOk result (λ _. AreMerged self.old.counts.items other.now.counts.items self.new.counts.items) }
+        ensures edges { IfOk result (λ _. self.new.edges ≡ self.old.edges + other.now.edges) }
+    {
+        let len = self.counts.len().max(other.counts.len());
+        self.counts.resize(len, 0)?;
+        fill_zeros(&mut self.counts, &other.counts);
+        self.edges += other.edges;
+        Ok(())
+    }
 }
 
-/// How many cells the boxes of each shape have, and all boxes together.
-pub(crate) fn count_fans(alloc: Global, grid: &Grid, boxes: &[PairBox]) -> Result<Fans, AllocError>
+/// How many cells the boxes of each shape have, and all boxes together. Parts of many boxes are counted
+/// side by side.
+pub(crate) fn count_fans<R: Threads + Sync>(
+    rt: &R,
+    alloc: Global,
+    grid: &Grid,
+    boxes: &[PairBox],
+) -> Result<Fans, AllocError>
+    requires grid { AreAxes grid.now }
+    requires ordered { All (IsBox grid.now) boxes.now }
+    requires limit { length boxes.now ≤ PAIRS_LIMIT }
+    ensures fans { IfOk result (λ fans. AreFansOf grid.now boxes.now fans.counts.items) }
+    ensures edges { IfOk result (λ fans. fans.edges ≡ edges_of grid.now boxes.now) }
+{
+    let parts = part_count(rt, boxes.len());
+    if parts == 1 {
+        return count_part(alloc, grid, boxes);
+    }
+    let count = |_: usize, part: &[PairBox]| -> Result<Fans, AllocError>
+        requires grid { AreAxes grid.now }
+        requires ordered { All (IsBox grid.now) part.now }
+        requires limit { length part.now ≤ PAIRS_LIMIT }
+        ensures { IfOk result (λ fans. CountBoxes grid.entry.now part.entry.now fans.counts.items fans.edges) }
+    { count_part(alloc, grid, part) };
+    let size = boxes.len().div_ceil(parts);
+    let counted = map_chunks(rt, alloc, boxes, size, &count)?;
+    let mut fans = Fans {
+        counts: Vec::with_capacity(alloc, grid.cells() as usize)?,
+        edges: 0,
+    };
+    for part in &counted {
+        match part {
+            Ok(part) => fans.merge(part)?,
+            Err(error) => return Err(*error),
+        }
+    }
+    Ok(fans)
+}
+
+/// How many parts of the boxes are counted side by side: one for each processor, unless there are few boxes.
+fn part_count<R: Threads>(rt: &R, boxes: usize) -> usize
+    ensures some { 1 ≤ result }
+    ensures few { result ≤ PARTS_LIMIT }
+    ensures full { result * BOXES_FOR_A_PART ≤ max boxes BOXES_FOR_A_PART }
+{
+    let most = boxes / BOXES_FOR_A_PART;
+    if most <= 1 {
+        // One part needs no number of processors, for which the system's files are read.
+        return 1;
+    }
+    most.min(current_num_threads(rt)).clamp(1, PARTS_LIMIT)
+}
+
+/// How many cells the boxes of each shape have, and all boxes together. They are counted by one thread.
+fn count_part(alloc: Global, grid: &Grid, boxes: &[PairBox]) -> Result<Fans, AllocError>
     requires grid { AreAxes grid.now }
     requires ordered { All (IsBox grid.now) boxes.now }
     requires limit { length boxes.now ≤ PAIRS_LIMIT }
@@ -115,4 +190,16 @@ pub(crate) fn count_fans(alloc: Global, grid: &Grid, boxes: &[PairBox]) -> Resul
     }
     fans.edges = edges;
     Ok(fans)
+}
+
+/// Where there is no count, there is the one that was found, if there is one.
+fn fill_zeros(known: &mut [u32], found: &[u32])
+    requires { length found.now ≤ length known.old }
+    ensures { AreMerged known.old found.now known.new }
+{
+    for distance in 0..found.len() {
+        if known[distance] == 0 {
+            known[distance] = found[distance];
+        }
+    }
 }

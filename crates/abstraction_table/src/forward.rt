@@ -11,7 +11,7 @@ use grid_quantiser::CellBox;
 pub struct ForwardAbstraction {
     pub(crate) boxed: BoxedGame,
     pub(crate) shapes: Shapes,
-    ghost listed: { EachBoxHasSegments boxed.grid shapes boxed.boxes.items } by { Prim.hlevel box_props },
+    ghost listed: { EachBoxHasSegments boxed.grid shapes boxed.boxes } by { Prim.hlevel box_props },
 }
 
 impl ForwardAbstraction {

@@ -1,5 +1,5 @@
 //! The boxes of all pairs.
-ghost use Rattle.std.specs.Prelude.{◌≡◌, ℕ, ◌+◌, ◌*◌, ◌/◌, ◌≤◌, ◌<◌, length, IfOk};
+ghost use Rattle.std.specs.Prelude.{◌≡◌, ℕ, ◌+◌, ◌*◌, ◌/◌, ◌^◌, ◌≤◌, ◌<◌, length, IfOk};
 ghost use Rattle.std.specs.List.{All};
 ghost use Rattle.grid_quantiser.specs.Axes.{cells_of};
 ghost use Rattle.grid_quantiser.specs.ExtentBoxes.{one_cell};
@@ -13,7 +13,7 @@ use crate::cell_lines::boxes_in_line;
 use crate::pair_box::PairBox;
 use crate::terms::{StateTerms, build_tables};
 use grid_quantiser::CellBox;
-use rayon::prelude::*;
+use raw_slots::RawList;
 use std::alloc::{AllocError, Global};
 use std::thread::Threads;
 use successor_box::Sampled;
@@ -22,7 +22,8 @@ use successor_box::Sampled;
 /// thousands of them.
 const BOXES_PER_TASK: usize = 4096;
 
-/// So many cells share a call at least: what the earlier states bring to a box is added once for those of a row.
+/// So many cells share a call at least, where there are more calls than one: what the earlier states bring to a box is added once for
+/// those of a row.
 const CELLS_PER_TASK: usize = 8;
 
 /// The box of each pair of a cell and an input. What the extents along each axis add to it is found first, once for
@@ -31,43 +32,44 @@ pub(crate) fn build_boxes<R: Threads + Sync>(
     rt: &R,
     alloc: Global,
     sampled: &Sampled<'_>,
-) -> Result<Vec<PairBox>, AllocError>
-    ensures { IfOk result (λ boxes. AreBoxesOf sampled.now.plant.now boxes.items) }
+) -> Result<RawList<PairBox>, AllocError>
+    ensures { IfOk result (λ boxes. AreBoxesOf sampled.now.plant.now boxes) }
 {
     let p = sampled.plant;
     let tables = build_tables(rt, alloc, sampled)?;
     let tables = tables.as_slice();
+    let cells = p.grid().cells() as usize;
     let inputs = p.vectors() as usize;
-    let pairs = p.grid().cells() as usize * inputs;
-    let mut boxes = vec![in alloc; PairBox::new(Some(CellBox { first: 0, last: 0 })); pairs]?;
-    if pairs <= 2 * BOXES_PER_TASK {
-        boxes_of_cells(sampled, tables, 0, &mut boxes);
-        return Ok(boxes);
-    }
-    par_chunks_mut_for_each(
+    RawList::by_chunks(
         rt,
-        &mut boxes,
-        cells_in_chunk(inputs) * inputs,
+        alloc,
+        PairBox::new(Some(CellBox { first: 0, last: 0 })),
+        cells * inputs,
+        cells_in_chunk(cells, inputs) * inputs,
         |at: usize, boxes: &mut [PairBox]|
             requires tables { AreTermTablesOf sampled.now.plant.now tables.now }
             requires inputs { inputs ≡ vectors_of sampled.now.plant.now.inputs }
             requires some_input { 0 < inputs }
             requires cells { (n : ℕ) × (length boxes.now ≡ n * inputs) × (at / inputs + n ≤ cells_of (axes_of sampled.now.plant.now)) }
             requires start { All (λ b. b ≡ one_cell) boxes.now }
-            ensures { AreBoxesFrom sampled.entry.now.plant.now (at / inputs) boxes.exit.now }
+            ensures { (length boxes.exit.now ≡ length boxes.entry.now) × AreBoxesFrom sampled.entry.now.plant.now (at / inputs) boxes.exit.now }
         {
             boxes_of_cells(sampled, tables, (at / inputs) as u32, boxes);
         },
-    );
-    Ok(boxes)
+    )
 }
 
-/// How many cells share a call.
-fn cells_in_chunk(inputs: usize) -> usize
-    requires { 0 < inputs }
+/// How many cells share a call: all of them where they have few pairs, so that no thread is started.
+fn cells_in_chunk(cells: usize, inputs: usize) -> usize
+    requires some_cell { 0 < cells }
+    requires some_input { 0 < inputs }
+    requires fits { cells * inputs < 2 ^ 64 }
     ensures some { 1 ≤ result }
-    ensures few { result ≤ BOXES_PER_TASK }
+    ensures few { result ≤ 2 * BOXES_PER_TASK }
 {
+    if cells * inputs <= 2 * BOXES_PER_TASK {
+        return cells;
+    }
     (BOXES_PER_TASK / inputs).max(CELLS_PER_TASK)
 }
 

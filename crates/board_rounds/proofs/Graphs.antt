@@ -1,5 +1,5 @@
 -- What a graph's limits say of one pair.
-use Rattle.std.proofs.Common.{◌≡◌, ℕ, ◌*◌, ◌/◌, ◌^◌, ◌<◌, ◌≤◌, [], length, All, arith}
+use Rattle.std.proofs.Common.{ℕ, ◌/◌, ◌^◌, ◌<◌, ◌≤◌, [], length, All, arith}
 use Rattle.std.proofs.lemmas.List.Sums.{get_or-le-sum_by}
 use Rattle.std.proofs.lemmas.Nat.{div_below}
 use Rattle.game_core.specs.Game.{Game, IsGraph, pairs_of, successors_at}

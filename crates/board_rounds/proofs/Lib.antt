@@ -1,6 +1,7 @@
 pub mod Sums
 pub mod Graphs
 pub mod Boards
+pub mod Filling
 pub mod Accounts
 pub mod Crews
 pub mod Working

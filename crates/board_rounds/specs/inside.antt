@@ -1,4 +1,4 @@
 -- what only private clauses and proofs name
-pub mod FanLists
+pub mod FirstWords
 pub mod WorkerSteps
 pub mod RoundInvariant

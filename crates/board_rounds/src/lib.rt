@@ -3,13 +3,13 @@
 //! The `Rule` gives the first list of cells. In each round, workers with new hands take the cells of the list, each
 //! cell once; they cut the pairs that lead to it and do what the rule adds. Then all hands are taken in, and the cells
 //! that were logged are the next list. `run_all` ends with an empty list, and then the rule's invariant holds for the
-//! empty list. `initial_counters` gives the numbers with which the counters of pairs begin. The crate knows no rule of a game.
+//! empty list. The crate knows no rule of a game.
 #![tactic(auto)]
 
 mod capacity;
-mod fan_list;
 mod first;
 mod logged;
+mod numbers;
 mod resolving;
 mod round_job;
 mod rounds;

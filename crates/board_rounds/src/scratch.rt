@@ -1,14 +1,15 @@
 //! All memory of a solver, taken before it solves.
-ghost use Rattle.std.specs.Prelude.{◌≡◌, ◌≤◌, IfOk};
+ghost use Rattle.std.specs.Prelude.{◌≡◌, ◌≤◌, length, IfOk};
 ghost use Rattle.board_rounds.specs.Boards.{IsBegunWith};
-ghost use Rattle.board_rounds.specs.inside.RoundInvariant.{first_numbers};
+ghost use Rattle.board_rounds.specs.inside.FirstWords.{AreUnfilled, first_words, words_from};
 ghost use Rattle.base.specs.declared.limits.TheConstants.{WORKERS_LIMIT};
 
-use crate::fan_list::initial_counters;
+use crate::numbers::{fill_numbers, words_per_call};
 use crate::rounds::Rounds;
 use crate::start::Start;
 use cell_counters::Board;
 use game_core::{Answer, Forward, NoMemory};
+use raw_slots::RawList;
 use std::alloc::Global;
 use std::marker::{Model, PhantomData};
 use std::thread::Threads;
@@ -39,8 +40,8 @@ impl<S> Model for Scratch<S> {
 
 impl<S: Start> Scratch<S> {
     /// Takes 8 bytes for a pair, on the board, and 32 for a cell: 16 on the board, 4 on the list and 12 in the answer.
-    /// While the board is made it takes 16 for a pair and 32 for a cell. What leads to a cell isn't asked for, so that can be
-    /// found afterwards.
+    /// While the board is made it takes 16 for a pair and 32 for a cell, half of it for the list of the board's words, which is
+    /// given back. What leads to a cell isn't asked for, so that can be found afterwards.
     pub fn new<R: Threads + Sync, G: Forward + Sync>(
         rt: &R,
         alloc: Global,
@@ -53,9 +54,11 @@ impl<S: Start> Scratch<S> {
         let numbers = Scratch::<S>::numbers(rt, alloc, g)?;
         let cells = g.cells();
         let counters = S::count_counters(g);
-        let Ok((board, root)) = Board::of_words(alloc, numbers, counters, cells) else {
+        let Ok((board, root)) = Board::of_words(alloc, numbers.as_slice(), counters, cells) else {
             return Err(NoMemory);
         };
+        // The board has its own copy, and what follows takes memory.
+        drop(numbers);
         let rounds = Rounds::new(alloc, root, cells, workers)?;
         let answer = Answer::blank(alloc, cells)?;
         let start = PhantomData;
@@ -68,21 +71,32 @@ impl<S: Start> Scratch<S> {
         })
     }
 
-    /// The numbers with which the board begins: those of the pairs, then those of the cells. There is room for what the board puts
-    /// after them, the log of the cells and its length.
+    /// The words with which the board begins: the numbers of the pairs, those of the cells, and zeros for the log of the cells and
+    /// its length. Many words are filled by several threads.
     fn numbers<R: Threads + Sync, G: Forward + Sync>(
         rt: &R,
         alloc: Global,
         g: &G,
-    ) -> Result<Vec<u64>, NoMemory>
-        ensures { IfOk result (λ v. v.items ≡ first_numbers (G.game g.now) (S.number (G.game g.now))) }
+    ) -> Result<RawList<u64>, NoMemory>
+        ensures { IfOk result (λ list. list ≡ first_words (G.game g.now) (S.number (G.game g.now))) }
     {
-        let mut numbers = initial_counters(rt, alloc, g)?;
-        let cells = g.cells();
-        numbers.try_reserve_exact(2 * cells as usize + 1)?;
-        for c in 0..cells {
-            numbers.push_reserved(S::number_at(g, c));
-        }
-        Ok(numbers)
+        let cells = g.cells() as usize;
+        let pairs = (g.cells() * g.inputs()) as usize;
+        let len = pairs + 2 * cells + 1;
+        let size = words_per_call(len);
+        let list = RawList::by_chunks(
+            rt,
+            alloc,
+            0,
+            len,
+            size,
+            |first: usize, words: &mut [u64]|
+                requires { AreUnfilled (G.game g.now) (S.number (G.game g.now)) first words.now }
+                ensures { words.exit.now ≡ words_from (G.game g.entry.now) (S.number (G.game g.entry.now)) first (length words.entry.now) }
+            {
+                fill_numbers::<S, G>(g, first, words);
+            },
+        )?;
+        Ok(list)
     }
 }

@@ -4,7 +4,7 @@ use game_core::Forward;
 /// With what a solver's board begins: after a counter for each pair, a number for each cell.
 ///
 /// A counter of a pair begins as the number of its successors. The numbers of the cells are further counters, or least words.
-pub trait Start {
+pub trait Start: Sync {
     ghost use Rattle.std.specs.Prelude.{◌≡◌, ℕ, ◌<◌, List, ◌++◌, length};
     ghost use Rattle.game_core.specs.Game.{Game};
     ghost use Rattle.board_rounds.specs.Boards.{fans_of, for_each_cell};

@@ -1,4 +1,5 @@
 pub mod Lists
+pub mod Words
 pub mod Counts
 pub mod Countdown
 pub mod Parts

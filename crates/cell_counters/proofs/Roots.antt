@@ -156,12 +156,12 @@ look_allowed n slot_count id at me first began idle s h home there small =
 
 -- where the words of a table lie
 pub starts_len : (b : Beginning) (counters tail slots words : ℕ) → IsSized b counters tail slots words → length (setup_of b).starts ≡ counters
-starts_len b counters tail slots words sized = length-take-le b.counters b.words.value.items (omega (arith, sized.split, sized.within, sized.both)) ∙ sym sized.split
+starts_len b counters tail slots words sized = length-take-le b.counters b.words.items (omega (arith, sized.split, sized.within, sized.both)) ∙ sym sized.split
 
 pub tail_is : (b : Beginning) (counters tail slots words : ℕ) → IsSized b counters tail slots words → tail_of (setup_of b) ≡ tail
 tail_is b counters tail slots words sized =
     let front = starts_len b counters tail slots words sized in
-    let len : length (setup_of b).least ≡ length b.words.value.items - b.counters = length-drop b.counters b.words.value.items in
+    let len : length (setup_of b).least ≡ length b.words.items - b.counters = length-drop b.counters b.words.items in
     omega (arith, sized.split, sized.within, sized.both)
 
 -- two boards that look alike began alike
@@ -172,9 +172,9 @@ setup_is t u m n e = ap begun e
     begun b = record { starts = b.starts; least = b.least; slots = b.slots }
 
 -- a new table keeps the rule
-pub begins : (b : Beginning) (counters tail slots words : ℕ) → IsSized b counters tail slots words → All (λ m. m < 2 ^ 64) b.words.value.items → Keeps (setup_of b) (opening (b.words.value.items ++ replicate (1 + slots) 0) [] (root_of b))
+pub begins : (b : Beginning) (counters tail slots words : ℕ) → IsSized b counters tail slots words → All (λ m. m < 2 ^ 64) b.words.items → Keeps (setup_of b) (opening (b.words.items ++ replicate (1 + slots) 0) [] (root_of b))
 begins b counters tail slots words sized small =
-    let items = b.words.value.items in
+    let items = b.words.items in
     let zeros : List ℕ = replicate (1 + slots) 0 in
     let n = setup_of b in
     let front : length (take b.counters items) ≡ counters = starts_len b counters tail slots words sized in

@@ -1,4 +1,5 @@
 pub mod Accounts
 pub mod BoardModels
 pub mod Laws
+pub mod Words
 pub mod inside

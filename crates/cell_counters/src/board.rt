@@ -2,9 +2,11 @@
 ghost use Rattle.std.specs.Prelude.{◌≡◌, ◌≢◌, ◌+◌, ◌^◌, ◌<◌, ◌≤◌, ◌==◌, false, ◌++◌, length, take, drop, replicate, slice_index, IfOk, Any, vec_len};
 ghost use Rattle.cell_counters.specs.Accounts.{IsLawfulCounter, IsLawfulLeast, IsLawfulLog, log_count, all_logs, cell_at};
 ghost use Rattle.cell_counters.specs.BoardModels.{fresh_hand, with_cut, with_offer, with_note, new_root, with_hand_out, with_hand_in, IsLawful, Logs, filled_slots};
+ghost use Rattle.cell_counters.specs.Words.{EndsInZeros, numbers_before_log};
 ghost use Rattle.base.specs.declared.limits.TheConstants.{WORKERS_LIMIT};
 
 use crate::account::NONE;
+use crate::numbers::Numbers;
 use crate::rule::{
     Beginning, Cutting, Drawing, HandJoin, HandSplit, Item, Lawful, Looking, Noting, Offering,
     Storing, View,
@@ -13,7 +15,6 @@ use atomic_table::{Seat, Table};
 use base::NoMemory;
 use std::alloc::{AllocError, Global};
 use std::marker::{Brand, Model};
-use std::snapshot::Snapshot;
 
 /// Counters, least words and a log that threads share by reference.
 ///
@@ -115,35 +116,36 @@ impl Board {
     {
         let mut words = starts.to_vec(alloc)?;
         words.extend_from_slice(least)?;
+        let words = with_zeros(words, 1 + slots as usize)?;
+        let words = words.as_slice();
         Board::of_words(alloc, words, starts.len() as u32, slots)
     }
 
-    /// The same of numbers that stand in one vector, those of the counters first. It takes 8 bytes for each number and each
-    /// slot, beside the vector, which grows by the slots and is given back.
+    /// The same of all words in one list: the numbers of the counters, the least words, and zeros for the length of the log and
+    /// its slots. It takes 8 bytes for each word, and copies them.
     pub fn of_words(
         alloc: Global,
-        words: Vec<u64>,
+        words: &[u64],
         counters: u32,
         slots: u32,
     ) -> Result<(Board, Root), NoMemory>
-        requires some { 0 < vec_len words + slots }
-        requires capacity { vec_len words + slots < 2 ^ 32 }
-        requires counters { counters ≤ vec_len words }
-        ensures starts { IfOk result (λ made. made.0.starts ≡ take counters words.items) }
-        ensures least { IfOk result (λ made. made.0.least ≡ drop counters words.items) }
+        requires log { EndsInZeros words.now (1 + slots) }
+        requires some { 0 < length (numbers_before_log words.now slots) + slots }
+        requires capacity { length (numbers_before_log words.now slots) + slots < 2 ^ 32 }
+        requires counters { counters ≤ length (numbers_before_log words.now slots) }
+        ensures starts { IfOk result (λ made. made.0.starts ≡ take counters (numbers_before_log words.now slots)) }
+        ensures least { IfOk result (λ made. made.0.least ≡ drop counters (numbers_before_log words.now slots)) }
         ensures slots { IfOk result (λ made. made.0.slots ≡ slots) }
         ensures root { IfOk result (λ made. made.1 ≡ new_root made.0) }
     {
         let counters = counters as usize;
-        let tail = words.len();
+        let tail = words.len() - (1 + slots as usize);
         let beginning = Beginning {
-            words: Snapshot::of(&words),
+            words: Numbers::of(&words[..tail]),
             counters,
             slots,
         };
-        let all = with_zeros(words, 1 + slots as usize)?;
-        let all = all.as_slice();
-        let (table, seat) = Table::of_words(alloc, all, &beginning)?;
+        let (table, seat) = Table::of_words(alloc, words, &beginning)?;
         let board = Board {
             table,
             counters,

@@ -10,6 +10,7 @@
 mod account;
 mod board;
 pub mod laws;
+mod numbers;
 mod rule;
 
 pub use account::{Account, Cut, Log, NONE, Offer};

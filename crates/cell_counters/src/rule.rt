@@ -1,10 +1,10 @@
 //! The rule of the table below a board. Its words are the counters, the least words, the tail of the log and the slots
 //! of the log, in this order, and a view is what the root or a hand knows.
 use crate::account::Account;
+use crate::numbers::Numbers;
 use atomic_table::{Join, Play, Split, TableRule};
 use std::collections::LinkedList;
 use std::marker::{Brand, PhantomData};
-use std::snapshot::Snapshot;
 
 /// The numbers with which the counters and the least words began, and how many slots the log has. No value of it is made.
 pub struct Setup {
@@ -27,7 +27,7 @@ pub struct View {
 /// What a table is given when it is made: its counters and then its least words, and how many slots its log has.
 #[derive(Drop)]
 pub struct Beginning {
-    pub words: Snapshot<Vec<u64>>,
+    pub words: Numbers,
     pub counters: usize,
     pub slots: u32,
 }

@@ -6,7 +6,8 @@ use Rattle.std.proofs.Math.ListN.{replicate-append-replicate}
 use Rattle.std.proofs.Math.Seq.{set_at, get_or_at}
 use Rattle.std.specs.List.{AllZip}
 use Rattle.edge_rows.specs.Rows.{row_at, with_value, empty_rows}
-use Rattle.edge_rows.specs.inside.Layout.{laid, starts_from, ends_from, gaps, values, rows_between}
+use Rattle.raw_slots.specs.Slots.{values}
+use Rattle.edge_rows.specs.inside.Layout.{laid, starts_from, ends_from, gaps, rows_between}
 
 abbrev pub Fits : List (List ℕ) → List ℕ → Type 0
 Fits = AllZip (λ xs n. length xs ≤ n)

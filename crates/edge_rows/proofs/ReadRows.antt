@@ -4,8 +4,8 @@ use Rattle.std.proofs.lemmas.List.{length-map, get_or_default}
 use Rattle.std.proofs.lemmas.List.Sums.{sum_by_more, sum_by_more_le}
 use Rattle.std.proofs.Math.ListN.{get_or-map}
 use Rattle.edge_rows.specs.Rows.{Filling, row_at, slots_left}
-use Rattle.edge_rows.specs.inside.Layout.{laid, starts_from, values, rows_between, IsWithin}
-use Rattle.edge_rows.specs.inside.Layout.{IsRun}
+use Rattle.raw_slots.specs.Slots.{IsRun, values}
+use Rattle.edge_rows.specs.inside.Layout.{laid, starts_from, rows_between, IsWithin}
 use Rattle.edge_rows.specs.inside.FillFields.{filling_of, IsFilling}
 use Rattle.edge_rows.specs.inside.RowsFields.{rows_of, IsStoredAs, IsRows}
 use Rattle.edge_rows.specs.declared.fill.RowFill.TheInside.{Inside as FillInside}

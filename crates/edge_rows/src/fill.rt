@@ -5,16 +5,16 @@ ghost use Rattle.edge_rows.specs.inside.Layout.{starts_from};
 ghost use Rattle.edge_rows.specs.inside.Slices.{AreFree, contents_with};
 ghost use Rattle.base.specs.declared.limits.TheConstants.{CELLS_LIMIT, EDGES_LIMIT};
 
-use crate::block::Block;
 use crate::rows::Rows;
 use base::NoMemory;
+use raw_slots::Block;
 use std::alloc::{AllocError, Global};
 use std::marker::Model;
 
 /// Rows of fixed lengths in one block, as far as they are filled.
 #[derive(Drop)]
 pub struct RowFill {
-    block: Block,
+    block: Block<u32>,
     /// The first slot of each row, and at last the number of slots.
     starts: Vec<u32>,
     /// The first slot of each row that is not written.
@@ -51,7 +51,7 @@ fn starts_of(alloc: Global, lengths: &[u32]) -> Result<Vec<u32>, AllocError>
 
 /// Writes a value at each of these slots, and goes on to the slot after each.
 #[inline(always)]
-fn write_each(block: &mut Block, ends: &mut [u32], value: u32)
+fn write_each(block: &mut Block<u32>, ends: &mut [u32], value: u32)
     requires free { AreFree block.old ends.old value }
     requires small { length block.old < 2 ^ 32 }
     ensures block { block.new ≡ contents_with block.old ends.old value }

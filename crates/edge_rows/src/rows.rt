@@ -2,13 +2,13 @@
 ghost use Rattle.std.specs.Prelude.{◌≡◌, ◌<◌, length};
 ghost use Rattle.edge_rows.specs.Rows.{row_at};
 
-use crate::block::Block;
+use raw_slots::Block;
 use std::marker::Model;
 
 /// Rows of numbers in one block. Any number of threads may read them at once.
 #[derive(Drop)]
 pub struct Rows {
-    pub(crate) block: Block,
+    pub(crate) block: Block<u32>,
     pub(crate) starts: Vec<u32>,
 }
 

@@ -16,6 +16,8 @@ mod meeting;
 #[cfg(test)]
 mod plain;
 #[cfg(test)]
+mod raw_lists;
+#[cfg(test)]
 mod reach;
 #[cfg(test)]
 mod row_fills;

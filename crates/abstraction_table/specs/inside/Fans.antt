@@ -1,5 +1,5 @@
 -- How many cells boxes have, by the distance from their first cell to their last.
-use Rattle.std.specs.Prelude.{◌≡◌, ℕ, ◌+◌, ◌-◌, max, ◌<◌, ◌≤◌, List, ◌++◌, length, slice_index, sum, Option, Some, None, IfSome}
+use Rattle.std.specs.Prelude.{◌≡◌, ℕ, zero, suc, ◌+◌, ◌-◌, max, ◌<◌, ◌≤◌, List, ◌++◌, length, slice_index, sum, Option, Some, None, IfSome}
 use Rattle.std.specs.List.{All}
 use Rattle.grid_quantiser.specs.declared.axis.Axis.{Axis}
 use Rattle.grid_quantiser.specs.declared.boxes.CellBox.{CellBox}
@@ -58,3 +58,19 @@ pub record AreFansOf (axes : List Axis) (boxes : List (Option CellBox)) (fans : 
   pub shapes : AreShapes axes fans
   pub each : All (FanIsKnown axes fans) boxes
   pub few : sum fans ≤ edges_of axes boxes
+
+-- the first of two counts, and where it is 0 the other
+abbrev pub known_count : ℕ → ℕ → ℕ
+known_count zero other = other
+known_count (suc n) other = suc n
+
+-- Where there was no count, there is that of other boxes, and the counts are no more together.
+pub record AreMerged (before other after : List ℕ) : Type 0 where
+  pub few : length after ≤ max (length before) (length other)
+  pub each : (distance : ℕ) → slice_index after distance ≡ known_count (slice_index before distance) (slice_index other distance)
+  pub total : sum after ≤ sum before + sum other
+
+-- Counts are those of boxes, and so many edges they have.
+pub record CountBoxes (axes : List Axis) (boxes : List (Option CellBox)) (fans : List ℕ) (edges : ℕ) : Type 0 where
+  pub fans_are : AreFansOf axes boxes fans
+  pub edges_are : edges ≡ edges_of axes boxes

@@ -1,13 +1,11 @@
 -- What stands between two rounds, and in a scratch that wasn't used yet.
-use Rattle.std.specs.Prelude.{◌≡◌, ℕ, ◌+◌, ◌-◌, ◌<◌, ◌≤◌, suc, min, List, [], ◌++◌, map, length, replicate, Option, None}
+use Rattle.std.specs.Prelude.{◌≡◌, ℕ, ◌+◌, ◌-◌, ◌<◌, ◌≤◌, suc, min, List, [], map, length, replicate, Option, None}
 use Rattle.std.specs.List.{range_with_len}
 use Rattle.std.specs.Vec.{vec_capacity}
 use Rattle.cell_counters.specs.declared.account.Account.{Account}
 use Rattle.cell_counters.specs.Accounts.{IsLawfulLog, all_logs, log_count, cell_at}
 use Rattle.cell_counters.specs.BoardModels.{BoardModel, new_root}
 use Rattle.game_core.specs.declared.game.Row.{Row}
-use Rattle.game_core.specs.Game.{Game}
-use Rattle.board_rounds.specs.Boards.{fans_of, for_each_cell}
 use Rattle.board_rounds.specs.declared.rounds.Rounds.{Rounds}
 use Rattle.board_rounds.specs.Crew.{IsTalliedBy}
 use Rattle.board_rounds.specs.Rounds.{IsUnused}
@@ -35,10 +33,6 @@ cells_logged_from first accounts = map (λ slot. cell_at slot (all_logs accounts
 -- how many rounds there may still be
 abbrev pub to_go : ℕ → Rounds → ℕ
 to_go cells r = cells - r.listed + min 1 (length r.list.items)
-
--- the numbers with which a board begins: those of the pairs, then those of the cells
-abbrev pub first_numbers : Game → (ℕ → ℕ) → List ℕ
-first_numbers g number = fans_of g ++ for_each_cell g number
 
 -- what a scratch keeps
 pub record IsScratch (board : BoardModel) (count : ℕ) (r : Rounds) (answer : List (Option Row)) : Type 0 where

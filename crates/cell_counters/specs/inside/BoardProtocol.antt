@@ -14,7 +14,7 @@ use Rattle.cell_counters.specs.BoardModels.{BoardModel, RootModel, HandModel, bl
 
 -- the numbers with which a board with this key began
 abbrev pub setup_of : Beginning → Setup
-setup_of b = record { starts = take b.counters b.words.value.items; least = drop b.counters b.words.value.items; slots = b.slots }
+setup_of b = record { starts = take b.counters b.words.items; least = drop b.counters b.words.items; slots = b.slots }
 
 -- the word that counts the logs: it stands after the counters and the least words
 abbrev pub tail_of : Setup → ℕ
@@ -144,13 +144,14 @@ hand_model table v = record { board = board_of table v.began; account = account_
 abbrev pub Seated : Type 0
 Seated = Me (Unit {0}) View
 
--- the table has the counters first, then the least words, the tail and the slots
+-- the table has the counters first, then the least words, the tail and the slots, at most 2^32 words
 pub record IsSized (b : Beginning) (counters tail slots words : ℕ) : Type 0 where
   pub split : counters ≡ b.counters
   pub within : counters ≤ tail
-  pub both : tail ≡ length b.words.value.items
+  pub both : tail ≡ length b.words.items
   pub log : slots ≡ b.slots
   pub all : words ≡ tail + 1 + slots
+  pub few : words ≤ 2 ^ 32
 
 -- the first seat, which knows how many hands it made
 pub record IsRoot (id : ℕ) (me : Seated) (out : ℕ) : Type 0 where

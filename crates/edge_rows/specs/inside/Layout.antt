@@ -1,11 +1,8 @@
 -- How rows lie in one block: row after row, in each the values and then the slots that are not written.
-use Rattle.std.specs.Prelude.{◌≡◌, ℕ, ◌+◌, ◌-◌, ◌^◌, ◌≤◌, List, [], ◌∷◌, ◌++◌, map, length, take, drop, sum, replicate, Option, Some, None}
+use Rattle.std.specs.Prelude.{ℕ, ◌+◌, ◌-◌, ◌≤◌, List, [], ◌∷◌, ◌++◌, map, length, take, drop, sum, replicate, Option, Some, None}
 use Rattle.std.specs.List.{AllZip}
+use Rattle.raw_slots.specs.Slots.{values}
 use Rattle.base.specs.declared.limits.TheConstants.{CELLS_LIMIT, EDGES_LIMIT}
-
--- the len slots from the index from on are written
-abbrev pub IsRun : {X : Type 0} → List (Option X) → ℕ → ℕ → Type 0
-IsRun {X = X} slots from len = (from + len ≤ length slots) × ((xs : List X) × (take len (drop from slots) ≡ map Some xs))
 
 -- rows of these lengths, one after another
 abbrev pub laid : List (List ℕ) → List ℕ → List (Option ℕ)
@@ -29,12 +26,6 @@ abbrev pub gaps : List ℕ → List ℕ
 gaps [] = []
 gaps (start ∷ []) = []
 gaps (start ∷ next ∷ starts) = (next - start) ∷ gaps (next ∷ starts)
-
--- the values that are written there
-abbrev pub values : List (Option ℕ) → List ℕ
-values [] = []
-values (None ∷ slots) = values slots
-values (Some x ∷ slots) = x ∷ values slots
 
 -- the rows that lie from these starts up to these ends
 abbrev pub rows_between : List (Option ℕ) → List ℕ → List ℕ → List (List ℕ)

@@ -6,7 +6,7 @@ use Rattle.abstraction_table.proofs.builders.build_forward.Goals as goal
 pub build_shapes-requires-clause-few : goal.build_shapes-requires-clause-few
 build_shapes-requires-clause-few g c =
     let game = c.in_ok-boxed.boxed in
-    omega (arith, game.in_memory.counted.few, total game.grid game.boxes.items, game.in_memory.graph.edges_bound)
+    omega (arith, game.in_memory.counted.few, total game.grid game.boxes, game.in_memory.graph.edges_bound)
 
 pub build_shapes-requires-clause-limit : goal.build_shapes-requires-clause-limit
 build_shapes-requires-clause-limit g c = omega (arith, c.in_ok-boxed.boxed.in_memory.graph.cells_bound)
@@ -15,4 +15,4 @@ pub invariant_of-result : goal.invariant_of-result
 invariant_of-result g c =
     let game = c.in_ok-boxed.boxed in
     let held = game.in_memory in
-    record { listed = have_segments game.grid c.in_ok-shapes.shapes game.boxes.items game.fans.counts.items held.grid held.ordered c.in_ok-shapes.ensures held.counted }
+    record { listed = have_segments game.grid c.in_ok-shapes.shapes game.boxes game.fans.counts.items held.grid held.ordered c.in_ok-shapes.ensures held.counted }

@@ -1,5 +1,6 @@
-use Rattle.abstraction_table.proofs.CountedFans.{FansSoFar}
+use Rattle.std.proofs.Common.{◌*◌, take}
+use Rattle.abstraction_table.specs.inside.Fans.{CountBoxes}
 use Rattle.abstraction_table.proofs.fans.count_fans.Given as goal
 
-abbrev pub invariant-loop-b : goal.invariant-loop-b
-invariant-loop-b l = FansSoFar l.grid l.boxes l.b-index l.fans.counts.items l.edges
+abbrev pub invariant-loop-part : goal.invariant-loop-part
+invariant-loop-part g l = CountBoxes l.grid (take (l.part-index * l.size) l.boxes) l.fans.counts.items l.fans.edges

@@ -1,56 +1,50 @@
-use Rattle.std.proofs.Common.{◌≡◌, ℕ, ◌+◌, ◌*◌, ◌/◌, ◌<◌, ◌∙◌, List, All, Option, length, get_or, sym, ap, subst, arith}
-use Rattle.std.specs.Fork.{slice_chunk}
-use Rattle.std.proofs.lemmas.List.{take_at, get_or-replicate}
-use Rattle.grid_quantiser.specs.declared.boxes.CellBox.{CellBox}
+use Rattle.std.proofs.Common.{◌≡◌, ℕ, ◌+◌, ◌*◌, ◌/◌, ◌%◌, ◌∙◌, All, None, Result, Ok, Err, IfOk, length, replicate, ap, subst, arith}
+use Rattle.std.proofs.lemmas.List.{length-replicate, get_or-replicate}
 use Rattle.grid_quantiser.specs.Axes.{cells_of}
 use Rattle.grid_quantiser.specs.ExtentBoxes.{one_cell}
-use Rattle.plant_record.specs.Description.{axes_of}
-use Rattle.plant_game.specs.Abstraction.{pairs_of}
+use Rattle.plant_record.specs.Description.{axes_of, vectors_of}
+use Rattle.plant_game.specs.Abstraction.{pairs_of, pair_of}
 use Rattle.abstraction_table.specs.inside.CellLines.{AreBoxesFrom}
-use Rattle.abstraction_table.proofs.PairBoxes.{all_boxes, are_boxes, chunk_cells}
+use Rattle.abstraction_table.proofs.PairBoxes.{pair_below, box_in_chunk, chunk_cells}
 use Rattle.abstraction_table.proofs.pair_boxes.build_boxes.Goals as goal
 
--- few pairs, in one call
-pub returns-then-pairs : goal.returns-then-pairs
-returns-then-pairs g c =
-    let p = c.args.sampled.now.plant.now in
-    let found = c.boxes_of_cells.new.boxes in
-    let pairs : c.cells.result * c.vectors.result ≡ pairs_of p =
-    ap (λ (n : ℕ). n * c.vectors.result) (c.cells.ensures.count ∙ ap cells_of c.grid.ensures) ∙ ap (λ (n : ℕ). cells_of (axes_of p) * n) c.vectors.ensures.count
-    in
-    let len : length found ≡ c.in_ok-boxes.boxes.len = omega (arith, c.boxes_of_cells.ensures.long, c.deref_mut.ensures.len) in
-    rw (take_at found _ c.in_ok-boxes.boxes.len len) (all_boxes p found (len ∙ c.in_ok-boxes.ensures.len ∙ pairs) c.boxes_of_cells.ensures.each)
+-- two facts of what is returned give a third
+IfOk-both : {T E : Type 0} (r : Result T E) (P Q R : T → Type 0) → IfOk r P → IfOk r Q → ((x : T) → P x → Q x → R x) → IfOk r R
+IfOk-both (Ok x) P Q R p q both = both x p q
+IfOk-both (Err e) P Q R p q both = tt
 
 -- each chunk is the boxes of some cells
-pub par_chunks_mut_for_each-requires-clause-accepts : goal.par_chunks_mut_for_each-requires-clause-accepts
-par_chunks_mut_for_each-requires-clause-accepts g c κs within = λ start chunk here.
+pub by_chunks-requires-clause-accepts : goal.by_chunks-requires-clause-accepts
+by_chunks-requires-clause-accepts g c κs within = λ start chunk here.
     let p = c.args.sampled.now.plant.now in
     let inputs : ℕ = c.vectors.result in
-    let cells : c.cells.result ≡ cells_of (axes_of p) = c.cells.ensures.count ∙ ap cells_of c.grid.ensures in
-    let pairs : length c.deref_mut-2.result.now ≡ cells_of (axes_of p) * inputs = omega (arith, c.deref_mut-2.ensures.len, c.in_ok-boxes.ensures.len, ap (λ (n : ℕ). n * inputs) cells) in
+    let cells : c.cells-cells.result ≡ cells_of (axes_of p) = c.cells-cells.ensures.count ∙ ap cells_of c.grid.ensures in
+    let all = replicate (c.cells-cells.result * inputs) c.new.result in
+    let long : length all ≡ c.cells-cells.result * inputs = length-replicate (c.cells-cells.result * inputs) c.new.result in
+    let pairs : length all ≡ cells_of (axes_of p) * inputs = long ∙ ap (λ (n : ℕ). n * inputs) cells in
     let whole =
     chunk_cells start (length chunk.now) c.cells_in_chunk.result inputs (cells_of (axes_of p)) c.vectors.ensures.some c.cells_in_chunk.ensures.some here.nonempty here.start_is_multiple
     (omega (arith, here.len, pairs)) (omega (arith, here.in_bounds, pairs))
     in
     let each : All (λ b. b ≡ one_cell) chunk.now =
-    λ k d lt.
-    here.elements k d lt
-    ∙ ap (λ (boxes : List (Option CellBox)). get_or boxes (start + k) d) (c.deref_mut-2.ensures.value ∙ c.in_ok-boxes.ensures.items_if_clones_equal (λ y same. same))
-    ∙ get_or-replicate _ (start + k) c.new.result d (omega (arith, lt, here.in_bounds, c.deref_mut-2.ensures.len, c.in_ok-boxes.ensures.len))
-    ∙ c.new.ensures
+    λ k d lt. here.elements k d lt ∙ get_or-replicate (c.cells-cells.result * inputs) (start + k) c.new.result d (omega (arith, lt, here.in_bounds, long)) ∙ c.new.ensures
     in (rw c.as_slice-tables.ensures.value c.in_ok-tables.ensures, (c.vectors.ensures.count, (c.vectors.ensures.some, (whole, each))))
 
+-- each box is that of its pair, since it is in the chunk that was made there
 pub returns : goal.returns
 returns g c =
     let p = c.args.sampled.now.plant.now in
-    let found = c.par_chunks_mut_for_each.new.s in
     let inputs : ℕ = c.vectors.result in
     let m : ℕ = c.cells_in_chunk.result in
-    let pairs : c.cells.result * inputs ≡ pairs_of p = ap (λ (n : ℕ). n * inputs) (c.cells.ensures.count ∙ ap cells_of c.grid.ensures) ∙ ap (λ (n : ℕ). cells_of (axes_of p) * n) c.vectors.ensures.count in
-    let len : length found ≡ c.in_ok-boxes.boxes.len = omega arith in
-    rw (take_at found _ c.in_ok-boxes.boxes.len len)
-    (are_boxes p found m c.cells_in_chunk.ensures.some (len ∙ c.in_ok-boxes.ensures.len ∙ pairs) (λ n begins.
-    let within : n * (m * inputs) < length found = subst (λ (v : ℕ). n * (m * v) < length found) (sym c.vectors.ensures.count) begins in
-    let change = c.par_chunks_mut_for_each.ensures.chunks n (omega (arith, within, c.par_chunks_mut_for_each.auto.s)) in
-    let by_call = subst (AreBoxesFrom p (n * (m * inputs) / inputs)) change.left change.call in
-    subst (λ (v : ℕ). AreBoxesFrom p (n * (m * v) / v) (slice_chunk found (m * v) n)) c.vectors.ensures.count by_call))
+    let v : inputs ≡ vectors_of p.inputs = c.vectors.ensures.count in
+    let long = length-replicate (c.cells-cells.result * inputs) c.new.result in
+    let pairs : c.cells-cells.result * inputs ≡ pairs_of p = ap (λ (n : ℕ). n * inputs) (c.cells-cells.ensures.count ∙ ap cells_of c.grid.ensures) ∙ ap (λ (n : ℕ). cells_of (axes_of p) * n) v in
+    IfOk-both c.by_chunks.result _ _ _ c.by_chunks.ensures.len c.by_chunks.ensures.by_index (λ boxes len by_index.
+    record {
+      one_each = len ∙ pairs;
+      each = λ cell u within input.
+          let found = (by_index (pair_of p cell u) None (omega (arith, pair_below p cell u within input, pairs, long))).1 in
+          let multiple : found.start % (m * vectors_of p.inputs) ≡ 0 = subst (λ (n : ℕ). found.start % (m * n) ≡ 0) v found.argument_is.start_is_multiple in
+          box_in_chunk p m found.start found.offset cell u found.after_call.now _ input multiple found.start_plus_offset (omega (arith, found.offset_in_chunk, found.call.0))
+          (subst (λ (n : ℕ). AreBoxesFrom p (found.start / n) found.after_call.now) v found.call.1) found.new_element;
+    })

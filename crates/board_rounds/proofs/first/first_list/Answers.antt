@@ -1,4 +1,4 @@
-use Rattle.std.proofs.Common.{◌≡◌, ℕ, ◌+◌, ◌++◌, ◌∷◌, [], Bool, List, cond, filter, length, sym, ◌∙◌, ap, arith, refl}
+use Rattle.std.proofs.Common.{◌≡◌, ℕ, ◌++◌, ◌∷◌, [], Bool, List, cond, filter, length, sym, ◌∙◌, ap, arith, refl}
 use Rattle.std.specs.List.{range_with_len}
 use Rattle.board_rounds.proofs.first.first_list.Goals as goal
 use Rattle.base.proofs.Ranges.{filter-range_more}

@@ -1,4 +1,4 @@
-use Rattle.std.proofs.Common.{◌≡◌, ℕ, ◌+◌, ◌<◌, List, length, set, Option, None, sym, ◌∙◌, ap, subst, arith, refl, length-set, below_more, get_or-set_same, get_or-set_other}
+use Rattle.std.proofs.Common.{ℕ, ◌+◌, ◌<◌, List, length, set, Option, None, sym, ◌∙◌, ap, subst, arith, refl, length-set, below_more, get_or-set_same, get_or-set_other}
 use Rattle.cell_counters.specs.BoardModels.{RootModel}
 use Rattle.game_core.specs.declared.game.Row.{Row}
 use Rattle.game_core.specs.Solution.{row_of}

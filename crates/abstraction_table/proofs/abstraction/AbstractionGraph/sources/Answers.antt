@@ -9,5 +9,5 @@ pub returns : goal.returns
 returns c =
     let a = c.args.self.now in
     let o = a.boxed in
-    let one_each : length o.boxes.items ≡ _ = sym (length-map o.boxes.items _) ∙ o.in_memory.graph.game.one_list_each in
-    subst (λ (pairs : List ℕ). AreSources (game_of a) c.args.c pairs) (sym (c.row.ensures ∙ a.in_memory.each c.args.c c.requires)) (sources_are o.grid o.inputs o.marks.items o.boxes.items c.args.c one_each)
+    let one_each : length o.boxes ≡ _ = sym (length-map o.boxes _) ∙ o.in_memory.graph.game.one_list_each in
+    subst (λ (pairs : List ℕ). AreSources (game_of a) c.args.c pairs) (sym (c.row.ensures ∙ a.in_memory.each c.args.c c.requires)) (sources_are o.grid o.inputs o.marks.items o.boxes c.args.c one_each)

@@ -39,4 +39,4 @@ returns-clause-kept c = keeps_both c.args.grid.now c.args.self.now.counts.items 
 pub returns-clause-few : goal.returns-clause-few
 returns-clause-few c =
     let before = c.reach.new.self.counts.items in
-    omega (arith, sum_by-set (λ n. n) before (c.args.b.last - c.args.b.first) c.box_count-cells.result 0 c.in_ok-reach.ensures.within, same_sum c.args.grid.now c.args.self.now.counts.items before c.in_ok-reach.ensures.same)
+    omega (arith, sum_by-set (λ n. n) before (c.args.b.last - c.args.b.first) c.box_count-cells.result 0 c.in_ok-reach.ensures.within, same_sum c.args.self.now.counts.items before c.in_ok-reach.ensures.same)

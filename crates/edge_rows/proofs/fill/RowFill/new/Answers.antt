@@ -25,7 +25,7 @@ fresh c =
     ∙ (omega (arith, start_at 0 ns (length ns) (omega arith), ap sum (take_all (length ns) ns (omega arith)))) in
     record {
       within = record { fits = fits-unfilled ns; small = (c.requires.rows, c.requires.slots) };
-      slots = c.in_ok-block.ensures ∙ ap (λ k. replicate k None) last ∙ laid-unfilled ns;
+      slots = c.in_ok-block.ensures.empty ∙ ap (λ k. replicate k None) last ∙ laid-unfilled ns;
       starts = c.in_ok-starts.ensures;
       ends = c.in_ok-ends.ensures.items_if_clones_equal (λ x y e. e) ∙ ap (take (length ns)) (c.deref.ensures.value ∙ c.in_ok-starts.ensures) ∙ ends-unfilled 0 ns;
     }
