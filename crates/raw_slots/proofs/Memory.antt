@@ -1,4 +1,5 @@
 -- What the walks of the unsafe functions share. Assumes `Logic`.
+--     Goes      what a walk owes
 --     word_had, word_made, mark_had, mark_made      a value of one pointer, and one of no bytes
 --     says_three      of an answer, three facts
 --     cut_at, glue      slots are cut in two; slots side by side are put together
@@ -13,7 +14,8 @@ use lib.ListN.{length, take, drop, set, get_or, replicate, take-append-drop, len
 use lib.Seq.{drop-cons, set_split}
 use seplogic.Ra.Ura.{Ura}
 use base.Fraction.{full_share}
-use mir.Syntax.{Ty, ty_array}
+use mir.Syntax.{Ty, Fn, ty_array}
+use prog.Wp.{WpFn, Tables}
 use mir.Val.{Val, vstruct, vcons, vnil, of_list}
 use base.Logic.{SProp, ent, sep, emp, ex, guard, via, snd∗, id⊢, mono_r}
 use base.Fml.{Fml, Lft, ftrue, fsep, fat, froom}
@@ -33,6 +35,8 @@ use denote.Struct.Struct.{Shape, Struct, within}
 use denote.Struct.Owning.{shape}
 use denote.Struct.Declared as Declared
 use denote.Struct.Tuple.{Tuple, tuple_type}
+use denote.Triple.Clauses.{Clauses, Ended}
+use denote.Triple.Walked.{Stays, walk_of}
 use borrow.Table.OneValue.{part_in, part_out}
 use Rattle.std.specs.Prelude.{Option, Some, None}
 use Rattle.std.specs.Mem.{type_size}
@@ -42,6 +46,14 @@ use Rattle.std_alloc.proofs.RcSteps.{Good, word}
 use Rattle.raw_slots.specs.inside.Ownership.{slot, contents, slot_lent, contents_lent}
 use Rattle.raw_slots.specs.contracts.slots.Slots as P-type
 use Rattle.raw_slots.specs.contracts.slots.Base as B-type
+use Rattle.raw_slots.specs.contracts.slots.Deed as D-type
+use Rattle.core.proofs.alloc.Calls.{Al}
+use Rattle.core.proofs.slots.Leases.{P}
+
+-- the function's body goes from what it is given to what it owes
+abbrev pub Goes : {M : Type 1} {𝓤 : Ura M} (𝓛 : Logic 𝓤) (𝓣 : Tables 𝓤 𝓛.H) (ended : Ended) (stayed : Stays ended.signature.params ended.kept) → Clauses 𝓤 ended → Fn → Type 1
+Goes {𝓤 = 𝓤} 𝓛 𝓣 ended stayed held function =
+    let W = walk_of 𝓛 ended stayed held in (y : W.Ghost) → ent 𝓤 (W.pre y) (WpFn 𝓤 𝓛.H 𝓣.C 𝓣.Λ function (W.args y) (W.post y))
 
 module _ (E : El) where
   abbrev pub Ps : RattleType
@@ -49,6 +61,9 @@ module _ (E : El) where
 
   abbrev pub Bs : RattleType
   Bs = B-type.the_row (R E)
+
+  abbrev pub Dd : Al → RattleType
+  Dd Z = D-type.the_row (R E) (P E Z) Z.g
 
   -- the one field of `Slots`, which takes no bytes
   abbrev pub Mark : RattleType

@@ -2,14 +2,10 @@
 use Rattle.std.proofs.Common.{◌≡◌, ℕ, ◌+◌, ◌-◌, ◌*◌, ◌/◌, ◌%◌, ◌^◌, ◌<◌, ◌≤◌, inl, inr, min, List, length, take, drop, get_or, replicate, refl, sym, ap, subst, ◌∙◌, arith}
 use Rattle.std.proofs.Math.Nat.{add-mul, one-mul, div-add-mod'}
 use Rattle.std.proofs.lemmas.Bool.{cases_lt}
-use Rattle.std.proofs.lemmas.Nat.{mod-mul-add, mod_below, mul-le}
+use Rattle.std.proofs.lemmas.Nat.{mod-mul-add, mod_below, mul-le, column_fits_turned}
 use Rattle.std.proofs.lemmas.List.{length-replicate, take-replicate, drop-replicate, take_all, get_or-replicate}
 use Rattle.std.specs.Fork.{IsChunk}
 use Rattle.raw_slots.specs.inside.Chunks.{IsStretch}
-
--- one chunk more ends within
-next_end : (n m size : ℕ) → n < m → n * size + size ≤ m * size
-next_end n m size lt = omega (arith, add-mul n 1 size, one-mul size, mul-le (n + 1) size m size (omega (arith, lt)) (omega arith))
 
 -- a chunk that begins earlier is an earlier one
 earlier : (n m size : ℕ) → n * size < m * size → n < m
@@ -74,7 +70,7 @@ module _ (size total at count len : ℕ) (s : IsStretch size total at count len)
         full_size = λ whole.
             let q = total / size in
             let all : q * size ≡ total = omega (arith, div-add-mod' total size, subst (λ n. n % size ≡ 0) count_xs whole) in
-            let next = next_end s.begins.0 q size (earlier s.begins.0 q size (omega (arith, s.begins.1, all, s.within, long.0))) in
+            let next = column_fits_turned size s.begins.0 q size (earlier s.begins.0 q size (omega (arith, s.begins.1, all, s.within, long.0))) (omega arith) in
             omega (arith, count_ys, long.1, next, all, s.begins.1);
         elements = λ k d lt.
             ap (λ l. get_or l k d) are
@@ -85,7 +81,7 @@ module _ (size total at count len : ℕ) (s : IsStretch size total at count len)
   module _ (low : ℕ) (some : 0 < low) (fewer : low < count) where
     -- the first chunks are shorter than all
     pub low_inside : low * size < len
-    low_inside = omega (arith, next_end low count size fewer, s.covered.1)
+    low_inside = omega (arith, column_fits_turned size low count size fewer (omega arith), s.covered.1)
 
     pub low_half : IsStretch size total at low (low * size)
     low_half = record { begins = s.begins; some = (s.some.0, some); covered = (omega arith, omega (arith, s.some.0)); within = omega (arith, low_inside, s.within); small = omega (arith, low_inside, s.small); whole = inr refl }

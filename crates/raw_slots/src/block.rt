@@ -5,9 +5,10 @@ ghost use Rattle.std.specs.Vec.Ownership.{FitsInBlock};
 ghost use Rattle.raw_slots.specs.Slots.{IsRun};
 ghost use Rattle.raw_slots.specs.inside.Chunks.{AreFilledByChunks};
 
-use crate::chunks::fill;
+use crate::making::Making;
 use crate::part::Part;
 use crate::slots::{Deed, allocate, deallocate};
+use crate::stretch::Stretch;
 use std::alloc::{AllocError, Global};
 use std::marker::{Model, Send, Sync};
 use std::thread::Threads;
@@ -49,26 +50,30 @@ impl<T: Copy> Block<T> {
         })
     }
 
-    /// The same block, whose slots are empty, filled by chunks of `size`, each made by `f` of so many `start`.
+    /// The same block, whose slots are empty, filled by chunks, each made of so many `start`.
     pub(crate) fn filled<R: Threads + Sync, F: Fn(usize, &mut [T]) + Sync>(
         self,
-        rt: &R,
+        making: Making<'_, R, F>,
         start: T,
-        f: &F,
-        size: usize,
         depth: usize,
     ) -> Result<Block<T>, AllocError>
     where
         T: Send,
-        requires some { (0 < size) × (0 < length self) }
+        requires some { (0 < making.size) × (0 < length self) }
         requires empty { self ≡ replicate (length self) None }
         requires fits { FitsInBlock T.row (length self) }
-        requires accepts { AcceptsChunksMut F.Fn f.now size (replicate (length self) start) }
-        ensures { IfOk result (AreFilledByChunks F.Fn f.now size (replicate (length self) start)) }
+        requires accepts { AcceptsChunksMut F.Fn making.f.now making.size (replicate (length self) start) }
+        ensures { IfOk result (AreFilledByChunks F.Fn making.entry (replicate (length self) start)) }
     {
         let Block { part, deed, alloc } = self;
-        let count = part.len.div_ceil(size);
-        let (part, made) = fill(rt, alloc, start, f, size, depth, 0, count, part);
+        let count = part.len.div_ceil(making.size);
+        let stretch = Stretch {
+            at: 0,
+            count,
+            start,
+            part,
+        };
+        let (part, made) = stretch.fill(making, depth);
         let block = Block { part, deed, alloc };
         made?;
         Ok(block)

@@ -6,10 +6,11 @@
 #![tactic(auto)]
 
 mod block;
-mod chunks;
 mod list;
+mod making;
 mod part;
 mod slots;
+mod stretch;
 
 pub use block::Block;
 pub use list::RawList;

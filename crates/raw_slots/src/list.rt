@@ -3,6 +3,7 @@ ghost use Rattle.std.specs.Prelude.{◌≡◌, ◌<◌, length, replicate, IfOk}
 ghost use Rattle.std.specs.Fork.{AcceptsChunksMut, AllInChunks};
 
 use crate::block::Block;
+use crate::making::Making;
 use rayon::current_num_threads;
 use std::alloc::{AllocError, Global};
 use std::marker::{Model, Send, Sync};
@@ -51,7 +52,13 @@ impl<T: Copy> RawList<T> {
         if len == 0 {
             return Ok(RawList { block });
         }
-        let block = block.filled(rt, start, &f, size, halvings(rt))?;
+        let making = Making {
+            rt,
+            alloc,
+            f: &f,
+            size,
+        };
+        let block = block.filled(making, start, halvings(rt))?;
         Ok(RawList { block })
     }
 

@@ -19,7 +19,8 @@ impl<T> Part<T> {
     pub(crate) fn split(self, mid: usize) -> (Part<T>, Part<T>)
         requires { mid ≤ self.len }
         ensures front { (result.0.slots.at ≡ self.slots.at) × (result.0.slots.contents ≡ take mid self.slots.contents) }
-        ensures back { (result.1.slots.at ≡ ptr_add T.row mid self.slots.at) × (result.1.slots.contents ≡ drop mid self.slots.contents) }
+        ensures next { result.1.slots.at ≡ ptr_add T.row mid self.slots.at }
+        ensures back { result.1.slots.contents ≡ drop mid self.slots.contents }
     {
         let Part { base, len, slots } = self;
         let (front, next, back) = slots.split(base, mid);
@@ -41,7 +42,8 @@ impl<T> Part<T> {
     pub(crate) fn join(self, other: Part<T>) -> Part<T>
         requires beside { other.slots.at ≡ ptr_add T.row self.len self.slots.at }
         requires fits { FitsInBlock T.row (self.len + other.len) }
-        ensures { (result.slots.at ≡ self.slots.at) × (result.slots.contents ≡ self.slots.contents ++ other.slots.contents) }
+        ensures place { result.slots.at ≡ self.slots.at }
+        ensures contents { result.slots.contents ≡ self.slots.contents ++ other.slots.contents }
     {
         let Part { base, len, slots } = self;
         let Part {

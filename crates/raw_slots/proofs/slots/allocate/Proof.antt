@@ -45,7 +45,7 @@ use Rattle.std.specs.Prelude.{None}
 use Rattle.core.proofs.mem.Param.{El, R, elτ}
 use Rattle.std_alloc.proofs.RawLayout.{as_written}
 use Rattle.raw_slots.specs.inside.Ownership.{contents}
-use Rattle.raw_slots.proofs.Memory.{Ps, Bs, Mark, sz, mark, mark_made, word_made}
+use Rattle.raw_slots.proofs.Memory.{Ps, Bs, Dd, Mark, sz, mark, mark_made, word_made}
 use base.Fml.{Incl-trans}
 use lib.ListN.{replicate, length-replicate}
 use mir.Syntax.{ty_array}
@@ -76,7 +76,6 @@ use Rattle.std_alloc.proofs.VecSteps.Shapes.{head, arm_body}
 use Rattle.std_alloc.proofs.ResultValues.{ok_of, err_of}
 use Rattle.std_alloc.proofs.RcSteps.{first_Good}
 use Rattle.raw_slots.proofs.Memory.{three_val, three_of, of_room}
-use Rattle.raw_slots.specs.contracts.slots.Deed as D-type
 use Rattle.raw_slots.specs.contracts.slots.allocate as F
 use Rattle.raw_slots.specs.contracts.slots.allocate.Key.{name as #self}
 use Rattle.raw_slots.proofs.slots.allocate.Statement as stated
@@ -92,14 +91,11 @@ module _ (E : El) (Z : Al) where
   abbrev clauses : {M : Type 1} {𝓤 : Ura M} (𝓛 : Logic 𝓤) → (Memory → SProp 𝓤) → (Routine → Fun 𝓤) → Clauses 𝓤 ended
   clauses 𝓛 = F.clauses E.row Z.row Z.g Z.d Z.drops 𝓛
 
-  abbrev Dd : RattleType
-  Dd = D-type.the_row (R E) (P E Z) Z.g
-
   abbrev stayed : Stays ended.signature.params ended.kept
   stayed = (stay_dropped (RefOf (0 ∷ []) tt (plain (λ _. P E Z)) (λ _. tt)) yes, (stay_dropped (plain (λ _. usize)) yes, tt))
 
   abbrev Three : RattleType
-  Three = Tuple (Bs E ∷ Ps E ∷ Dd ∷ [])
+  Three = Tuple (Bs E ∷ Ps E ∷ Dd E Z ∷ [])
 
   abbrev Out : RattleType
   Out = RS.the_row Three AE.the_row

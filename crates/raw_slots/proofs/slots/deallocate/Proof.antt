@@ -19,7 +19,7 @@ use types.Part.{whole, sub}
 use types.Run.{stop, fld, unit_lit, of_opd, and_then, no_more, first, blocks, exec, returns, enter}
 use types.ByLocal.{alloc_all, pass_all, free_all, look_at, get, get_in, sets, is, env}
 use denote.Exit.{yes, no}
-use denote.RattleType.{RattleType, owns}
+use denote.RattleType.{owns}
 use denote.Memory.{hidden_shr}
 use denote.RawPtr.{Ptr, ptr_val, in_a_block}
 use denote.Ref.{Bor, ShrRef}
@@ -41,7 +41,7 @@ use Rattle.std.specs.Prelude.{None}
 use Rattle.core.proofs.mem.Param.{El, R, elτ}
 use Rattle.std_alloc.proofs.RawLayout.{as_raw}
 use Rattle.raw_slots.specs.inside.Ownership.{slots_own}
-use Rattle.raw_slots.proofs.Memory.{Ps, Bs, sz, mark, mark_had, word_had}
+use Rattle.raw_slots.proofs.Memory.{Ps, Bs, Dd, sz, mark, mark_had, word_had}
 use base.Fml.{Incl-trans}
 use lib.Dec.{T}
 use lib.ListN.{length, replicate}
@@ -61,7 +61,6 @@ use Rattle.core.proofs.alloc.Calls.{Al, second, token, gives_key, Gives, at_give
 use Rattle.core.proofs.slots.Leases.{uncapped, block_ty, block_size, block_align, args, P}
 use Rattle.raw_slots.specs.inside.Ownership.{deed_owns, contents}
 use Rattle.raw_slots.proofs.Memory.{forgets, to_room}
-use Rattle.raw_slots.specs.contracts.slots.Deed as D-type
 use Rattle.raw_slots.specs.contracts.slots.deallocate as F
 use Rattle.raw_slots.specs.contracts.slots.deallocate.Key.{name as #self}
 use Rattle.raw_slots.proofs.slots.deallocate.Statement as stated
@@ -77,13 +76,10 @@ module _ (E : El) (Z : Al) where
   abbrev clauses : {M : Type 1} {𝓤 : Ura M} (𝓛 : Logic 𝓤) → (Memory → SProp 𝓤) → (Routine → Fun 𝓤) → Clauses 𝓤 ended
   clauses 𝓛 = F.clauses E.row Z.row Z.g Z.d Z.drops 𝓛
 
-  abbrev Dd : RattleType
-  Dd = D-type.the_row (R E) (P E Z) Z.g
-
   abbrev stayed : Stays ended.signature.params ended.kept
-  stayed = (stay_dropped (RefOf (0 ∷ []) tt (plain (λ _. P E Z)) (λ _. tt)) yes, (stay_dropped (plain (λ _. Bs E)) no, (stay_dropped (plain (λ _. usize)) yes, (stay_dropped (plain (λ _. Ps E)) no, (stay_dropped (plain (λ _. Dd)) no, tt)))))
+  stayed = (stay_dropped (RefOf (0 ∷ []) tt (plain (λ _. P E Z)) (λ _. tt)) yes, (stay_dropped (plain (λ _. Bs E)) no, (stay_dropped (plain (λ _. usize)) yes, (stay_dropped (plain (λ _. Ps E)) no, (stay_dropped (plain (λ _. Dd E Z)) no, tt)))))
 
-  abbrev Asks : Z.row.Denot → (Bs E).Denot → ℕ → (Ps E).Denot → Dd.Denot → Type 0
+  abbrev Asks : Z.row.Denot → (Bs E).Denot → ℕ → (Ps E).Denot → (Dd E Z).Denot → Type 0
   Asks a base len slots deed = (slots.at ≡ base.ptr) × (length slots.contents ≡ len) × (deed.at ≡ base.ptr) × (deed.len ≡ len) × (deed.alloc ≡ a)
 
 module _ (E : El) (Z : Al) {M : Type 1} {𝓤 : Ura M} (𝓛 : Logic 𝓤) (at_mem : Memory → SProp 𝓤) (run : Routine → Fun 𝓤) (C : Calls 𝓤 𝓛.H) (Λ : Loops 𝓤 𝓛.H) (fm : FmC 𝓤 𝓛.H 𝓛.laws C)

@@ -35,7 +35,7 @@ use Rattle.core.proofs.mem.Param.{El, R, args}
 use Rattle.core.specs.Ptr.{ptr_add}
 use Rattle.std.specs.Vec.Ownership.{FitsInBlock}
 use Rattle.raw_slots.specs.inside.Ownership.{contents, slots_own}
-use Rattle.raw_slots.proofs.Memory.{Ps, Mark, sz, mark, mark_had, mark_made, glue}
+use Rattle.raw_slots.proofs.Memory.{Goes, Ps, Mark, sz, mark, mark_had, mark_made, glue}
 use Rattle.raw_slots.specs.contracts.slots.Slots.join as F
 use Rattle.raw_slots.specs.contracts.slots.Slots.join.Key.{name as #self}
 use Rattle.raw_slots.proofs.slots.Slots.join.Statement as stated
@@ -57,13 +57,7 @@ module _ (E : El) where
     abbrev held : Clauses 𝓤 ended
     held = F.clauses E.row 𝓛 at_mem run
 
-    abbrev Bound : Type 0
-    Bound = (walk_of 𝓛 ended stayed held).Ghost
-
-    abbrev Goes : Bound → Type 1
-    Goes y = ent 𝓤 ((walk_of 𝓛 ended stayed held).pre y) (WpFn 𝓤 H 𝓣.C 𝓣.Λ function ((walk_of 𝓛 ended stayed held).args y) ((walk_of 𝓛 ended stayed held).post y))
-
-    walk : (z : Bound) → Goes z
+    walk : Goes 𝓛 𝓣 ended stayed held function
     walk z =
         let self : (Ps E).Denot = z.0.3.0 in let other : (Ps E).Denot = z.0.3.1.0 in let vss = z.0.4 in let n = length self.contents in let s = sz E in
         let both : (Ps E).Denot = record { mark = self.mark; at = self.at; contents = self.contents ++ other.contents } in

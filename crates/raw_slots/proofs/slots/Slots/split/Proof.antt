@@ -42,7 +42,7 @@ use Rattle.core.specs.Ptr.{ptr_add}
 use Rattle.std_alloc.proofs.VecSteps.Shapes.{after}
 use Rattle.std_alloc.proofs.RcSteps.{word, word-Good}
 use Rattle.raw_slots.specs.inside.Ownership.{contents, slots_own}
-use Rattle.raw_slots.proofs.Memory.{Ps, Bs, Mark, sz, mark, word_had, word_made, mark_had, mark_made, three_val, three_of, says_three, cut_at}
+use Rattle.raw_slots.proofs.Memory.{Goes, Ps, Bs, Mark, sz, mark, word_had, word_made, mark_had, mark_made, three_val, three_of, says_three, cut_at}
 use Rattle.raw_slots.specs.contracts.slots.Slots.split as F
 use Rattle.raw_slots.specs.contracts.slots.Slots.split.Key.{name as #self}
 use Rattle.raw_slots.proofs.slots.Slots.split.Statement as stated
@@ -64,13 +64,7 @@ module _ (E : El) where
     abbrev held : Clauses 𝓤 ended
     held = F.clauses E.row 𝓛 at_mem run
 
-    abbrev Bound : Type 0
-    Bound = (walk_of 𝓛 ended stayed held).Ghost
-
-    abbrev Goes : Bound → Type 1
-    Goes y = ent 𝓤 ((walk_of 𝓛 ended stayed held).pre y) (WpFn 𝓤 H 𝓣.C 𝓣.Λ function ((walk_of 𝓛 ended stayed held).args y) ((walk_of 𝓛 ended stayed held).post y))
-
-    walk : (z : Bound) → Goes z
+    walk : Goes 𝓛 𝓣 ended stayed held function
     walk z =
         let self : (Ps E).Denot = z.0.3.0 in let base : (Bs E).Denot = z.0.3.1.0 in let mid : ℕ = z.0.3.1.1.0 in let vss = z.0.4 in let s = sz E in
         let Asked : Type 0 = (base.ptr ≡ self.at) × (mid ≤ length self.contents) in
