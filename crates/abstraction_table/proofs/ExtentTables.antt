@@ -16,20 +16,20 @@ use Rattle.abstraction_table.proofs.PairDigits.{index_terms}
 -- what was found for each slot is a table of all extents
 module _ (p : Description) (plant : IsPlant p) (sound : IsSound p) (limit : pairs_of p ≤ 2 ^ 22) (i : ℕ) (t : ExtentTable) (slots : ℕ) (are : AreDigitsOf p i t.digits.items slots)
     (inputs_long : length t.inputs.items ≡ vectors_of p.inputs) (inputs_are : HoldSlots p t.digits.items t.inputs.items)
-    (moves : t.moves ≡ moves_along p i) (extents_long : length t.extents.items ≡ slots) (extents_are : HoldExtentsFrom p i t.digits.items 0 t.extents.items) where
+    (moves : t.moves ≡ moves_along p i) (extents_long : length t.extents ≡ slots) (extents_are : HoldExtentsFrom p i t.digits.items 0 t.extents) where
   -- a pair has the slot that its cell and its input bring
   slot_of_pair : (c u : ℕ) → u < vectors_of p.inputs → slot_at t.digits.items (index_in p c u) ≡ first_of p t.digits.items c + get_or t.inputs.items u 0
   slot_of_pair c u input =
       slot_sums (index_in p c u) (index_in p c 0) (index_in p 0 u) (index_terms p c u) t.digits.items ∙ ap (λ (n : ℕ). first_of p t.digits.items c + n) (sym (inputs_are u input))
 
-  has_slot : (c u : ℕ) → u < vectors_of p.inputs → first_of p t.digits.items c + get_or t.inputs.items u 0 < length t.extents.items
+  has_slot : (c u : ℕ) → u < vectors_of p.inputs → first_of p t.digits.items c + get_or t.inputs.items u 0 < length t.extents
   has_slot c u input = omega (arith, slot_of_pair c u input, slot_below p plant sound i t.digits.items slots are c u, extents_long)
 
   pub table_of : IsExtentTableOf p i t
   table_of = record {
     digits = variables p i t.digits.items are.each;
     few = omega (arith, limit, extents_long, are.few);
-    each = λ k d short. subst (IsRelativeExtent p i) (get_or_default t.extents.items k None d short) (extents_are k short).relative;
+    each = λ k d short. subst (IsRelativeExtent p i) (get_or_default t.extents k None d short) (extents_are k short).relative;
     moves = moves;
     inputs = inputs_long;
     slot = λ c u cell input. has_slot c u input;

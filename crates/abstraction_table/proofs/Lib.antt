@@ -1,3 +1,4 @@
+pub mod IfOks
 pub mod BelowBoxes
 pub mod Mapped
 pub mod PairBoxes

@@ -45,21 +45,21 @@ module _ (p : Description) (sound : IsSound p) (i : ℕ) (lt : i < length p.equa
 
   -- ---- the terms of a table's extents
 
-  module _ (t : ExtentTable) (held : IsExtentTableOf p i t) (own : ℕ) (own_is : own ≡ own_count p i) (terms : List (Option CellBox)) (long : length terms ≡ own * length t.extents.items)
-      (each : (o k : ℕ) → o < own → k < length t.extents.items → IsTermFrom p i o (get_or t.extents.items k None) (get_or terms (o * length t.extents.items + k) None)) where
+  module _ (t : ExtentTable) (held : IsExtentTableOf p i t) (own : ℕ) (own_is : own ≡ own_count p i) (terms : List (Option CellBox)) (long : length terms ≡ own * length t.extents)
+      (each : (o k : ℕ) → o < own → k < length t.extents → IsTermFrom p i o (get_or t.extents k None) (get_or terms (o * length t.extents + k) None)) where
     -- where the cell's own slot is a digit, it brings a pair to its term
-    module _ (digits : List Digit) (brings : (c : ℕ) → first_of p digits c ≡ first_of p t.digits.items c + shifted_by p i c * length t.extents.items) (c u : ℕ) (cell : c < cells_of (axes_of p)) (input : u < vectors_of p.inputs) where
+    module _ (digits : List Digit) (brings : (c : ℕ) → first_of p digits c ≡ first_of p t.digits.items c + shifted_by p i c * length t.extents) (c u : ℕ) (cell : c < cells_of (axes_of p)) (input : u < vectors_of p.inputs) where
       abbrev here : ℕ
       here = first_of p t.digits.items c + get_or t.inputs.items u 0
 
-      there : shifted_by p i c * length t.extents.items + here ≡ first_of p digits c + get_or t.inputs.items u 0
+      there : shifted_by p i c * length t.extents + here ≡ first_of p digits c + get_or t.inputs.items u 0
       there = omega (arith, brings c)
 
       moved : shifted_by p i c < own
       moved = omega (arith, own_is, moved_among c)
 
       pub listed_within : first_of p digits c + get_or t.inputs.items u 0 < length terms
-      listed_within = omega (arith, there, long, mul-add-lt (shifted_by p i c) (length t.extents.items) here own moved (held.slot c u cell input))
+      listed_within = omega (arith, there, long, mul-add-lt (shifted_by p i c) (length t.extents) here own moved (held.slot c u cell input))
 
       pub listed_term : IsTermAt p c u i (get_or terms (first_of p digits c + get_or t.inputs.items u 0) None)
       listed_term = subst (λ (n : ℕ). IsTermAt p c u i (get_or terms n None)) there (each (shifted_by p i c) here moved (held.slot c u cell input) c u (held.extent c u cell input))

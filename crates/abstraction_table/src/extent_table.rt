@@ -1,16 +1,16 @@
 //! The extents of all boxes, state by state.
-ghost use Rattle.std.specs.Prelude.{◌≡◌, ℕ, ◌+◌, ◌^◌, ◌<◌, length, slice_index, slice_index_or, None, IfOk};
+ghost use Rattle.std.specs.Prelude.{◌≡◌, ℕ, ◌+◌, ◌^◌, ◌<◌, length, slice_index, IfOk};
 ghost use Rattle.plant_record.specs.Description.{vectors_of};
 ghost use Rattle.plant_record.specs.Limits.{IsWithinLimits};
 ghost use Rattle.successor_box.specs.PairExtents.{index_in};
 ghost use Rattle.abstraction_table.specs.inside.Digits.{AreDigitsOf, HoldSlots};
-ghost use Rattle.abstraction_table.specs.inside.ExtentTables.{IsExtentTableOf, HoldExtentsFrom, IsExtentFor};
+ghost use Rattle.abstraction_table.specs.inside.ExtentTables.{IsExtentTableOf, HoldExtentsFrom};
 
 use crate::digits::{Digit, Digits, slot_of};
 use crate::extent_lines::{EXTENTS_PER_TASK, fill_chunk};
 use grid_quantiser::Extent;
 use plant_record::Plant;
-use rayon::prelude::*;
+use raw_slots::RawList;
 use std::alloc::{AllocError, Global};
 use std::thread::Threads;
 use successor_box::{INDICES_LIMIT, Sampled};
@@ -22,7 +22,7 @@ use successor_box::{INDICES_LIMIT, Sampled};
 pub(crate) struct ExtentTable {
     pub(crate) digits: Vec<Digit>,
     pub(crate) inputs: Vec<u32>,
-    pub(crate) extents: Vec<Option<Extent>>,
+    pub(crate) extents: RawList<Option<Extent>>,
     pub(crate) moves: bool,
 }
 
@@ -92,25 +92,25 @@ fn build_extents<R: Threads + Sync>(
     sampled: &Sampled<'_>,
     state: u32,
     digits: &Digits,
-) -> Result<Vec<Option<Extent>>, AllocError>
+) -> Result<RawList<Option<Extent>>, AllocError>
     requires state { state < length sampled.now.plant.now.equations }
     requires digits { AreDigitsOf sampled.now.plant.now state digits.now.each.items digits.now.slots }
-    ensures long { IfOk result (λ extents. length extents.items ≡ digits.now.slots) }
-    ensures each { IfOk result (λ found. HoldExtentsFrom sampled.now.plant.now state digits.now.each.items 0 found.items) }
+    ensures long { IfOk result (λ extents. length extents ≡ digits.now.slots) }
+    ensures each { IfOk result (λ found. HoldExtentsFrom sampled.now.plant.now state digits.now.each.items 0 found) }
 {
-    let mut extents = vec![in alloc; None; digits.slots as usize]?;
-    par_chunks_mut_for_each(
+    RawList::by_chunks(
         rt,
-        &mut extents,
+        alloc,
+        None,
+        digits.slots as usize,
         EXTENTS_PER_TASK,
         |slot: usize, chunk: &mut [Option<Extent>]|
             requires state { state < length sampled.now.plant.now.equations }
             requires digits { AreDigitsOf sampled.now.plant.now state digits.now.each.items digits.now.slots }
             requires capacity { slot + length chunk.now < 2 ^ 32 }
-            ensures { (j : ℕ) → j < length chunk.entry.now → IsExtentFor sampled.entry.now.plant.now state digits.entry.now.each.items (slot + j) (slice_index_or chunk.exit.now j None) }
+            ensures { (length chunk.exit.now ≡ length chunk.entry.now) × HoldExtentsFrom sampled.entry.now.plant.now state digits.entry.now.each.items slot chunk.exit.now }
         {
             fill_chunk(sampled, state, digits, slot as u32, chunk);
         },
-    );
-    Ok(extents)
+    )
 }

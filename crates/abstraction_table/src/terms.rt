@@ -16,6 +16,7 @@ use crate::extent_table::{ExtentTable, build_table};
 use crate::pair_box::PairBox;
 use grid_quantiser::Extent;
 use plant_record::Plant;
+use raw_slots::RawList;
 use std::alloc::{AllocError, Global};
 use std::thread::Threads;
 use successor_box::{INDICES_LIMIT, Sampled};
@@ -40,7 +41,7 @@ pub(crate) enum Terms {
     /// The terms, of each slot of a cell along the axis, where these move the extents, one slot after another.
     Listed(Vec<PairBox>),
     /// The extents, of which each term is found as it is asked for.
-    Moved(Vec<Option<Extent>>),
+    Moved(RawList<Option<Extent>>),
 }
 
 /// What the extents along the axis of a state add to boxes, by the digits that find them. Where the terms are listed and
@@ -115,7 +116,10 @@ impl TermTable {
         let slot = first as usize + self.inputs[input as usize] as usize;
         match &self.terms {
             Terms::Listed(terms) => terms[slot],
-            Terms::Moved(extents) => term_of(p, state, self.stride, extents[slot], own),
+            Terms::Moved(extents) => {
+                let extent = extents.as_slice()[slot];
+                term_of(p, state, self.stride, extent, own)
+            }
         }
     }
 }
@@ -231,7 +235,7 @@ fn build_listed(
     requires state { state < length p.now.equations }
     requires stride { stride ≡ stride_of p.now state }
     requires own { own ≡ own_count p.now state }
-    requires few { own * length table.extents.items ≤ PAIRS_LIMIT }
+    requires few { own * length table.extents ≤ PAIRS_LIMIT }
     requires table { IsExtentTableOf p.now state table }
     ensures { IfOk result (λ terms. IsTermTableOf p.now state terms) }
 {
@@ -241,7 +245,8 @@ fn build_listed(
         extents,
         moves,
     } = table;
-    let terms = build_term_list(alloc, p, state, stride, own, &extents)?;
+    let extents = extents.as_slice();
+    let terms = build_term_list(alloc, p, state, stride, own, extents)?;
     if moves {
         digits.push(Digit {
             variable: state,

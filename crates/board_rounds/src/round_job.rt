@@ -7,8 +7,11 @@ use crate::worker::Worker;
 use cell_counters::Board;
 use frontier_pool::Toil;
 
-/// The most pairs of a row whose counters are loaded ahead of its cuts.
-const SHORT_LIST: usize = 16;
+/// How many cells make a block: the counters that a block's cells cut are loaded at once, before the block before it is done.
+const CELLS_IN_BLOCK: u32 = 16;
+
+/// The most pairs of a cell whose counters are loaded ahead of their cuts.
+const PAIRS_AHEAD: usize = 16;
 
 /// A round, as its workers see it. An item is a slot of the list.
 #[derive(Drop)]
@@ -35,11 +38,16 @@ impl<L: Rule> Toil for RoundJob<'_, L> {
     }
 
     fn one(&self, worker: &mut Worker, item: u32) {
-        let sources = self.rule.sources(self.list[item as usize]);
-        if let Some(later) = self.list.get(item as usize + 2) {
-            prefetch_first(self.board, self.rule.sources(*later));
+        // A cut lets no later load begin: between cuts each would wait for memory alone.
+        if item % CELLS_IN_BLOCK == 0 {
+            let next = item as usize + CELLS_IN_BLOCK as usize;
+            let from = if item == 0 { 0 } else { next };
+            let to = self.list.len().min(next + CELLS_IN_BLOCK as usize);
+            for slot in from..to {
+                prefetch_list(self.board, self.rule.sources(self.list[slot]));
+            }
         }
-        prefetch_list(self.board, sources);
+        let sources = self.rule.sources(self.list[item as usize]);
         for pair in sources {
             self.rule.cut(self.board, worker, self.round, *pair);
         }
@@ -47,22 +55,12 @@ impl<L: Rule> Toil for RoundJob<'_, L> {
     }
 }
 
-/// Loads what the cuts of a short row change: a cut lets no later load begin, and each would wait for memory alone.
+/// Loads the counters of the first pairs of a list.
 fn prefetch_list(board: &Board, pairs: &[u32])
     requires { All (λ pair. pair < length board.now.starts) pairs.now }
 {
-    if pairs.len() <= SHORT_LIST {
-        for pair in pairs {
-            board.prefetch(*pair);
-        }
-    }
-}
-
-/// Loads the first pair of a row, and its counter.
-fn prefetch_first(board: &Board, pairs: &[u32])
-    requires { All (λ pair. pair < length board.now.starts) pairs.now }
-{
-    if let Some(pair) = pairs.first() {
+    let loaded = pairs.len().min(PAIRS_AHEAD);
+    for pair in &pairs[..loaded] {
         board.prefetch(*pair);
     }
 }

@@ -6,7 +6,7 @@ use base::NoMemory;
 use std::alloc::Global;
 
 /// How many successors each pair of a game in memory has: the numbers with which its counters begin.
-pub fn fans<G: Forward>(alloc: Global, g: &G) -> Result<Vec<u64>, NoMemory>
+pub(crate) fn fans<G: Forward>(alloc: Global, g: &G) -> Result<Vec<u64>, NoMemory>
     ensures { IfOk result (λ v. v.items ≡ map length (G.game g.now).successors) }
 {
     let pairs = g.cells() * g.inputs();

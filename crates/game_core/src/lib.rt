@@ -19,7 +19,6 @@ mod tally;
 
 pub use answer::Answer;
 pub use base::NoMemory;
-pub use fan_counts::fans;
 pub use game::{CellTest, Forward, Graph, Mark, Row};
 pub use plain::{keep_plain, solve_plain};
 pub use remark::Remark;

@@ -17,7 +17,7 @@ first_of p digits c = sum_by (λ (d : Digit). index_in p c 0 d.variable * d.stri
 
 -- the extent that a table holds where a cell brings so much, under an input
 abbrev pub extent_in : ExtentTable → ℕ → ℕ → Option Extent
-extent_in t first u = slice_index_or t.extents.items (first + slice_index t.inputs.items u) None
+extent_in t first u = slice_index_or t.extents (first + slice_index t.inputs.items u) None
 
 -- an extent is that of some range on the prolonged axis of a state
 abbrev pub IsRelativeExtent : Description → ℕ → Option Extent → Type 0
@@ -26,11 +26,11 @@ IsRelativeExtent p i extent = (low : ℤ) × (high : ℤ) × (low ≤ℤ high) �
 -- A table holds the extents of all pairs along the axis of a state, as many indices before as their cells move them.
 pub record IsExtentTableOf (p : Description) (i : ℕ) (t : ExtentTable) : Type 0 where
   pub digits : All (λ (d : Digit). d.variable < length p.states + length p.inputs) t.digits.items
-  pub few : length t.extents.items ≤ PAIRS_LIMIT
-  pub each : All (IsRelativeExtent p i) t.extents.items
+  pub few : length t.extents ≤ PAIRS_LIMIT
+  pub each : All (IsRelativeExtent p i) t.extents
   pub moves : t.moves ≡ moves_along p i
   pub inputs : length t.inputs.items ≡ vectors_of p.inputs
-  pub slot : (c u : ℕ) → c < cells_of (axes_of p) → u < vectors_of p.inputs → first_of p t.digits.items c + slice_index t.inputs.items u < length t.extents.items
+  pub slot : (c u : ℕ) → c < cells_of (axes_of p) → u < vectors_of p.inputs → first_of p t.digits.items c + slice_index t.inputs.items u < length t.extents
   pub extent : (c u : ℕ) → c < cells_of (axes_of p) → u < vectors_of p.inputs → IsExtentBeforeAt p c u i (shifted_by p i c) (extent_in t (first_of p t.digits.items c) u)
 
 -- An extent is that of all pairs that have a slot, as many indices before as their cells move it.

@@ -66,12 +66,12 @@ step_of t last = slot_at t.digits.items (λ k. if k == last then 1 else 0)
 -- how many indices terms have
 abbrev pub count_of : Terms → ℕ
 count_of (Listed terms) = length terms.items
-count_of (Moved extents) = length extents.items
+count_of (Moved extents) = length extents
 
 -- the term of a pair stands at a slot, or the extent that makes it, so many indices before
 abbrev pub HasTermAt : Description → ℕ → ℕ → ℕ → Terms → ℕ → Type 0
 HasTermAt p c u i (Listed terms) slot = IsTermAt p c u i (slice_index_or terms.items slot None)
-HasTermAt p c u i (Moved extents) slot = IsExtentBeforeAt p c u i (shifted_by p i c) (slice_index_or extents.items slot None)
+HasTermAt p c u i (Moved extents) slot = IsExtentBeforeAt p c u i (shifted_by p i c) (slice_index_or extents slot None)
 
 -- A table holds the terms of all pairs along the axis of a state.
 pub record IsTermTableOf (p : Description) (i : ℕ) (t : TermTable) : Type 0 where

@@ -1,17 +1,13 @@
-use Rattle.std.proofs.Common.{◌≡◌, ℕ, ◌+◌, ◌*◌, ◌/◌, ◌%◌, ◌∙◌, All, None, Result, Ok, Err, IfOk, length, replicate, ap, subst, arith}
+use Rattle.std.proofs.Common.{◌≡◌, ℕ, ◌+◌, ◌*◌, ◌/◌, ◌%◌, ◌∙◌, All, None, length, replicate, ap, subst, arith}
 use Rattle.std.proofs.lemmas.List.{length-replicate, get_or-replicate}
 use Rattle.grid_quantiser.specs.Axes.{cells_of}
 use Rattle.grid_quantiser.specs.ExtentBoxes.{one_cell}
 use Rattle.plant_record.specs.Description.{axes_of, vectors_of}
 use Rattle.plant_game.specs.Abstraction.{pairs_of, pair_of}
 use Rattle.abstraction_table.specs.inside.CellLines.{AreBoxesFrom}
+use Rattle.abstraction_table.proofs.IfOks.{IfOk-both}
 use Rattle.abstraction_table.proofs.PairBoxes.{pair_below, box_in_chunk, chunk_cells}
 use Rattle.abstraction_table.proofs.pair_boxes.build_boxes.Goals as goal
-
--- two facts of what is returned give a third
-IfOk-both : {T E : Type 0} (r : Result T E) (P Q R : T → Type 0) → IfOk r P → IfOk r Q → ((x : T) → P x → Q x → R x) → IfOk r R
-IfOk-both (Ok x) P Q R p q both = both x p q
-IfOk-both (Err e) P Q R p q both = tt
 
 -- each chunk is the boxes of some cells
 pub by_chunks-requires-clause-accepts : goal.by_chunks-requires-clause-accepts

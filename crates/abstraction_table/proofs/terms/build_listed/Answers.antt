@@ -11,7 +11,7 @@ use Rattle.abstraction_table.proofs.terms.build_listed.Goals as goal
 use Rattle.abstraction_table.proofs.terms.build_listed.Goals.{then-moves+in_ok-push, else-moves}
 
 pub build_term_list-requires-clause-extents : goal.build_term_list-requires-clause-extents
-build_term_list-requires-clause-extents c = subst (All (IsRelativeExtent c.args.p.now c.args.state)) (sym c.deref.ensures.value) c.requires.table.each
+build_term_list-requires-clause-extents c = subst (All (IsRelativeExtent c.args.p.now c.args.state)) (sym c.as_slice-extents.ensures) c.requires.table.each
 
 pub returns : goal.returns
 returns c =
@@ -23,11 +23,11 @@ returns c =
     let state : i < length p.states = omega (arith, c.requires.state, plant.one_each) in
     let own : ℕ = c.args.own in
     let all : List (Option CellBox) = c.in_ok-terms.terms.items in
-    let extents : List (Option Extent) = c.args.table.extents.items in
-    let size : length c.deref.result.now ≡ length extents = ap length c.deref.ensures.value in
+    let extents : List (Option Extent) = c.args.table.extents in
+    let size : length c.as_slice-extents.result.now ≡ length extents = ap length c.as_slice-extents.ensures in
     let long : length all ≡ own * length extents = c.in_ok-terms.ensures.long ∙ ap (λ (n : ℕ). own * n) size in
     let each : (o k : ℕ) → o < own → k < length extents → IsTermFrom p i o (get_or extents k None) (get_or all (o * length extents + k) None) =
-    subst (λ (xs : List (Option Extent)). (o k : ℕ) → o < own → k < length xs → IsTermFrom p i o (get_or xs k None) (get_or all (o * length xs + k) None)) c.deref.ensures.value c.in_ok-terms.ensures.each
+    subst (λ (xs : List (Option Extent)). (o k : ℕ) → o < own → k < length xs → IsTermFrom p i o (get_or xs k None) (get_or all (o * length xs + k) None)) c.as_slice-extents.ensures c.in_ok-terms.ensures.each
     in
     let variables : All (HasVariable p) c.if-moves.digits.items =
     elim c.if-moves.branch [
@@ -40,7 +40,7 @@ returns c =
     elim c.if-moves.branch [
       | then-moves+in_ok-push w ↦
           rw w.digits-is
-          (rw w.in_ok-push.ensures.items (own_digit_brings p i cell c.args.table.digits.items _ (length extents) state refl (omega (arith, w.len.ensures, size, c.deref.ensures.len)) (sym held.moves ∙ w.if-moves.true)))
+          (rw w.in_ok-push.ensures.items (own_digit_brings p i cell c.args.table.digits.items _ (length extents) state refl (omega (arith, size, held.few)) (sym held.moves ∙ w.if-moves.true)))
       | else-moves w ↦ rw w.digits-is (no_digit_brings p i cell c.args.table.digits.items (length extents) (sym held.moves ∙ w.if-moves.false))
     ]
     in
@@ -48,7 +48,7 @@ returns c =
       digits = variables;
       few = omega (arith, long, c.requires.few);
       moves = held.moves;
-      free = λ is. subst (All (λ n. n ≡ 0)) c.deref-2.ensures.value (c.are_zero-free.ensures is);
+      free = λ is. subst (All (λ n. n ≡ 0)) c.deref.ensures.value (c.are_zero-free.ensures is);
       stride = c.requires.stride;
       inputs = held.inputs;
       slot = λ cell u below input. listed_within p sound i c.requires.state c.args.table held own c.requires.own all long each c.if-moves.digits.items firsts cell u below input;

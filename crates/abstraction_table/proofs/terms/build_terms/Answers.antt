@@ -14,4 +14,4 @@ pub build_listed-requires-clause-few : goal.build_listed-requires-clause-few
 build_listed-requires-clause-few c =
     let p = c.args.p.now in
     let pairs : c.cells.result * c.vectors.result ≡ cells_of (axes_of p) * vectors_of p.inputs = ap₂ (λ (m n : ℕ). m * n) (c.cells.ensures.count ∙ ap cells_of c.grid.ensures) c.vectors.ensures.count in
-    listed_few c.own_indices_along-own.result (length c.args.table.extents.items) (c.cells.result * c.vectors.result) (omega (arith, pairs, c.requires.plant.pairs)) (omega (arith, c.if-as_slice-pairs.true, ap length c.as_slice.ensures.value))
+    listed_few c.own_indices_along-own.result (length c.args.table.extents) (c.cells.result * c.vectors.result) (omega (arith, pairs, c.requires.plant.pairs)) (omega (arith, c.if-as_slice-pairs.true, ap length c.as_slice.ensures))

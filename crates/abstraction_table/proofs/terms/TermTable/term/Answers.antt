@@ -1,4 +1,4 @@
-use Rattle.std.proofs.Common.{◌≡◌, ℕ, ◌+◌, ◌<◌, ◌∙◌, Option, None, length, get_or, refl, sym, subst, subst₂, arith}
+use Rattle.std.proofs.Common.{◌≡◌, ℕ, ◌+◌, ◌<◌, ◌∙◌, List, Option, None, length, get_or, refl, sym, subst, subst₂, arith}
 use Rattle.std.proofs.lemmas.List.{get_or_default}
 use Rattle.grid_quantiser.specs.declared.extents.Extent.{Extent}
 use Rattle.plant_record.proofs.lemmas.SoundPlants.{sound as sound_plant}
@@ -23,10 +23,9 @@ term_of-requires-clause-extent c =
     let cell = c.requires.cell in
     let slot : ℕ = c.args.first + c.index.result.now in
     let slot_is : slot ≡ c.args.first + get_or c.args.self.now.inputs.items c.args.input 0 = omega (arith, c.index.ensures, get_or_default c.args.self.now.inputs.items c.args.input 0 c.index.result.now (omega (arith, c.requires.input, c.requires.table.inputs))) in
-    let short : slot < length c.in-Moved.extents.items = subst (λ (terms : Terms). slot < count_of terms) c.in-Moved.is (slot_within p sound i c.requires.state c.args.self.now c.requires.table c.args.first c.args.own c.args.input slot slot_is cell.0 cell.1 c.requires.input) in
     let before = subst (λ (terms : Terms). HasTermAt p cell.0 c.args.input i terms slot) c.in-Moved.is (has_term p sound i c.requires.state c.args.self.now c.requires.table c.args.first c.args.own c.args.input slot slot_is cell.0 c.args.input cell.1 c.requires.input refl) in
-    subst (IsRelativeExtent p i) (get_or_default c.in-Moved.extents.items slot None c.index-in-Moved.result.now short ∙ sym c.index-in-Moved.ensures)
-    (extended_at p sound i c.requires.state cell.0 c.args.input (shifted_by p i cell.0) (get_or c.in-Moved.extents.items slot None) before)
+    subst (λ (extents : List (Option Extent)). IsRelativeExtent p i (get_or extents slot None)) (sym c.as_slice.ensures)
+    (extended_at p sound i c.requires.state cell.0 c.args.input (shifted_by p i cell.0) (get_or c.in-Moved.extents slot None) before)
 
 pub returns-in-Listed : goal.returns-in-Listed
 returns-in-Listed c = λ cell u brought below same.
@@ -46,7 +45,6 @@ returns-in-Moved c = λ cell u brought below same.
     let sound = sound_plant p c.requires.plant.plant in
     let slot : ℕ = c.args.first + c.index.result.now in
     let slot_is : slot ≡ c.args.first + get_or c.args.self.now.inputs.items c.args.input 0 = omega (arith, c.index.ensures, get_or_default c.args.self.now.inputs.items c.args.input 0 c.index.result.now (omega (arith, c.requires.input, c.requires.table.inputs))) in
-    let short : slot < length c.in-Moved.extents.items = subst (λ (terms : Terms). slot < count_of terms) c.in-Moved.is (slot_within p sound i c.requires.state c.args.self.now c.requires.table c.args.first c.args.own c.args.input slot slot_is cell brought c.requires.input) in
     let before = subst (λ (terms : Terms). HasTermAt p cell u i terms slot) c.in-Moved.is (has_term p sound i c.requires.state c.args.self.now c.requires.table c.args.first c.args.own c.args.input slot slot_is cell u brought below same) in
     c.term_of.ensures cell u
-    (subst₂ (λ (n : ℕ) (extent : Option Extent). IsExtentBeforeAt p cell u i n extent) (sym brought.moves) (get_or_default c.in-Moved.extents.items slot None c.index-in-Moved.result.now short ∙ sym c.index-in-Moved.ensures) before)
+    (subst₂ (λ (n : ℕ) (extents : List (Option Extent)). IsExtentBeforeAt p cell u i n (get_or extents slot None)) (sym brought.moves) (sym c.as_slice.ensures) before)

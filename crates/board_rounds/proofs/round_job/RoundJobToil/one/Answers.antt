@@ -14,15 +14,10 @@ have_counters game cell starts pairs many h k d lt =
     let pair = ((h.exactly (get_or pairs k d)).0 (Contains-get_or pairs k d lt)).0 in
     omega arith
 
-pub prefetch_first-requires : goal.prefetch_first-requires
-prefetch_first-requires g c =
-    let round_job = c.args.self.now in
-    have_counters (g.L.Rule.game round_job.rule.now) _ round_job.board.now.starts c.sources.result.now (g.met.L.Rule.leads_on round_job.rule.now round_job.board.now c.requires.sound.of_game).counters c.sources.ensures
-
 pub prefetch_list-requires : goal.prefetch_list-requires
 prefetch_list-requires g c =
     let round_job = c.args.self.now in
-    have_counters (g.L.Rule.game round_job.rule.now) _ round_job.board.now.starts c.sources-sources.result.now (g.met.L.Rule.leads_on round_job.rule.now round_job.board.now c.requires.sound.of_game).counters c.sources-sources.ensures
+    have_counters (g.L.Rule.game round_job.rule.now) _ round_job.board.now.starts c.sources.result.now (g.met.L.Rule.leads_on round_job.rule.now round_job.board.now c.requires.sound.of_game).counters c.sources.ensures
 
 pub cut-requires-clause-pair : goal.cut-requires-clause-pair
 cut-requires-clause-pair g c =
