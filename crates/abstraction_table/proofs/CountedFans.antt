@@ -35,7 +35,7 @@ distance_below axes b grid moved = last_below axes 0 (b.last - b.first) grid.som
 pub as_many : (axes : List Axis) (b : CellBox) → IsMovedShape axes b.first b.last → length (cells_between axes b.first b.last) ≡ length (cells_between axes 0 (b.last - b.first))
 as_many axes b moved = ap length moved.cells ∙ length-map (cells_between axes 0 (b.last - b.first)) (λ c. b.first + c)
 
--- a box that is there is its shape, moved
+-- a box that is there is its shape, shifted
 pub is_moved : (axes : List Axis) (o : Option CellBox) (b : CellBox) → o ≡ Some b → AreAxes axes → IsBox axes o → IsMovedShape axes b.first b.last
 is_moved axes o b is grid ordered = boxes_are_moved_shapes axes b.first b.last grid (subst (IsBox axes) is ordered)
 

@@ -124,7 +124,7 @@ shapes_more axes fans n cells before after below h distances keep listed count f
   few = omega (arith, few, h.few, count, sum_by_more (λ m. m) fans n 0 below);
 }
 
--- a distance for which nothing is counted is passed over
+-- a distance for which nothing is counted is skipped
 pub shapes_past : (axes : List Axis) (fans : List ℕ) (n : ℕ) (s : Shapes) → n < length fans → get_or fans n 0 ≡ 0 → ShapesSoFar axes fans n s → ShapesSoFar axes fans (n + 1) s
 shapes_past axes fans n s below none h = record {
   distances = h.distances;

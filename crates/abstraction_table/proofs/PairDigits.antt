@@ -41,7 +41,7 @@ some_values : (inputs : List InputVariable) → All IsInputVariable inputs → 1
 some_values [] each = omega arith
 some_values (i ∷ inputs) each = mul-le 1 1 (length i.values) (vectors_of inputs) (All-head IsInputVariable i inputs each).some_value (some_values inputs (All-tail IsInputVariable i inputs each))
 
--- A cell and an input have such indices, the input's behind those of the states.
+-- A cell and an input have such indices, the input's after those of the states.
 pub record HasIndices (p : Description) (f : ℕ → ℕ) (c u : ℕ) : Type 0 where
   pub cell : c < cells_of (axes_of p)
   pub input : u < vectors_of p.inputs

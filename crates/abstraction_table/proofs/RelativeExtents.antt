@@ -1,4 +1,4 @@
--- Extents on an axis that is prolonged by its own length below.
+-- Extents on an axis that is extended by its own length below.
 use Rattle.std.proofs.Common.{◌≡◌, ℕ, ◌<◌, ◌≤◌, Option, None, Some, length, get_or, subst₂, refl, arith}
 use Rattle.std.proofs.lemmas.Int.{ints}
 use Rattle.std.specs.Prelude.{ℤ, pos, nat_abs, ◌+ℤ◌, ◌-ℤ◌, ◌*ℤ◌, ◌≤ℤ◌, IfSome}
@@ -15,7 +15,7 @@ use Rattle.successor_box.proofs.ExtentEnds.{ends_ordered}
 use Rattle.abstraction_table.specs.inside.ExtentTables.{IsRelativeExtent}
 use Rattle.base.proofs.Products.{quotients_in_order}
 
--- a pair's extent, so many indices before, is on the prolonged axis
+-- a pair's extent, so many indices before, is on the extended axis
 pub extended_at : (p : Description) → IsSound p → (i : ℕ) → i < length p.equations → (c u indices : ℕ) (extent : Option Extent) → IsExtentBeforeAt p c u i indices extent → IsRelativeExtent p i extent
 extended_at p sound i lt c u indices extent is =
     let by : ℤ = (get_or (axes_of p) i no_axis).width *ℤ pos indices in
@@ -23,7 +23,7 @@ extended_at p sound i lt c u indices extent is =
     let high : ℤ = get_or (high_corner p c u) i (pos 0) in
     (low -ℤ by, high -ℤ by, (let e : (low -ℤ by) ≤ℤ (high -ℤ by) = omega (arith, ints, ends_ordered p c u i sound lt) in e), is)
 
--- an extent on the prolonged axis is that of a range so many indices further
+-- an extent on the extended axis is that of a range so many indices further
 pub moved_range : (a : Axis) (indices : ℕ) (extent : Option Extent) → ((low : ℤ) × (high : ℤ) × (low ≤ℤ high) × IsExtentOf (extended_axis a) low high extent) → (low : ℤ) × (high : ℤ) × (low ≤ℤ high) × IsExtentBefore a indices low high extent
 moved_range a indices extent is =
     let by : ℤ = a.width *ℤ pos indices in

@@ -11,7 +11,7 @@ use Rattle.abstraction_table.specs.BoxGame.{box_game}
 abbrev pub game_in : BoxedGame → Game
 game_in b = box_game b.grid b.inputs b.marks.items b.boxes
 
--- the game that is seen ahead
+-- the game of a forward abstraction
 abbrev pub forward_game : ForwardAbstraction → Game
 forward_game o = game_in o.boxed
 

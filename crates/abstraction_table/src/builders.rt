@@ -21,7 +21,7 @@ use std::alloc::Global;
 use std::thread::Threads;
 use successor_box::{Sampled, Slopes};
 
-/// The game of a plant as it is seen ahead. The number of edges is known before any edge is kept.
+/// The forward abstraction of a plant. The number of edges is known before any edge is kept.
 /// What can be done side by side is handed to `rayon`.
 pub fn build_forward<R: Threads + Sync>(
     rt: &R,
@@ -40,7 +40,7 @@ pub fn build_forward<R: Threads + Sync>(
     Ok(ForwardAbstraction { boxed, shapes })
 }
 
-/// The abstraction whose game is the one that is seen ahead: the pairs that lead to each cell are found, and kept as well. What can
+/// The abstraction with the game of a forward abstraction: the pairs that lead to each cell are found, and kept as well. What can
 /// be done side by side is handed to `rayon`.
 pub fn add_sources<R: Threads + Sync>(
     rt: &R,

@@ -21,7 +21,7 @@ const BOXES_FOR_A_PART: usize = 1 << 16;
 /// The most parts. The counts of each take memory of their own.
 const PARTS_LIMIT: usize = 8;
 
-/// How many cells the boxes of each shape have. A box is its shape, moved by its first cell, and how
+/// How many cells the boxes of each shape have. A box is its shape, shifted by its first cell, and how
 /// far its last cell is from its first gives the shape.
 #[derive(Drop)]
 pub(crate) struct Fans {

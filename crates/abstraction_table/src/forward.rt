@@ -6,7 +6,7 @@ use crate::shapes::{Shapes, all_pass};
 use game_core::{CellTest, Forward, Mark};
 use grid_quantiser::CellBox;
 
-/// The game of a plant as it is seen ahead, with the segments of its boxes.
+/// The forward abstraction: the game of a plant by its boxes, with their segments.
 #[derive(Drop)]
 pub struct ForwardAbstraction {
     pub(crate) boxed: BoxedGame,

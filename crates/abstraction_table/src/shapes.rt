@@ -30,7 +30,7 @@ pub(crate) struct SegmentRange {
 /// What stands for a shape that isn't listed.
 const NO_SEGMENTS: SegmentRange = SegmentRange { from: 0, to: 0 };
 
-/// The segments of the shapes of boxes. A box is its shape, moved by its first cell, and how far its last
+/// The segments of the shapes of boxes. A box is its shape, shifted by its first cell, and how far its last
 /// cell is from its first gives the shape.
 #[derive(Drop)]
 pub(crate) struct Shapes {

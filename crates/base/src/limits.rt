@@ -3,7 +3,7 @@
 /// Cells of a grid: the rows of a game take 12 MiB at most, and a board of one word a cell 8.
 pub const CELLS_LIMIT: u64 = 1 << 20;
 
-/// Pairs of a cell and an input vector: their boxes take 50 MiB at most.
+/// Pairs of a cell and an input vector: their boxes take 32 MiB at most.
 pub const PAIRS_LIMIT: u64 = 1 << 22;
 
 /// Edges of an abstraction: as source lists they take 128 MiB at most.

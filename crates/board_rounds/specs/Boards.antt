@@ -12,7 +12,7 @@ fans_of g = map length g.successors
 abbrev pub for_each_cell : Game → (ℕ → ℕ) → List ℕ
 for_each_cell g number = map number (range_with_len 0 g.cells)
 
--- counters and least words begin with these numbers, and there is a slot in the log for each cell
+-- counters and minima begin with these numbers, and there is a slot in the log for each cell
 pub record IsBegunWith (starts least : List ℕ) (g : Game) (board : BoardModel) : Type 0 where
   pub counters : board.starts ≡ starts
   pub words : board.least ≡ least

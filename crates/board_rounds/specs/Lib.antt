@@ -2,5 +2,5 @@ pub mod Boards
 pub mod Crew
 pub mod Rules
 pub mod Rounds
-pub mod Resolving
+pub mod Solving
 pub mod inside

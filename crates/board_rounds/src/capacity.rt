@@ -5,7 +5,7 @@ ghost use Rattle.std.specs.Vec.{vec_capacity};
 use game_core::NoMemory;
 use std::alloc::Global;
 
-/// An empty vector with room for so many elements.
+/// An empty vector with capacity for so many elements.
 pub(crate) fn capacity_for<T>(alloc: Global, count: u32) -> Result<Vec<T>, NoMemory>
     ensures empty { IfOk result (λ v. v.items ≡ []) }
     ensures capacity { IfOk result (λ v. vec_capacity v ≡ count) }

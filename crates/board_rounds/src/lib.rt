@@ -10,7 +10,7 @@ mod capacity;
 mod first;
 mod logged;
 mod numbers;
-mod resolving;
+mod solving;
 mod round_job;
 mod rounds;
 mod rule;
@@ -19,7 +19,7 @@ mod start;
 mod worker;
 mod workers;
 
-pub use resolving::{Resolved, resolve};
+pub use solving::{SolvedGame, solve_by_rule};
 pub use rule::Rule;
 pub use scratch::Scratch;
 pub use start::Start;

@@ -20,7 +20,7 @@ pub(crate) fn words_per_call(len: usize) -> usize
     }
 }
 
-/// Fills in the numbers of the pairs and of the cells, where the words from one on have them. The words behind them stay 0.
+/// Fills in the numbers of the pairs and of the cells, where the words from one on have them. The words after them stay 0.
 pub(crate) fn fill_numbers<S: Start, G: Forward>(g: &G, first: usize, words: &mut [u64])
     requires { AreUnfilled (G.game g.now) (S.number (G.game g.now)) first words.old }
     ensures { words.new ≡ words_from (G.game g.now) (S.number (G.game g.now)) first (length words.old) }

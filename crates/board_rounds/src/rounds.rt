@@ -1,5 +1,6 @@
 //! The rounds, one after another.
 ghost use Rattle.std.specs.Prelude.{◌≡◌, ◌<◌, ◌≤◌, [], All, IsPermutation, IfOk, length, vec_len};
+ghost use Rattle.base.specs.Workers.{AreWorkers};
 ghost use Rattle.std.specs.Vec.{vec_capacity};
 ghost use Rattle.std.specs.List.{range_with_len};
 ghost use Rattle.cell_counters.specs.BoardModels.{new_root};
@@ -27,9 +28,9 @@ use std::thread::Threads;
 #[derive(Drop)]
 pub struct Rounds {
     pub root: Root,
-    /// Empty between rounds, with room for all workers.
+    /// Empty between rounds, with capacity for all workers.
     pub members: Vec<Member<Worker>>,
-    /// The cells of the next round, with room for all cells.
+    /// The cells of the next round, with capacity for all cells.
     pub list: Vec<u32>,
     /// How many slots of the log were put on a list.
     pub listed: u32,
@@ -72,7 +73,7 @@ impl Rounds {
     )
         requires board { L.fits rule.now board.now }
         requires slots { board.now.slots ≡ (L.game rule.now).cells }
-        requires workers { (1 ≤ workers) × (workers ≤ WORKERS_LIMIT) }
+        requires workers { AreWorkers workers }
         requires unused { IsUnused (new_root board.now) (L.game rule.now).cells workers self.old }
         ensures over { IsOver board.now (L.game rule.now).cells self.new }
         ensures holds_before { L.holds_before rule.now self.new.tally.rounds [] self.new.root.accounts }
@@ -95,7 +96,7 @@ impl Rounds {
     )
         requires board { L.fits rule.now board.now }
         requires slots { board.now.slots ≡ (L.game rule.now).cells }
-        requires workers { (1 ≤ workers) × (workers ≤ WORKERS_LIMIT) }
+        requires workers { AreWorkers workers }
         requires holds_before { IsRoundInvariant (L.holds_before rule.now) board.now (L.game rule.now).cells workers self.old }
         requires some { 0 < vec_len self.old.list }
         ensures holds_before { IsRoundInvariant (L.holds_before rule.now) board.now (L.game rule.now).cells workers self.new }

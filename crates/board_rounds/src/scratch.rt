@@ -1,8 +1,8 @@
 //! All memory of a solver, taken before it solves.
 ghost use Rattle.std.specs.Prelude.{◌≡◌, ◌≤◌, length, IfOk};
+ghost use Rattle.base.specs.Workers.{AreWorkers};
 ghost use Rattle.board_rounds.specs.Boards.{IsBegunWith};
 ghost use Rattle.board_rounds.specs.inside.FirstWords.{AreUnfilled, first_words, words_from};
-ghost use Rattle.base.specs.declared.limits.TheConstants.{WORKERS_LIMIT};
 
 use crate::numbers::{fill_numbers, words_per_call};
 use crate::rounds::Rounds;
@@ -48,7 +48,7 @@ impl<S: Start> Scratch<S> {
         g: &G,
         workers: u32,
     ) -> Result<Scratch<S>, NoMemory>
-        requires { (1 ≤ workers) × (workers ≤ WORKERS_LIMIT) }
+        requires { AreWorkers workers }
         ensures { IfOk result (IsBegunWith (S.counters (G.game g.now)) (S.words (G.game g.now)) (G.game g.now)) }
     {
         let numbers = Scratch::<S>::numbers(rt, alloc, g)?;

@@ -3,7 +3,7 @@ use game_core::Forward;
 
 /// With what a solver's board begins: after a counter for each pair, a number for each cell.
 ///
-/// A counter of a pair begins as the number of its successors. The numbers of the cells are further counters, or least words.
+/// A counter of a pair begins as the number of its successors. The numbers of the cells are further counters, or minima.
 pub trait Start: Sync {
     ghost use Rattle.std.specs.Prelude.{◌≡◌, ℕ, ◌<◌, List, ◌++◌, length};
     ghost use Rattle.game_core.specs.Game.{Game};
@@ -15,7 +15,7 @@ pub trait Start: Sync {
     /// The first numbers of all counters.
     ghost counters: { Game → List ℕ };
 
-    /// The first numbers of all least words.
+    /// The first numbers of all minima.
     ghost words: { Game → List ℕ };
 
     /// How many counters there are.
@@ -27,6 +27,6 @@ pub trait Start: Sync {
         requires { c < (G.game g.now).cells }
         ensures { result ≡ number (G.game g.now) c };
 
-    /// Counters and least words are the numbers of the pairs and of the cells.
+    /// Counters and minima are the numbers of the pairs and of the cells.
     ghost joined: { (g : Game) → counters g ++ words g ≡ fans_of g ++ for_each_cell g (number g) };
 }

@@ -50,7 +50,7 @@ impl Worker {
         board.cut(&mut self.hand, counter)
     }
 
-    /// Lowers a least word to `value`, unless it is lower, and answers whether it was free.
+    /// Lowers a minimum to `value`, unless it is lower, and answers whether it was free.
     pub fn offer(&mut self, board: &Board, word: u32, value: u64) -> bool
         requires board { self.old.board ≡ board.now }
         requires word { word < length board.now.least }

@@ -116,7 +116,7 @@ new_firsts before more word start was now h both =
       taken,
     )
 
--- the cells of logs, told by their numbers
+-- the cells of logs, given by their numbers
 cells_by_number : (f : ℕ → ℕ) (logs : List Log) → All (λ (l : Log). f l.number ≡ l.cell) logs → map f (numbers logs) ≡ map (λ (l : Log). l.cell) logs
 cells_by_number f [] told = refl
 cells_by_number f (l ∷ rest) told = cc (All-head (λ (m : Log). f m.number ≡ m.cell) l rest told, cells_by_number f rest (All-tail (λ (m : Log). f m.number ≡ m.cell) l rest told))

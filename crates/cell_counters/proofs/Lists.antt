@@ -1,4 +1,4 @@
--- Lists in which one element or one part changes or moves.
+-- Lists in which one element or one part changes or is moved.
 use Rattle.std.proofs.Common.{◌≡◌, ℕ, zero, suc, ◌+◌, ◌<◌, Bool, true, false, cond, filter, List, [], ◌∷◌, ◌++◌, length, get_or, set, refl, sym, ap, ◌∙◌, subst, arith, All, IsPermutation, append_assoc}
 use Rattle.std.specs.List.Sorted.{IsStrictlyIncreasing}
 use mathlib.Core.Option.{some, some-ne-none, some-injective}

@@ -1,4 +1,4 @@
--- What a step does to lawful accounts of a least word.
+-- What a step does to lawful accounts of a minimum.
 use Rattle.std.proofs.Common.{◌≡◌, ◌≢◌, ℕ, zero, suc, ◌+◌, ◌^◌, ◌<◌, ◌≤◌, ◌==◌, false, cond, List, [], ◌∷◌, ◌++◌, length, drop, min, eq-eqb, ne_eqb, refl, sym, ap, ◌∙◌, subst, arith, All, Contains, IsPermutation, length-append}
 use mathlib.Core.Logic.{dite}
 use native.Mathlib.Decide.{dec_le, dec_lt, ℕ_discrete}

@@ -105,7 +105,7 @@ nothing_else : (xs ys : List Account) → length (xs ++ ys) ≡ length xs → xs
 nothing_else xs [] e = append-nil xs
 nothing_else xs (y ∷ ys) e = absurd (omega (arith, length-append xs (y ∷ ys)))
 
--- what the accounts of all hands tell of a word
+-- what the accounts of all hands say of a word
 explains : (n : Setup) (at : ℕ) (s : State (Unit {0}) View) (v : View) → Keeps n s → get_elem? s.views 0 ≡ some v → accounts_of s.views ≡ v.accounts → v.awaits ≡ None → Explains n v.accounts at (slice_index s.words at)
 explains n at s v h there mine idle =
     let counters : (c : ℕ) → c < length n.starts → IsLawfulCounter v.accounts c (slice_index n.starts c) (slice_index s.words c) =
@@ -126,7 +126,7 @@ explains n at s v h there mine idle =
           (λ l has is. sym (ap (λ j. slice_index s.words (slot_of n j)) (sym is) ∙ has (omega arith) (λ e. absurd (cc (idle, e))))) (all_logs v.accounts) stored));
     }
 
--- what the root is told by a look
+-- what a look says to the root
 looks : (n : Setup) (slot_count at : ℕ) (me : Seated) (s : State (Unit {0}) View) → me.0.began ≡ n → me.0.awaits ≡ None → Keeps n s → get_elem? s.views 0 ≡ some me.0 → Looks (step slot_count at 0 0 none) me (slice_index s.words at) me
 looks n slot_count at me s began idle h there = look s.views refl there
   where

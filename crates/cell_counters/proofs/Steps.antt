@@ -51,7 +51,7 @@ counters_stay starts words xs ys a b r same h c lt = counter_stays xs ys a b c (
 least_stay : (starts least words : List ℕ) (xs ys : List Account) (a b : Account) → Replaced xs ys a b → ((w : ℕ) → offers_on w b ≡ offers_on w a) → ExplainsLeast starts least words xs → ExplainsLeast starts least words ys
 least_stay starts least words xs ys a b r same h w lt = word_stays xs ys a b w (slice_index least w) (slice_index words (length starts + w)) r (same w) (h w lt)
 
--- the words of the counters alone count for the counters, and those of the least words for the least words
+-- the words of the counters alone count for the counters, and those of the minima for the minima
 counters_words : (starts words others : List ℕ) (xs : List Account) → ((k : ℕ) → k < length starts → slice_index others k ≡ slice_index words k) → ExplainsCounters starts words xs → ExplainsCounters starts others xs
 counters_words starts words others xs same h c lt = subst (IsLawfulCounter xs c (slice_index starts c)) (sym (same c lt)) (h c lt)
 

@@ -1,4 +1,4 @@
--- Which accounts are lawful for a counter, for a least word and for the log.
+-- Which accounts are lawful for a counter, for a minimum and for the log.
 use Rattle.std.specs.Prelude.{◌≡◌, ◌≢◌, ℕ, ◌+◌, ◌-◌, ◌*◌, ◌%◌, ◌^◌, ◌<◌, ◌≤◌, ◌==◌, false, List, [], ◌∷◌, cond, map, filter, length, drop, count_by, All, Contains, IsPermutation}
 use Rattle.std.specs.List.{flat_map, range_with_len}
 use Rattle.std.specs.List.Sorted.{IsStrictlyIncreasing}
@@ -37,11 +37,11 @@ pub record IsLawfulCounter (accounts : List Account) (counter start now : ℕ) :
   -- the numbers of one account's cuts, counted from the first of all, rise
   pub in_order : cut_count counter accounts < 2 ^ 64 → All (λ a. IsStrictlyIncreasing (map (minus start) (answers counter a))) accounts
 
--- an account's offers on a least word, in order
+-- an account's offers on a minimum, in order
 abbrev pub offers_on : ℕ → Account → List Offer
 offers_on word account = filter (λ (o : Offer). o.word == word) account.offers
 
--- all offers on a least word in these accounts
+-- all offers on a minimum in these accounts
 abbrev pub all_offers : ℕ → List Account → List Offer
 all_offers word accounts = flat_map (offers_on word) accounts
 
@@ -61,7 +61,7 @@ NoneIsFirst offers = All (λ (o : Offer). o.first ≡ false) offers
 abbrev pub IsLeastOf : List ℕ → ℕ → Type 0
 IsLeastOf numbers n = Contains numbers n × All (λ m. n ≤ m) numbers
 
--- these accounts have all offers on a least word that began at start, and now this is the least
+-- these accounts have all offers on a minimum that began at start, and now this is the least
 pub record IsLawfulLeast (accounts : List Account) (word start now : ℕ) : Type 0 where
   pub least : IsLeastOf (start ∷ values (all_offers word accounts)) now
   -- exactly one was first, where the word began free

@@ -4,7 +4,7 @@ use Rattle.atomic_table.specs.Seated.{TableId}
 use Rattle.cell_counters.specs.declared.account.Account.{Account}
 use Rattle.cell_counters.specs.Accounts.{IsLawfulCounter, IsLawfulLeast, IsLawfulLog, log_count}
 
--- which board it is, the numbers with which its counters and its least words began, and how many slots its log has
+-- which board it is, the numbers with which its counters and its minima began, and how many slots its log has
 pub record BoardModel : Type 0 where
   pub table : TableId
   pub starts : List ℕ
@@ -69,7 +69,7 @@ with_hand_out r = record r { out = r.out + 1 }
 abbrev pub with_hand_in : RootModel → Account → RootModel
 with_hand_in r a = record r { out = r.out - 1; accounts = r.accounts ++ a ∷ [] }
 
--- for each counter and each least word there is a number for which these accounts are lawful, and so they are for the log
+-- for each counter and each minimum there is a number for which these accounts are lawful, and so they are for the log
 pub record IsLawful (accounts : List Account) (starts least : List ℕ) : Type 0 where
   pub counters : (c : ℕ) → c < length starts → (now : ℕ) × IsLawfulCounter accounts c (slice_index starts c) now
   pub words : (w : ℕ) → w < length least → (now : ℕ) × IsLawfulLeast accounts w (slice_index least w) now

@@ -30,7 +30,7 @@ abbrev pub OneIsFirst : Type 0
 OneIsFirst = (accounts : List Account) (word now : ℕ) → IsLawfulLeast accounts word NONE now → 0 < length (all_offers word accounts) → All (λ v. v ≤ NONE) (values (all_offers word accounts))
     → (first_count (all_offers word accounts) ≡ 1) × IsLeastOf (values (all_offers word accounts)) now
 
--- with no account a counter and a least word are what they began as, and the log is empty
+-- with no account a counter and a minimum are what they began as, and the log is empty
 abbrev pub NothingDone : Type 0
 NothingDone = ((counter start : ℕ) → start < 2 ^ 64 → IsLawfulCounter [] counter start start) × ((word start : ℕ) → IsLawfulLeast [] word start start) × IsLawfulLog []
 

@@ -16,7 +16,7 @@ use base::NoMemory;
 use std::alloc::{AllocError, Global};
 use std::marker::{Brand, Model};
 
-/// Counters, least words and a log that threads share by reference.
+/// Counters, minima and a log that threads share by reference.
 ///
 /// To a contract it is which board it is, the numbers with which it began, and how many slots its log has.
 #[derive(Drop)]
@@ -88,7 +88,7 @@ impl Root {
 }
 
 impl Board {
-    /// A board whose counters begin as `starts` and whose least words begin as `least`. Its log has no slots.
+    /// A board whose counters begin as `starts` and whose minima begin as `least`. Its log has no slots.
     pub fn new(alloc: Global, starts: &[u64], least: &[u64]) -> Result<(Board, Root), NoMemory>
         requires some { 0 < length starts.now + length least.now }
         requires capacity { length starts.now + length least.now < 2 ^ 32 }
@@ -121,7 +121,7 @@ impl Board {
         Board::of_words(alloc, words, starts.len() as u32, slots)
     }
 
-    /// The same of all words in one list: the numbers of the counters, the least words, and zeros for the length of the log and
+    /// The same of all words in one list: the numbers of the counters, the minima, and zeros for the length of the log and
     /// its slots. It takes 8 bytes for each word, and copies them.
     pub fn of_words(
         alloc: Global,
@@ -194,7 +194,7 @@ impl Board {
         found.wrapping_sub(1)
     }
 
-    /// Lowers a least word to `value`, unless it is lower, and answers whether it was free.
+    /// Lowers a minimum to `value`, unless it is lower, and answers whether it was free.
     pub fn offer(&self, hand: &mut Hand, word: u32, value: u64) -> bool
         requires hand { hand.old.board ≡ self.now }
         requires word { word < length self.now.least }
@@ -303,7 +303,7 @@ impl Board {
         shared.load::<Looking>(&mut root.seat, counter as usize)
     }
 
-    /// A least word, once all hands are back.
+    /// A minimum, once all hands are back.
     pub fn read(&self, root: &mut Root, word: u32) -> u64
         requires root { root.old.board ≡ self.now }
         requires settled { root.old.out ≡ 0 }

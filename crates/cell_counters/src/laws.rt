@@ -16,7 +16,7 @@ pub fn one_is_first()
     ensures { OneIsFirst }
 {}
 
-/// With no account at all counters and least words are what they began as, and the log is empty.
+/// With no account at all counters and minima are what they began as, and the log is empty.
 pub fn nothing_done()
     ensures { NothingDone }
 {}

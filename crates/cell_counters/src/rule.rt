@@ -1,4 +1,4 @@
-//! The rule of the table below a board. Its words are the counters, the least words, the tail of the log and the slots
+//! The rule of the table below a board. Its words are the counters, the minima, the tail of the log and the slots
 //! of the log, in this order, and a view is what the root or a hand knows.
 use crate::account::Account;
 use crate::numbers::Numbers;
@@ -6,7 +6,7 @@ use atomic_table::{Join, Play, Split, TableRule};
 use std::collections::LinkedList;
 use std::marker::{Brand, PhantomData};
 
-/// The numbers with which the counters and the least words began, and how many slots the log has. No value of it is made.
+/// The numbers with which the counters and the minima began, and how many slots the log has. No value of it is made.
 pub struct Setup {
     pub starts: LinkedList<u64>,
     pub least: LinkedList<u64>,
@@ -24,7 +24,7 @@ pub struct View {
     pub awaits: Option<u64>,
 }
 
-/// What a table is given when it is made: its counters and then its least words, and how many slots its log has.
+/// What a table is given when it is made: its counters and then its minima, and how many slots its log has.
 #[derive(Drop)]
 pub struct Beginning {
     pub words: Numbers,

@@ -6,7 +6,8 @@ use Rattle.std.proofs.lemmas.Fmt.{decimal_injective}
 use Rattle.std.proofs.lemmas.List.{length-map}
 use Rattle.command_line.specs.declared.command.Command.{Command}
 use Rattle.command_line.specs.declared.command.Command.TheVariants.{Synth, Check, Upgrade, Sim, Demo, Stay, Patrol}
-use Rattle.command_line.specs.Command.{AreWorkers, IsDemoNumber, IsOfCommand}
+use Rattle.command_line.specs.Command.{IsDemoNumber, IsOfCommand}
+use Rattle.base.specs.Workers.{AreWorkers}
 use Rattle.command_line.specs.inside.ArgumentSpelling.{Spell}
 use Rattle.command_line.proofs.Spellings.{one_spelling}
 

@@ -1,12 +1,13 @@
 -- The commands of the command line. Each word is a case of `Command`, and a case of each definition here.
 use Rattle.std.specs.Prelude.{◌≡◌, ℕ, ◌^◌, ◌<◌, ◌≤◌, ℤ, List, [], ◌∷◌, length, map, codes}
+use Rattle.base.specs.Workers.{AreWorkers}
 use Rattle.std.specs.List.{All}
 use Rattle.std.specs.Borrow.{Bor}
 use Rattle.std.specs.Fmt.{decimal, signed_decimal}
 use Rattle.plant_record.specs.Numbers.{IsLiteral}
 use Rattle.command_line.specs.declared.command.Command.{Command}
 use Rattle.command_line.specs.declared.command.Command.TheVariants.{Synth, Check, Upgrade, Sim, Demo, Stay, Patrol}
-use Rattle.base.specs.declared.limits.TheConstants.{DEMO_LIMIT, SAMPLES_LIMIT, STATES_LIMIT, WORKERS_LIMIT}
+use Rattle.base.specs.declared.limits.TheConstants.{DEMO_LIMIT, SAMPLES_LIMIT, STATES_LIMIT}
 
 -- The numbers of a state, as they are given for any plant: one to six of at most 18 digits.
 pub record AreStateNumbers (numbers : List ℤ) : Type 0 where
@@ -17,10 +18,6 @@ pub record AreStateNumbers (numbers : List ℤ) : Type 0 where
 -- the numbers of demo plants
 abbrev pub IsDemoNumber : ℕ → Type 0
 IsDemoNumber n = (1 ≤ n) × (n ≤ DEMO_LIMIT)
-
--- how many workers may resolve a game
-abbrev pub AreWorkers : ℕ → Type 0
-AreWorkers workers = (1 ≤ workers) × (workers ≤ WORKERS_LIMIT)
 
 -- the words of a command line, as the bytes of each
 abbrev pub as_words : List (Bor (List ℕ)) → List (List ℕ)

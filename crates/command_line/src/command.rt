@@ -1,7 +1,8 @@
-ghost use Rattle.std.specs.Prelude.{◌≡◌, ◌↔◌, ◌^◌, ◌<◌, ◌≤◌, ℕ, ℤ, List, Some, [], ◌∷◌, length, codes, IfSome, IfNone, IsTrue};
+ghost use Rattle.std.specs.Prelude.{◌≡◌, ◌↔◌, ◌^◌, ◌<◌, ◌≤◌, ℕ, ℤ, List, Some, [], ◌∷◌, length, IfSome, IfNone, IsTrue};
 ghost use Rattle.std.specs.Fmt.{decimal, signed_decimal};
 ghost use Rattle.plant_record.specs.Numbers.{IsLiteral};
-ghost use Rattle.command_line.specs.Command.{IsDemoNumber, AreWorkers, as_words, IsOfCommand, AreOfNoCommand};
+ghost use Rattle.command_line.specs.Command.{IsDemoNumber, as_words, IsOfCommand, AreOfNoCommand};
+ghost use Rattle.base.specs.Workers.{AreWorkers};
 ghost use Rattle.command_line.specs.inside.ArgumentSpelling.{Spell};
 ghost use Rattle.base.specs.declared.limits.TheConstants.{STATES_LIMIT};
 
@@ -9,7 +10,7 @@ use crate::state_numbers::StateNumbers;
 use base::limits::{DEMO_LIMIT, NUMBER_LIMIT, SAMPLES_LIMIT, WORKERS_LIMIT};
 use itoa::Buffer;
 
-/// What the words ask for.
+/// What the command line requests.
 #[derive(Clone, Copy, PartialEq, Eq)]
 pub enum Command {
     /// Solve the plant on the source with so many workers.
@@ -41,7 +42,7 @@ pub enum Command {
     },
 }
 
-/// The command that the words are of.
+/// The command of the arguments.
 pub fn parse_command(arguments: &[&str]) -> Option<Command>
     ensures found { IfSome result (IsOfCommand (as_words arguments.now)) }
     ensures none { IfNone result (AreOfNoCommand (as_words arguments.now)) }
@@ -59,9 +60,9 @@ fn parse_one(name: &str) -> Option<Command>
     ensures found { IfSome result (IsOfCommand (name.now ∷ [])) }
     ensures none { IfNone result (AreOfNoCommand (name.now ∷ [])) }
 {
-    if is_check(name) {
+    if is_named(name, "check") {
         Some(Command::Check)
-    } else if is_upgrade(name) {
+    } else if is_named(name, "upgrade") {
         Some(Command::Upgrade)
     } else {
         None
@@ -73,11 +74,11 @@ fn parse_two(name: &str, workers: &str) -> Option<Command>
     ensures none { IfNone result (AreOfNoCommand (name.now ∷ workers.now ∷ [])) }
 {
     let workers = parse_workers(workers)?;
-    if is_synth(name) {
+    if is_named(name, "synth") {
         Some(Command::Synth { workers })
-    } else if is_stay(name) {
+    } else if is_named(name, "stay") {
         Some(Command::Stay { workers })
-    } else if is_patrol(name) {
+    } else if is_named(name, "patrol") {
         Some(Command::Patrol { workers })
     } else {
         None
@@ -90,7 +91,7 @@ fn parse_three(name: &str, number: &str, workers: &str) -> Option<Command>
 {
     let number = parse_demo_number(number)?;
     let workers = parse_workers(workers)?;
-    if is_demo(name) {
+    if is_named(name, "demo") {
         Some(Command::Demo { number, workers })
     } else {
         None
@@ -106,7 +107,7 @@ fn parse_more(name: &str, samples: &str, seed: &str, numbers: &[&str]) -> Option
     let samples = parse_number(samples, SAMPLES_LIMIT)? as u32;
     let seed = parse_number(seed, u64::MAX)?;
     let start = parse_start(numbers)?;
-    if is_sim(name) {
+    if is_named(name, "sim") {
         Some(Command::Sim {
             samples,
             seed,
@@ -117,7 +118,7 @@ fn parse_more(name: &str, samples: &str, seed: &str, numbers: &[&str]) -> Option
     }
 }
 
-/// How many workers a word asks for.
+/// The number of workers that an argument spells.
 pub fn parse_workers(word: &str) -> Option<u32>
     ensures found { IfSome result (λ n. AreWorkers n × (word.now ≡ decimal n)) }
     ensures none { IfNone result ((n : ℕ) → AreWorkers n → word.now ≡ decimal n → ⊥) }
@@ -128,7 +129,7 @@ pub fn parse_workers(word: &str) -> Option<u32>
     }
 }
 
-/// The number of a demo plant that a word spells.
+/// The number of a demo plant that an argument spells.
 fn parse_demo_number(word: &str) -> Option<u32>
     ensures found { IfSome result (λ n. IsDemoNumber n × (word.now ≡ decimal n)) }
     ensures none { IfNone result ((n : ℕ) → IsDemoNumber n → word.now ≡ decimal n → ⊥) }
@@ -139,7 +140,7 @@ fn parse_demo_number(word: &str) -> Option<u32>
     }
 }
 
-/// The start whose numbers the words spell.
+/// The start whose numbers the arguments spell.
 fn parse_start(arguments: &[&str]) -> Option<StateNumbers>
     requires { length arguments.now ≤ STATES_LIMIT }
     ensures found { IfSome result (Spell (as_words arguments.now)) }
@@ -152,7 +153,7 @@ fn parse_start(arguments: &[&str]) -> Option<StateNumbers>
     Some(start)
 }
 
-/// The number up to a bound that a word spells.
+/// The number up to a bound that an argument spells.
 fn parse_number(word: &str, most: u64) -> Option<u64>
     ensures found { IfSome result (λ n. (n ≤ most) × (word.now ≡ decimal n)) }
     ensures none { IfNone result ((n : ℕ) → n ≤ most → word.now ≡ decimal n → ⊥) }
@@ -163,7 +164,7 @@ fn parse_number(word: &str, most: u64) -> Option<u64>
     }
 }
 
-/// The number of a state that a word spells.
+/// The number of a state that an argument spells.
 fn parse_state_number(word: &str) -> Option<i128>
     ensures found { IfSome result (λ n. IsLiteral n × (word.now ≡ signed_decimal n)) }
     ensures none { IfNone result ((n : ℤ) → IsLiteral n → word.now ≡ signed_decimal n → ⊥) }
@@ -174,14 +175,14 @@ fn parse_state_number(word: &str) -> Option<i128>
     }
 }
 
-/// The number of its own spelling. Of other words nothing is said.
+/// The number that an argument spells as it is printed. Of other arguments nothing is said.
 fn parsed(word: &str) -> Option<u64>
     ensures { (n : ℕ) → n < 2 ^ 64 → word.now ≡ decimal n → result ≡ Some n }
 {
     word.parse::<u64>().ok()
 }
 
-/// The number of its own spelling, with its sign. Of other words nothing is said.
+/// The number with a sign that an argument spells as it is printed. Of other arguments nothing is said.
 fn parsed_state(word: &str) -> Option<i64>
     ensures { (n : ℤ) → IsLiteral n → word.now ≡ signed_decimal n → result ≡ Some n }
 {
@@ -200,44 +201,9 @@ fn is_state_spelling(number: i64, word: &str) -> bool
     Buffer::new().format(number) == word
 }
 
-fn is_sim(word: &str) -> bool
-    ensures { IsTrue result ↔ (word.now ≡ codes "sim") }
+/// Whether an argument is a command's name.
+fn is_named(argument: &str, name: &str) -> bool
+    ensures { IsTrue result ↔ (argument.now ≡ name.now) }
 {
-    word == "sim"
-}
-
-fn is_demo(word: &str) -> bool
-    ensures { IsTrue result ↔ (word.now ≡ codes "demo") }
-{
-    word == "demo"
-}
-
-fn is_check(word: &str) -> bool
-    ensures { IsTrue result ↔ (word.now ≡ codes "check") }
-{
-    word == "check"
-}
-
-fn is_upgrade(word: &str) -> bool
-    ensures { IsTrue result ↔ (word.now ≡ codes "upgrade") }
-{
-    word == "upgrade"
-}
-
-fn is_synth(word: &str) -> bool
-    ensures { IsTrue result ↔ (word.now ≡ codes "synth") }
-{
-    word == "synth"
-}
-
-fn is_stay(word: &str) -> bool
-    ensures { IsTrue result ↔ (word.now ≡ codes "stay") }
-{
-    word == "stay"
-}
-
-fn is_patrol(word: &str) -> bool
-    ensures { IsTrue result ↔ (word.now ≡ codes "patrol") }
-{
-    word == "patrol"
+    argument == name
 }

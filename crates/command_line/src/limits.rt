@@ -3,7 +3,7 @@ ghost use Rattle.command_line.specs.LimitLines.{limit_line};
 
 use plant_record::LimitKind;
 
-/// The words by which a report names a limit.
+/// The text by which a report names a limit.
 pub fn limit_line(what: LimitKind) -> &'static [u8]
     ensures { result.now ≡ limit_line what }
 {

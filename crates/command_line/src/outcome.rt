@@ -146,13 +146,13 @@ fn report_pieces<E: Sink>(err: &mut E, pieces: &[&[u8]])
     let _ = write_pieces(err, pieces);
 }
 
-/// Writes a line of words and a number.
-fn report_number<E: Sink>(err: &mut E, words: &[u8], number: u64)
-    ensures { Reports (writing E.got E.faults E.capacity err.old err.new) (words.now ++ decimal number ++ codes "\n") }
+/// Writes a line of a text and a number.
+fn report_number<E: Sink>(err: &mut E, text: &[u8], number: u64)
+    ensures { Reports (writing E.got E.faults E.capacity err.old err.new) (text.now ++ decimal number ++ codes "\n") }
 {
     let mut buffer = Buffer::new();
     let digits = buffer.format(number).as_bytes();
-    report_pieces(err, &[words, digits, b"\n"]);
+    report_pieces(err, &[text, digits, b"\n"]);
 }
 
 /// Writes the line of an overflow.

@@ -1,4 +1,4 @@
--- Texts with a first line, a plant and rows: what is read of them; one reason to be refused, none where rows are told, and
+-- Texts with a first line, a plant and rows: what is read of them; one reason to be refused, none where rows are given, and
 -- no text is neither.
 use Rattle.std.proofs.Common.{inl, inr, ◌≡◌, ◌⊎◌, ℕ, suc, ◌+◌, ◌≤◌, List, ◌++◌, length, length-append, take, drop, refl, sym, ap, subst, ◌∙◌, append_assoc, arith}
 use Rattle.std.proofs.lemmas.Bool.{cases_lt}
@@ -20,7 +20,7 @@ use Rattle.controller_table.specs.declared.table_fault.TableFault.TheVariants as
 use Rattle.controller_table.specs.HeadedTexts.{HasNoFirstLine, IsPlantRefusedFor, AreRowsRefusedAt, IsFirstRefusedLine, IsTextRefusedFor, alone, IsHeading, IsHeadingRefusedFor}
 use Rattle.controller_table.proofs.FrontEnds.{LimitsEnd, is_within, has_many_vectors, has_many_cells, has_many_pairs, limits_end, front_end}
 
--- What a sort of texts owes: a first line tells its kind, and after a plant one row line is the first that is refused.
+-- What a sort of texts owes: a first line gives its kind, and after a plant one row line is the first that is refused.
 pub record AreHeaded {Kind : Type 0} (first : Kind → List ℕ) (IsRefused : Kind → Description → List ℕ → ℕ → Type 0) : Type 0 where
   pub one_kind : (k l : Kind) (s t : List ℕ) → first k ++ s ≡ first l ++ t → (k ≡ l) × (s ≡ t)
   pub one_line : (k : Kind) (p : Description) (bytes : List ℕ) (m n : ℕ) → IsWithinLimits p → IsRefused k p bytes m → IsRefused k p bytes n → m ≡ n

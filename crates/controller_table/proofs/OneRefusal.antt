@@ -1,4 +1,4 @@
--- What the bytes of a table tell, one reason why they are refused and none where they are a table, and no text is neither.
+-- What the bytes of a table say, one reason why they are refused and none where they are a table, and no text is neither.
 use Rattle.std.proofs.Common.{◌≡◌, ℕ, ◌+◌, ◌^◌, ◌≤◌, List, ◌++◌, Option, refl, ap, ◌∙◌, arith}
 use Rattle.std.specs.List.{concat}
 use Rattle.base.specs.declared.limits.TheConstants.{TABLE_LIMIT}

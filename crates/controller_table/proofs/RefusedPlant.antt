@@ -11,6 +11,6 @@ few_lines q (piece ∷ pieces) r leads =
     let more = few_lines leads.0 pieces r leads.2 in
     omega (arith, more, length-append piece (joined pieces), ap length leads.1.1, length-append leads.1.0 (codes "\n"))
 
--- no more lines are told than there are bytes, and one
+-- no more lines are given than there are bytes, and one
 pub line_bound : (bytes : List ℕ) (n : ℕ) → IsFirstRefusedAtFront bytes n → n ≤ length bytes + 1
 line_bound bytes n r = omega (arith, r.next, few_lines nothing_yet r.pieces r.to (r.read).leads, ap length (r.read).are, length-append (joined r.pieces) r.rest)

@@ -1,4 +1,4 @@
--- Texts with a first line, the canonical text of a plant and rows after it: which are refused, and why. A kind tells the
+-- Texts with a first line, the canonical text of a plant and rows after it: which are refused, and why. A kind has the
 -- first line and which row lines are refused; a text may have so many bytes at most.
 use Rattle.std.specs.Prelude.{◌≡◌, ◌⊎◌, ℕ, suc, ◌+◌, ◌≤◌, List, ◌++◌, length, take}
 use Rattle.plant_record.specs.declared.limit_kind.LimitKind.{LimitKind}

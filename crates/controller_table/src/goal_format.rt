@@ -6,7 +6,7 @@ use plant_record::{GoalKind, Plant};
 use row_reading::RowRules;
 use row_runs::{RowFormat, TableVersion};
 
-/// The words that tell a row of a plant with this goal.
+/// What the rows of a plant with this goal print.
 pub fn format_of(goal: GoalKind) -> RowFormat
     ensures { result ≡ format_of goal }
 {

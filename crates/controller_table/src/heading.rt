@@ -12,7 +12,7 @@ use plant_text::{Front, PlantFault, read_front};
 use row_reading::{after_prefix, line_count};
 use std::alloc::Global;
 
-/// What a text tells before its rows.
+/// What a text says before its rows.
 #[derive(Drop)]
 pub struct Heading {
     pub plant: Plant,

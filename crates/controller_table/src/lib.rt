@@ -6,6 +6,7 @@
 #![tactic(auto)]
 
 mod goal_format;
+mod header;
 mod heading;
 pub mod laws;
 mod table;
@@ -16,6 +17,7 @@ mod table_writer;
 
 pub use base::NoMemory;
 pub use goal_format::{format_of, rules_of};
+pub use header::header_of;
 pub use heading::{Heading, take_heading};
 pub use table::Table;
 pub use table_fault::TableFault;

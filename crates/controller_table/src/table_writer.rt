@@ -3,11 +3,11 @@ ghost use Rattle.controller_table.specs.TableText.{written_version, table_text};
 ghost use Rattle.controller_table.specs.Tables.{RowsFit};
 
 use crate::goal_format::format_of;
+use crate::header::header_of;
 use crate::table::Table;
 use base::NoMemory;
 use game_core::Answer;
 use plant_record::Plant;
-use plant_writing::write_plant;
 use row_runs::{FramedText, RunLines};
 use std::alloc::Global;
 use std::marker::Model;
@@ -33,11 +33,10 @@ impl<'a> TableWriter<'a> {
         requires { RowsFit p.now a.now }
         ensures { IfOk result (λ w. w ≡ table_text written_version p.now a.now) }
     {
-        let mut front = Vec::from_slice(alloc, b"table 2\n")?;
-        write_plant(alloc, p, &mut front)?;
+        let header = header_of(alloc, b"table 2\n", p)?;
         let lines = RunLines::counted(format_of(p.goal()), a);
         Ok(TableWriter {
-            text: FramedText::new(front, lines),
+            text: FramedText::new(header, lines),
         })
     }
 

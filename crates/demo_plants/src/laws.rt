@@ -22,7 +22,7 @@ pub fn demo_plants_have_few_edges()
     ensures { DemoPlantsHaveFewEdges }
 {}
 
-/// No slope and no number of edges refuses a demo plant.
+/// No deviation and no number of edges refuses a demo plant.
 pub fn demo_plants_are_solvable()
     ensures { DemoPlantsAreSolvable }
 {}

@@ -4,7 +4,7 @@ use Rattle.std.proofs.lemmas.List.{length-map, get_or_default}
 use Rattle.std.proofs.lemmas.List.Sums.{sum_by_more, sum_by_more_le}
 use Rattle.std.proofs.Math.ListN.{get_or-map}
 use Rattle.edge_rows.specs.Rows.{Filling, row_at, slots_left}
-use Rattle.raw_slots.specs.Slots.{IsRun, values}
+use Rattle.raw_slots.specs.Slots.{IsFilled, values}
 use Rattle.edge_rows.specs.inside.Layout.{laid, starts_from, rows_between, IsWithin}
 use Rattle.edge_rows.specs.inside.FillFields.{filling_of, IsFilling}
 use Rattle.edge_rows.specs.inside.RowsFields.{rows_of, IsStoredAs, IsRows}
@@ -86,8 +86,8 @@ module _ (h : Inside) (ok : IsRows h) (rows : List (List ℕ)) (is : rows_of h �
           let long : to - from ≡ length row = omega (arith, starts_here, ends_here) in
           (λ i. take (long i) (drop (starts_here i) (had.slots i))) ∙ run_at rows ns r had.within.fits lt
 
-      pub is_run : IsRun h.block from (to - from)
-      is_run =
+      pub is_filled : IsFilled h.block from (to - from)
+      is_filled =
           (omega (arith, starts_here, ends_here, row_long, sum_by_more_le (λ k. k) ns r 0 in_ns, ap length had.slots, length-laid rows ns had.within.fits), (row, row_there))
 
       pub is_row : (xs : List ℕ) → take (to - from) (drop from h.block) ≡ map Some xs → xs ≡ row

@@ -40,6 +40,6 @@ impl Rows {
         let r = r as usize;
         let start = self.starts[r] as usize;
         let end = self.starts[r + 1] as usize;
-        self.block.run(start, end - start)
+        self.block.slice(start, end - start)
     }
 }

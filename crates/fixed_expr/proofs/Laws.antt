@@ -20,7 +20,7 @@ pub use Rattle.fixed_expr.proofs.LaneSteps.{one_lane_more}
 pub values_depend_on_variables : (e : Expression) (xs ys : List ℤ) → AreSameIn (pos 0) e xs ys → value_of e xs ≡ value_of e ys
 values_depend_on_variables e xs ys same = values.agree xs ys e same
 
--- an expression that moves with a variable has one value less that variable, wherever the other variables are the same
+-- an expression that shifts with a variable has one value less that variable, wherever the other variables are the same
 pub values_move_with_variables : (e : Expression) (k : ℕ) (xs ys : List ℤ) → IsTrue (shifts_with e k) → AreSameBut k e xs ys → value_of e xs -ℤ slice_index_or xs k (pos 0) ≡ value_of e ys -ℤ slice_index_or ys k (pos 0)
 values_move_with_variables e k xs ys is same = moves.moves k xs ys e is same
 

@@ -1,4 +1,4 @@
--- An expression that moves with a variable moves by just what the variable moves by.
+-- An expression that shifts with a variable shifts by just what the variable shifts by.
 use Rattle.std.proofs.Common.{◌≡◌, ℕ, true, false, not, ◌||◌, ◌&&◌, List, sym, ap, ◌∙◌, arith, inl, inr}
 use Rattle.std.specs.Prelude.{ℤ, pos, ◌-ℤ◌, slice_index_or}
 use Rattle.std.proofs.lemmas.Int.{ints}

@@ -102,15 +102,15 @@ fn value_along(p: (i128, i128), q: (i128, i128), x: i128) -> i128
 
 /// How much of a rise over a run lies at a number of steps, rounded down: in 64 bits where the product
 /// lies there, since quotients in 128 take several times as long.
-fn part_of(rise: i128, steps: i128, execute: i128) -> i128
+fn part_of(rise: i128, steps: i128, run: i128) -> i128
     requires rise { nat_abs rise < 2 * NUMBER_LIMIT }
     requires steps { nat_abs steps < 2 * NUMBER_LIMIT }
-    requires execute { nat_abs execute < 2 * NUMBER_LIMIT }
-    requires some { pos 1 ≤ℤ execute }
-    ensures { result ≡ floor_div (rise *ℤ steps) execute }
+    requires run { nat_abs run < 2 * NUMBER_LIMIT }
+    requires some { pos 1 ≤ℤ run }
+    ensures { result ≡ floor_div (rise *ℤ steps) run }
 {
     match (rise as i64).checked_mul(steps as i64) {
-        Some(product) => i128::from(product.div_euclid(execute as i64)),
-        None => (rise * steps).div_euclid(execute),
+        Some(product) => i128::from(product.div_euclid(run as i64)),
+        None => (rise * steps).div_euclid(run),
     }
 }

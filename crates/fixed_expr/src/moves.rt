@@ -5,7 +5,7 @@ ghost use Rattle.fixed_expr.specs.Moves.{shifts_with};
 use crate::expr::Expr;
 
 impl Expr {
-    /// Whether the value moves with a variable: the expression is the variable, plus or minus parts
+    /// Whether the value shifts with a variable: the expression is the variable, plus or minus parts
     /// that don't mention it, at any depth.
     pub fn shifts_with(&self, variable: u32) -> bool
         ensures { result ≡ shifts_with (expression_of self.now) variable }

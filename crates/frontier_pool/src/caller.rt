@@ -27,7 +27,7 @@ pub(crate) fn open(
     Table::of_words(alloc, zeros.as_slice(), &items)
 }
 
-/// Gives each member a seat and a deque with room for its batch, and makes a stealer for each deque.
+/// Gives each member a seat and a deque with capacity for its batch, and makes a stealer for each deque.
 pub(crate) fn equip<H>(
     alloc: Global,
     claimed: &Shared<(), SeatView, u32, Once>,
@@ -48,7 +48,7 @@ pub(crate) fn equip<H>(
     Ok(stealers)
 }
 
-/// Gives a member a seat and a deque with room for its batch, and makes a stealer for the deque.
+/// Gives a member a seat and a deque with capacity for its batch, and makes a stealer for the deque.
 fn equip_member<H>(
     alloc: Global,
     claimed: &Shared<(), SeatView, u32, Once>,

@@ -17,7 +17,7 @@ use Rattle.game_core.specs.Game.{Game, IsGame, AreSources, pair_of, pairs_of, su
 use Rattle.game_core.specs.Solution.{row_of, rank_at, rank_in}
 use Rattle.game_core.specs.inside.Search.{SearchProgress, after_cut, IsTold, IsSearch, IsSearched, is_taken}
 
--- cuts that agree on the successors tell alike
+-- cuts that agree on the successors count alike
 pub told_alike : (g : Game) (cut other : ℕ → ℕ → Bool) (top : ℕ) (rows : List (Option Row)) → IsTold g cut top rows → ((pair s : ℕ) → pair < pairs_of g → Contains (successors_at g pair) s → cut pair s ≡ other pair s) → IsTold g other top rows
 told_alike g cut other top rows h alike = record {
   one_each = h.one_each;

@@ -1,4 +1,4 @@
--- What counts tell, gathered, and edges from both ends.
+-- Sums of counts, and edges counted from both ends.
 use Rattle.std.proofs.Common.{inl, inr, ◌≢◌, ℕ, suc, List, [], AllPairs, arith, sym, ◌∙◌}
 use Rattle.std.specs.List.Sorted.{IsStrictlyIncreasing}
 use Rattle.std.proofs.lemmas.Bool.{cases_lt}

@@ -1,4 +1,4 @@
-//! Boards of counters, least words and a log.
+//! Boards of counters, minima and a log.
 
 ghost use Rattle.std.specs.Prelude.{◌≡◌, ◌<◌, length};
 
@@ -7,7 +7,7 @@ use std::test::Fail;
 use std::thread;
 use std::thread::{Threads, join_mut};
 
-/// 3 cuts leave 2, 1 and 0; the least of 9 and 4 is 4, and 7 doesn't lower a word at 5; two of three logs have a place.
+/// 3 cuts leave 2, 1 and 0; the least of 9 and 4 is 4, and 7 doesn't lower a word at 5; two of three logs have a slot.
 #[test]
 fn one_hand_does_each_step(rt: HostRuntime) -> Result<(), Fail> {
     let (board, mut root) = Board::with_log(rt.alloc(), &[3], &[NONE, 5], 2)?;
@@ -44,7 +44,7 @@ fn one_hand_does_each_step(rt: HostRuntime) -> Result<(), Fail> {
     Ok(())
 }
 
-/// 4 cuts of 4 leave 3 to 0, of 4 offers on a free word one was first, and 3 logs have a place.
+/// 4 cuts of 4 leave 3 to 0, of 4 offers on a free word one was first, and 3 logs have a slot.
 fn are_lawful(steps: &[(u64, bool, bool)]) -> bool {
     let mut left = [0; 4];
     let mut firsts: u32 = 0;

@@ -1,4 +1,4 @@
-//! The game of a plant seen ahead.
+//! The forward abstraction of a plant.
 
 ghost use Rattle.std.specs.Prelude.{◌<◌};
 

@@ -7,7 +7,7 @@ use std::test::Fail;
 use std::thread::Threads;
 use successor_box::find_slopes;
 
-/// Five cells of three places. A cell's box is its centre 3 c + 1 plus the input, minus and plus 2.
+/// Five cells of three positions. A cell's box is its centre 3 c + 1 plus the input, minus and plus 2.
 ///
 /// | cell | u = 4 | u = 7 | row |
 /// |---|---|---|---|
@@ -18,7 +18,7 @@ use successor_box::find_slopes;
 pub const CORRIDOR: &[u8] =
     b"plant 1\nstate x 0 14 3\ninput u 4 7\nnoise w -1 1\nnext x = x + u + w\ntarget 9 14\ngoal reach\nend\n";
 
-/// Eight cells of one place. A cell's box is its place plus the input, minus and plus 1.
+/// Eight cells of one position. A cell's box is its position plus the input, minus and plus 1.
 ///
 /// | cell | u = 2 | u = 3 | row |
 /// |---|---|---|---|
@@ -32,7 +32,7 @@ pub const CORRIDOR: &[u8] =
 pub const BETWEEN: &[u8] =
     b"plant 1\nstate x 0 7 1\ninput u 2 3\nnoise w -1 1\nnext x = x + u + w\ntarget 4 6\nobstacle 0 0\ngoal reach\nend\n";
 
-/// Eight cells of one place, to be kept off the cell 3. A cell's box is its place plus the input, minus and plus 1. Cell 1
+/// Eight cells of one position, to be kept off the cell 3. A cell's box is its position plus the input, minus and plus 1. Cell 1
 /// falls in round 1, as its one enabled input may lead to 3. Cell 2 loses an input in round 0 and the other in round 1.
 ///
 /// | cell | u = -1 | u = 1 | row |

@@ -1,4 +1,4 @@
-//! Rows that are filled place by place, and the block in which they lie.
+//! Rows that are filled slot by slot, and the block in which they lie.
 
 use edge_rows::{RowFill, Rows};
 use std::alloc::Global;
@@ -45,7 +45,7 @@ fn a_run_puts_one_value_in_each_of_its_rows(rt: HostRuntime) -> Result<(), Fail>
     Ok(())
 }
 
-/// A filling of three places, so many of them written.
+/// A filling of three slots, so many of them written.
 fn filled_as_far_as(alloc: Global, puts: u64) -> Result<RowFill, Fail> {
     let mut fill = RowFill::new(alloc, &[2, 0, 1])?;
     if puts == 0 {

@@ -106,7 +106,7 @@ fn every_item_is_done_once(rt: HostRuntime) -> Result<(), Fail> {
     Ok(())
 }
 
-/// Whether an item was done after it had come to the gate, by the hand at the place that the gate was told.
+/// Whether an item was done after it had come to the gate, by the hand with the number that the gate was given.
 fn is_with(hands: &[Vec<u32>], item: u32, worker: Option<u32>) -> bool {
     match worker {
         Some(place) => match hands.get(place as usize) {

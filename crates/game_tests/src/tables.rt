@@ -7,7 +7,7 @@ use std::alloc::Global;
 use std::test::Fail;
 use text_pieces::Pieces;
 
-/// The carriage of three places a step, to be kept on the line: cells 1 to 4 have equal rows.
+/// The carriage of three positions a step, to be kept on the line: cells 1 to 4 have equal rows.
 const KEPT_BY_CELLS: &[u8] =
     b"table 1\nplant 1\nstate x 0 14 3\ninput u -3 3\nnext x = x + u\ngoal keep\nend\nrows 5\n0 - 1\n1 - 0\n2 - 0\n3 - 0\n4 - 0\nend\n";
 
@@ -50,7 +50,7 @@ fn tables_of_both_versions_are_written_by_runs(rt: HostRuntime) -> Result<(), Fa
     Ok(())
 }
 
-/// Cell 0 has the input 1, cell 4 the input 0, and the place 15 lies outside.
+/// Cell 0 has the input 1, cell 4 the input 0, and the position 15 lies outside.
 fn is_kept_table(table: &Table, version: u32) -> bool {
     table.version() == version
         && table.rows() == 5

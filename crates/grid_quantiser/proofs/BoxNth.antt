@@ -65,7 +65,7 @@ between_nth (a ∷ axes) f l i each low box within =
     (get_or-blocks n part (f / n) extent i (omega (arith, within, length-blocks n part (f / n) extent))
     ∙ omega (arith, rest, add-mul (f / n) (i / m) n, div-add-mod' f n))
 
--- a box is its shape, moved
+-- a box is its shape, shifted
 pub moved_shape : (axes : List Axis) (f l : ℕ) → All IsAxis axes → f < cells_of axes → IsCellBox axes f l → cells_between axes f l ≡ map (λ c. f + c) (cells_between axes 0 (l - f))
 moved_shape axes f l each below box =
     let shape : List ℕ = cells_between axes 0 (l - f) in

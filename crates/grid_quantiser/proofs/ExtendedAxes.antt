@@ -1,4 +1,4 @@
--- Indices on an axis that is prolonged by its own length below, and extents that are moved from there.
+-- Indices on an axis that is extended by its own length below, and extents that are shifted from there.
 use Rattle.std.proofs.Common.{◌≡◌, ◌⊎◌, ℕ, ◌+◌, ◌-◌, ◌*◌, ◌/◌, ◌^◌, ◌<◌, ◌≤◌, arith, refl, ap, ap₂, sym, subst, List, All, length, get_or, w64, FitsSigned, ◌∙◌, ℤ, pos, nat_abs, ◌+ℤ◌, ◌-ℤ◌, ◌*ℤ◌, ◌<ℤ◌, ◌≤ℤ◌, None, Some, inl, inr}
 use Rattle.std.proofs.lemmas.Int.{ints, to_z-of_z}
 use Rattle.std.specs.Int.{w128}
@@ -26,7 +26,7 @@ module _ (a : Axis) (axis : IsAxis a) where
   abbrev width : ℕ
   width = nat_abs a.width
 
-  -- the distance from the low end of the prolonged axis
+  -- the distance from the low end of the extended axis
   abbrev distance : ℤ → ℕ
   distance x = nat_abs (x -ℤ (extended_axis a).lo)
 

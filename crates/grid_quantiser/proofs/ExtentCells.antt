@@ -140,7 +140,7 @@ more_meets axes lo hi k found extent each ordered lt box is =
 -- ---- the loop that adds extent after extent
 
 module _ (axes : List Axis) (lo hi : List ℤ) (extents : List (Option Extent)) (i : ℕ) (b : CellBox) (each : All IsAxis axes) (are : AreExtentsOf axes lo hi extents) (lt : i < length axes) (box : IsBoxMeeting (take i axes) lo hi (Some b)) where
-  -- one side more
+  -- one extent more
   pub with_next : (s : Extent) → slice_index_or extents i None ≡ Some s → IsBoxMeeting (take (i + 1) axes) lo hi (with_extent (slice_index_or axes i no_axis) (Some b) (Some s))
   with_next s was = rw was at (more_meets axes lo hi i (Some b) (slice_index_or extents i None) each are.ordered lt box (are.each i lt))
 

@@ -37,7 +37,7 @@ half w some = (omega arith, omega arith)
 
 -- ---- lists
 
--- a list repeated at each of some indices in a row, n numbers apart
+-- a list repeated at each of consecutive indices, n numbers apart
 abbrev pub blocks : ℕ → List ℕ → ℕ → ℕ → List ℕ
 blocks n part start count = flat_map (λ index. map (λ c. index * n + c) part) (range_with_len start count)
 

@@ -17,7 +17,7 @@ drop-counts_of zero axes = refl
 drop-counts_of (suc k) [] = refl
 drop-counts_of (suc k) (a ∷ axes) = drop-counts_of k axes
 
--- the cells along the later axes are passed over
+-- the cells along the later axes are skipped
 pub index_along_is : (axes : List Axis) (i c : ℕ) → index_along axes i c ≡ c / cells_of (drop (i + 1) axes) % (get_or axes i no_axis).count
 index_along_is axes i c = ap₂ (λ (later : List ℕ) (n : ℕ). c / size later % n) (drop-counts_of (i + 1) axes) (each_count axes i)
 

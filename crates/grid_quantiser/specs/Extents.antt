@@ -20,15 +20,15 @@ pub record IsExtentOf (a : Axis) (low high : ℤ) (extent : Option Extent) : Typ
 abbrev pub extended_axis : Axis → Axis
 extended_axis a = record { lo = a.lo -ℤ (a.width *ℤ pos a.count); width = a.width; count = a.count + a.count }
 
--- the extent on the prolonged axis of a range that lies so many indices before the one from low to high
+-- the extent on the extended axis of a range that lies so many indices before the one from low to high
 abbrev pub IsExtentBefore : Axis → ℕ → ℤ → ℤ → Option Extent → Type 0
 IsExtentBefore a indices low high extent = IsExtentOf (extended_axis a) (low -ℤ (a.width *ℤ pos indices)) (high -ℤ (a.width *ℤ pos indices)) extent
 
--- an extent on the prolonged axis is that of some range, which lies so many indices before another one
+-- an extent on the extended axis is that of some range, which lies so many indices before another one
 abbrev pub IsShiftable : Axis → ℕ → Option Extent → Type 0
 IsShiftable a indices before = (low : ℤ) × (high : ℤ) × (low ≤ℤ high) × IsExtentBefore a indices low high before
 
--- an extent on the axis is one on the prolonged axis, shifted by so many indices
+-- an extent on the axis is one on the extended axis, shifted by so many indices
 abbrev pub IsShiftOf : Axis → ℕ → Option Extent → Option Extent → Type 0
 IsShiftOf a indices before extent = (low high : ℤ) → low ≤ℤ high → IsExtentBefore a indices low high before → IsExtentOf a low high extent
 

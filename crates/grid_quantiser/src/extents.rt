@@ -30,7 +30,7 @@ impl Grid {
         Some(Extent { first, last })
     }
 
-    /// The quantiser of an axis prolonged by its own length below, from whose extents `shifted_extent` goes on.
+    /// The quantiser of an axis extended by its own length below, from whose extents `shifted_extent` goes on.
     pub fn extended_quantiser(&self, axis: u32) -> AxisQuantiser
         requires { axis < length self.now }
         ensures { result ≡ extended_axis (axis_at self.now axis) }
@@ -38,7 +38,7 @@ impl Grid {
         self.axes()[axis as usize].extended_quantiser()
     }
 
-    /// The extent on an axis of what lies so many indices after what has this extent on the prolonged axis:
+    /// The extent on an axis of what lies so many indices after what has this extent on the extended axis:
     /// None where one of its ends is outside. It is the extent that `extent` gives, without a division.
     #[inline]
     pub fn shifted_extent(&self, axis: u32, extent: Option<Extent>, indices: u32) -> Option<Extent>

@@ -1,4 +1,4 @@
--- The span of an expression that moves with a variable moves by just what the variable's range moves by.
+-- The span of an expression that shifts with a variable shifts by just what the variable's range shifts by.
 use Rattle.std.proofs.Common.{◌≡◌, ℕ, true, false, not, ◌||◌, ◌&&◌, List, sym, ap, ◌∙◌, arith, inl, inr}
 use Rattle.std.specs.Prelude.{◌-ℤ◌}
 use Rattle.std.proofs.lemmas.Int.{ints}
@@ -11,7 +11,7 @@ use Rattle.interval_eval.specs.Span.{span_of}
 use Rattle.interval_eval.specs.inside.Nested.{range_at, AreSameRangesBut}
 use Rattle.interval_eval.proofs.Depending.{agree}
 
--- two intervals moved from two others by one distance at each end
+-- two intervals shifted from two others by one distance at each end
 abbrev AreMoved : Interval → Interval → Interval → Interval → Type 0
 AreMoved s i t j = (s.lo -ℤ i.lo ≡ t.lo -ℤ j.lo) × (s.hi -ℤ i.hi ≡ t.hi -ℤ j.hi)
 

@@ -28,7 +28,7 @@ spans_depend_on_variables e area other same = depending.agree area other e same
 pub nested_spans_stay_in_range : (e : Expression) (area wider : List Interval) → IsWellFormed e (length wider) → All IsInterval area → ArePartsOf area wider → SpanStaysInRange e wider → SpanStaysInRange e area
 nested_spans_stay_in_range e area wider formed each parts stays = nesting.stays area wider each parts e formed stays
 
--- the span of an expression that moves with a variable moves, at each end, by just what the variable's range moves by
+-- the span of an expression that shifts with a variable shifts, at each end, by just what the variable's range shifts by
 pub spans_move_with_variables : (e : Expression) (k : ℕ) (area other : List Interval) → IsTrue (shifts_with e k) → AreSameRangesBut k e area other →
     ((span_of e area).lo -ℤ (range_at area k).lo ≡ (span_of e other).lo -ℤ (range_at other k).lo)
     × ((span_of e area).hi -ℤ (range_at area k).hi ≡ (span_of e other).hi -ℤ (range_at other k).hi)

@@ -2,7 +2,7 @@
 use Rattle.std.specs.Prelude.{◌≡◌, ◌≢◌, ◌⊎◌, ◌↔◌, ℕ, ◌+◌, List, [], ◌∷◌, drop, Some, IfSome, codes}
 use Rattle.std.specs.Fmt.{decimal}
 use Rattle.run_devices.specs.Devices.{Reading, Writing, GainsWhole, GainsPart, TakesAtMost, AreUnused}
-use Rattle.command_line.specs.Command.{AreWorkers}
+use Rattle.base.specs.Workers.{AreWorkers}
 use Rattle.command_line.specs.Statuses.{status_of}
 use Rattle.command_line.specs.Ends.{IsShownBy, IsReported}
 use Rattle.command_line.specs.declared.outcome.Refusal.{Refusal}

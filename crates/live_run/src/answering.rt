@@ -1,5 +1,5 @@
 ghost use Rattle.std.specs.Prelude.{◌≡◌, ◌++◌, None, OnOk, IfOk, IfErr};
-ghost use Rattle.command_line.specs.Command.{AreWorkers};
+ghost use Rattle.base.specs.Workers.{AreWorkers};
 ghost use Rattle.live_script.specs.LiveText.{IsLiveText, answer_line};
 ghost use Rattle.live_script.specs.Scripts.{FitsAfter};
 ghost use Rattle.live_run.specs.inside.Answering.{IsExecuted, IsUnanswered};

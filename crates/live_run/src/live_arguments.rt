@@ -1,4 +1,4 @@
-//! The words of the command line.
+//! The arguments of `live`.
 
 ghost use Rattle.std.specs.Prelude.{◌≡◌, ◌↔◌, ℕ, codes, IfSome, IfNone, IsTrue};
 ghost use Rattle.command_line.specs.Command.{as_words};
@@ -6,7 +6,7 @@ ghost use Rattle.live_run.specs.LiveRuns.{IsLiveCommand};
 
 use command_line::parse_workers;
 
-/// How many readers the words ask for.
+/// The number of readers that the arguments request.
 pub(crate) fn parse_readers(arguments: &[&str]) -> Option<u32>
     ensures found { IfSome result (IsLiveCommand (as_words arguments.now)) }
     ensures none { IfNone result ((readers : ℕ) → IsLiveCommand (as_words arguments.now) readers → ⊥) }

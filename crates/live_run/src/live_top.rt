@@ -1,6 +1,7 @@
 ghost use Rattle.std.specs.Prelude.{◌≡◌, ℕ, IfSome, IfOk, IfErr};
 ghost use Rattle.run_devices.specs.Devices.{Rose, reading, writing};
-ghost use Rattle.command_line.specs.Command.{AreWorkers, as_words};
+ghost use Rattle.command_line.specs.Command.{as_words};
+ghost use Rattle.base.specs.Workers.{AreWorkers};
 ghost use Rattle.live_run.specs.LiveRuns.{IsLiveCommand, IsLiveEnd, Gives, IsLiveRun, IsAnswered, IsCompleteAnswer};
 ghost use Rattle.live_run.specs.inside.LiveWorking.{IsWorkedOut, IsStopped, IsWrittenOut};
 
@@ -13,9 +14,9 @@ use run_devices::{Sink, Source, read_up_to, write_whole};
 use std::alloc::Global;
 use std::sync::Wait;
 
-/// Answers the live script on the source, by so many readers as the words ask for, and answers the exit status.
+/// Answers the live script on the source, by as many readers as the arguments request, and answers the exit status.
 ///
-/// 0: the answers were written. 2: the words aren't `live` and a number from 1 to 64. 3: a line of the script is malformed. 5: a limit
+/// 0: the answers were written. 2: the arguments aren't `live` and a number from 1 to 64. 3: a line of the script is malformed. 5: a limit
 /// is exceeded. 6: a read failed. 7: a write failed. 8: there was no memory left.
 pub fn run_live<R: Wait, S: Source, O: Sink, E: Sink>(
     rt: &R,
@@ -39,7 +40,7 @@ pub fn run_live<R: Wait, S: Source, O: Sink, E: Sink>(
     outcome.status()
 }
 
-/// Does what the words ask for.
+/// Does what the arguments request.
 fn outcome_of<R: Wait, S: Source, O: Sink>(
     rt: &R,
     alloc: Global,

@@ -1,7 +1,7 @@
 ghost use Rattle.std.specs.Prelude.{◌≡◌, ◌+◌, ◌<◌, ◌≤◌, ◌^◌, [], ◌∷◌, length, All, IfOk, IfSome, OnOk};
+ghost use Rattle.base.specs.Workers.{AreWorkers};
 ghost use Rattle.live_table.specs.Publishes.{LastChooses, with_table};
 ghost use Rattle.live_run.specs.inside.Sessions.{InStep};
-ghost use Rattle.base.specs.declared.limits.TheConstants.{WORKERS_LIMIT};
 
 use controller_table::Table;
 use grid_quantiser::Point;
@@ -42,7 +42,7 @@ impl Readers {
         first: Table,
         readers: u32,
     ) -> Result<Readers, LiveFault>
-        requires { (1 ≤ readers) × (readers ≤ WORKERS_LIMIT) }
+        requires { AreWorkers readers }
         ensures { IfOk result (λ r. r.list ≡ first ∷ []) }
     {
         let (publisher, readers) = open(rt, alloc, first, readers)?;

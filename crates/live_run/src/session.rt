@@ -1,7 +1,8 @@
 ghost use Rattle.std.specs.Prelude.{◌≡◌, ◌+◌, ◌^◌, ◌<◌, ◌≤◌, length, Some, None, OnOk, OnErr, IfSome, IfNone};
+ghost use Rattle.base.specs.Workers.{AreWorkers};
 ghost use Rattle.live_script.specs.Questions.{IsAnswerOf};
 ghost use Rattle.live_run.specs.inside.Sessions.{GoOnWith};
-ghost use Rattle.base.specs.declared.limits.TheConstants.{TABLES_LIMIT, WORKERS_LIMIT};
+ghost use Rattle.base.specs.declared.limits.TheConstants.{TABLES_LIMIT};
 
 use crate::readers::Readers;
 use command_line::StateNumbers;
@@ -31,7 +32,7 @@ impl Model for Session {
     ghost use Rattle.fixed_expr.specs.inside.Postfix.{expression_code};
     ghost use Rattle.std.specs.Prelude.{◌≤◌};
     ghost use Rattle.live_run.specs.inside.Sessions.{Standing, Fits};
-    ghost use Rattle.base.specs.declared.limits.TheConstants.{WORKERS_LIMIT};
+    ghost use Rattle.base.specs.Workers.{AreWorkers};
 
     ghost Value = { Standing };
 
@@ -39,13 +40,13 @@ impl Model for Session {
 
     ghost view = { λ s. record { count = s.count; table = s.table } };
 
-    ghost invariant = { λ s. (1 ≤ s.reader_count) × (s.reader_count ≤ WORKERS_LIMIT) × Fits s.readers s.count s.table };
+    ghost invariant = { λ s. AreWorkers s.reader_count × Fits s.readers s.count s.table };
 }
 
 impl Session {
     /// No table yet, and so many readers with the first.
     pub(crate) fn new(reader_count: u32) -> Session
-        requires { (1 ≤ reader_count) × (reader_count ≤ WORKERS_LIMIT) }
+        requires { AreWorkers reader_count }
         ensures { result ≡ record { count = 0; table = None } }
     {
         Session {
@@ -74,12 +75,13 @@ impl Session {
         ensures { OnOk result (self.new ≡ record { count = self.old.count + 1; table = Some table }) }
     {
         let copy = table.copy(alloc)?;
-        let opened = opened_with(self.count, self.reader_count);
-        replace_with(
-            &mut self.readers,
-            (rt, alloc, copy, opened),
-            bring_into_force,
-        )?;
+        let next = NextTable {
+            rt,
+            alloc,
+            table: copy,
+            opened: opened_with(self.count, self.reader_count),
+        };
+        replace_with(&mut self.readers, next, bring_into_force)?;
         self.table = Some(table);
         self.count += 1;
         Ok(())
@@ -120,26 +122,40 @@ impl Session {
 
 /// How many readers are opened with a table after so many: all with the first.
 fn opened_with(count: u32, reader_count: u32) -> Option<u32>
-    requires { (1 ≤ reader_count) × (reader_count ≤ WORKERS_LIMIT) }
+    requires { AreWorkers reader_count }
     ensures first { IfSome result (λ _. count ≡ 0) }
     ensures later { IfNone result (count ≡ 0 → ⊥) }
-    ensures readers { IfSome result (λ readers. (1 ≤ readers) × (readers ≤ WORKERS_LIMIT)) }
+    ensures readers { IfSome result AreWorkers }
 {
     if count == 0 { Some(reader_count) } else { None }
 }
 
-/// Brings a table into force among readers that answer by the one before it, or opens so many with it. None from a
+/// A table that is to come into force, and how many readers are opened with it: None where they are open.
+#[derive(Drop)]
+struct NextTable<'a, R> {
+    rt: &'a R,
+    alloc: Global,
+    table: Table,
+    opened: Option<u32>,
+}
+
+/// Brings a table into force among readers that answer by the one before it, or opens readers with it. The readers are None from a
 /// refusal on.
 fn bring_into_force<R: Wait>(
     readers: Option<Readers>,
-    next: (&R, Global, Table, Option<u32>),
+    next: NextTable<'_, R>,
 ) -> (Option<Readers>, Result<(), NoMemory>)
     requires capacity { IfSome readers (λ p. length p.list + 1 < 2 ^ 32) }
-    requires opened { IfSome next.3 (λ readers. (1 ≤ readers) × (readers ≤ WORKERS_LIMIT)) }
-    ensures with_table { GoOnWith readers next.entry.3 next.entry.2 result.0 }
+    requires opened { IfSome next.opened AreWorkers }
+    ensures with_table { GoOnWith readers next.entry.opened next.entry.table result.0 }
     ensures refused { OnErr result.1 (result.0 ≡ None) }
 {
-    let (rt, alloc, table, opened) = next;
+    let NextTable {
+        rt,
+        alloc,
+        table,
+        opened,
+    } = next;
     match readers {
         Some(readers) => (readers.with_table(rt, table), Ok(())),
         None => open_with(rt, alloc, table, opened),
@@ -153,7 +169,7 @@ fn open_with<R: Wait>(
     table: Table,
     opened: Option<u32>,
 ) -> (Option<Readers>, Result<(), NoMemory>)
-    requires { IfSome opened (λ readers. (1 ≤ readers) × (readers ≤ WORKERS_LIMIT)) }
+    requires { IfSome opened AreWorkers }
     ensures with_table { GoOnWith None opened table result.0 }
     ensures refused { OnErr result.1 (result.0 ≡ None) }
 {

@@ -20,7 +20,7 @@ use Rattle.live_script.proofs.ScriptGrammar.{HasFewTables, none_published, scrip
 
 module _ (n number : ℕ) (most : n ≤ 8) (bytes : List ℕ) (unended : bytes ≡ [] → 0 < n → ⊥) (no_command : (c : ScriptCommand) (first rest : List ℕ) → bytes ≡ first ++ rest → Spell first c → FitsAfter n c → ⊥)
     (unrefused : (f : ScriptFault) → IsRefusedAfter n number bytes f → ⊥) where
-  -- a table's text of the size that is told
+  -- a table's text of the size that its line says
   whole_text : (text rest : List ℕ) → n < 8 → Announce bytes (length text) (text ++ rest) → ⊥
   whole_text text rest few told =
       no_text_is_neither text

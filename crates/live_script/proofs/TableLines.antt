@@ -14,20 +14,20 @@ use Rattle.live_script.specs.inside.QuestionWords.{BeginsWithSeparator, IsNumber
 use Rattle.live_script.proofs.WordsCut.{one_number_at}
 use Rattle.live_script.proofs.QuestionLines.{line_opened}
 
--- the line that tells a size, and what stands after it
+-- the line that says a size, and what stands after it
 pub size_opened : (size : ℕ) (after : List ℕ) → publish_line size ++ after ≡ codes "publish " ++ (decimal size ++ 10 ∷ after)
 size_opened size after = ap (λ (x : List ℕ). codes "publish " ++ x) (append_assoc (decimal size) (10 ∷ []) after)
 
 after_publish : (v w : List ℕ) → codes "publish " ++ v ≡ codes "publish " ++ w → v ≡ w
 after_publish v w e = ap (drop 8) e
 
--- one size is told
+-- one size is said
 pub one_announced : (bytes : List ℕ) (m n : ℕ) (rest other : List ℕ) → Announce bytes m rest → Announce bytes n other → (m ≡ n) × (rest ≡ other)
 one_announced bytes m n rest other h k =
     one_number m n 10 rest other (omega (arith, h.most)) (omega (arith, k.most)) refl
     (after_publish _ _ (sym (size_opened m rest) ∙ sym h.are ∙ k.are ∙ size_opened n other))
 
--- a line that tells a size is no question's, and neither is missing
+-- a line that says a size is no question's, and neither is missing
 pub not_asked : (bytes : List ℕ) (size : ℕ) (after : List ℕ) → Announce bytes size after → (numbers : List ℤ) (rest : List ℕ) → bytes ≡ ask_line numbers ++ rest → ⊥
 not_asked bytes size after h numbers rest asked =
     apart (decimal size ++ 10 ∷ after) (spaced numbers ++ 10 ∷ rest) (sym (size_opened size after) ∙ sym h.are ∙ asked ∙ line_opened numbers rest)

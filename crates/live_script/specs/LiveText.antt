@@ -17,7 +17,7 @@ answer_word (Some u) = decimal u
 abbrev pub answer_line : ℕ → Option ℕ → List ℕ
 answer_line number answer = line (decimal number ∷ answer_word answer ∷ [])
 
--- The text is the line for a question after these tables: the last of them answers, and they tell its number.
+-- The text is the line for a question after these tables: the last of them answers, and their count is its number.
 pub record IsAnswerLine (tables : List TableModel) (numbers : List ℤ) (text : List ℕ) : Type 0 where
   pub before : List TableModel
   pub table : TableModel

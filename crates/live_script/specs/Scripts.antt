@@ -17,7 +17,7 @@ publish_line size = line (codes "publish" ∷ decimal size ∷ [])
 abbrev pub ask_line : List ℤ → List ℕ
 ask_line numbers = line (codes "ask" ∷ map signed_decimal numbers)
 
--- The bytes are a table's text after the line that tells its size.
+-- The bytes are a table's text after the line that says its size.
 pub record IsPublishOf (table : TableModel) (bytes : List ℕ) : Type 0 where
   pub text : List ℕ
   pub is_table : IsTableIn table.version text table.plant table.rows

@@ -4,6 +4,6 @@
 pub enum LiveFault {
     /// There was no memory left.
     Memory,
-    /// There was no place for a further reader or told, or the publisher is closed.
+    /// There was no slot for a further reader or told, or the publisher is closed.
     Refused,
 }

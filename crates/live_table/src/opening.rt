@@ -1,6 +1,6 @@
 ghost use Rattle.std.specs.Prelude.{◌≡◌, ◌≤◌, [], ◌∷◌, vec_len, All, IfOk};
+ghost use Rattle.base.specs.Workers.{AreWorkers};
 ghost use Rattle.live_table.specs.Publishes.{newcomer};
-ghost use Rattle.base.specs.declared.limits.TheConstants.{WORKERS_LIMIT};
 
 use crate::copy::LiveCopy;
 use crate::current::Current;
@@ -21,7 +21,7 @@ pub fn open<R: Wait>(
     first: Table,
     readers: u32,
 ) -> Result<(Publisher, Vec<Reader>), LiveFault>
-    requires { (1 ≤ readers) × (readers ≤ WORKERS_LIMIT) }
+    requires { AreWorkers readers }
     ensures publisher { IfOk result (λ o. o.0.list ≡ first ∷ []) }
     ensures count { IfOk result (λ o. vec_len o.1 ≡ readers) }
     ensures readers { IfOk result (λ o. All (λ r. r ≡ newcomer o.0) o.1.items) }
@@ -36,14 +36,14 @@ pub fn open<R: Wait>(
     }
 }
 
-/// A publisher of one table, with two places for each reader: its own, and one for what it is told.
+/// A publisher of one table, with two slots for each reader: its own, and one for what it is told.
 fn publisher_of<R: Wait>(
     rt: &R,
     alloc: Global,
     first: Table,
     readers: u32,
 ) -> Result<Publisher, LiveFault>
-    requires { (1 ≤ readers) × (readers ≤ WORKERS_LIMIT) }
+    requires { AreWorkers readers }
     ensures { IfOk result (λ p. p.list ≡ first ∷ []) }
 {
     let Ok(copies) = Writer::new(

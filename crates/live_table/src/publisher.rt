@@ -88,7 +88,7 @@ impl Publisher {
         Ok(())
     }
 
-    /// What was published so far, for a reader to learn. A told has a place until it is learnt or dropped; there is
+    /// What was published so far, for a reader to learn. A told has a slot until it is learnt or dropped; there is
     /// one for each reader.
     pub fn tell(&mut self) -> Result<Told, LiveFault>
         ensures told { IfOk result (λ t. t ≡ self.old) }

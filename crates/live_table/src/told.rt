@@ -8,7 +8,7 @@ use std::marker::Model;
 
 /// All that was published when it was made, for a reader to learn.
 ///
-/// Seen as the opening and the tables. It has a place of its own among the readers, since a place forgets which
+/// Seen as the opening and the tables. It has a slot of its own among the readers, since a slot forgets which
 /// copies it is of: a reader learns by going over to this one.
 #[derive(Drop)]
 pub struct Told {

@@ -25,7 +25,7 @@ pub noise_count : (noises : List NoiseVariable) (s k : ℕ) → length (noises_f
 noise_count [] s k = refl
 noise_count (v ∷ noises) s k = ap suc (noise_count noises s (suc k))
 
--- the noise at a place
+-- the noise at a position
 pub noise_at : (noises : List NoiseVariable) (s k i : ℕ) (r : ℤ × ℤ) (d : ℤ) → option_map (λ (w : NoiseVariable). (w.low, w.high)) (slice_get noises i) ≡ Some r
     → r.0 +ℤ pos (generator s (suc (k + i)) / 2 ^ 33 % (nat_abs (r.1 -ℤ r.0) + 1)) ≡ get_or (noises_from noises s k) i d
 noise_at [] s k i r d is = absurd (none-some r is)

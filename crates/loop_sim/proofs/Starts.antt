@@ -1,4 +1,4 @@
--- A trace from a state reads as the trace from its point, which has 0 in the places past the states.
+-- A trace from a state reads as the trace from its point, which has 0 past the states.
 use Rattle.std.proofs.Common.{◌≡◌, ℕ, zero, suc, ◌+◌, ◌-◌, ◌*◌, ◌≤◌, Bool, List, [], ◌∷◌, ◌++◌, Option, Some, None, length, map, take, replicate, refl, sym, ap, ap₂, ◌∙◌, arith}
 use Rattle.std.specs.Prelude.{ℤ, pos, int_le, int_lt, ◌&&◌, codes, if◌then◌else◌}
 use Rattle.std.specs.List.{concat}

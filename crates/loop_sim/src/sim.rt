@@ -36,7 +36,7 @@ impl<'a> Model for Sim<'a> {
 }
 
 impl<'a> Sim<'a> {
-    /// The trace from a state's point, with 0 in the places past the states. Its noises begin at the seed, and at most as
+    /// The trace from a state's point, with 0 past the states. Its noises begin at the seed, and at most as
     /// many samples are after the first: None where the table has no row at the state.
     pub fn new(t: &'a Table, s: &'a Slopes, x: &Point, seed: u64, steps: u32) -> Option<Sim<'a>>
         requires slopes { s.now ≡ deviations_of t.now.plant }

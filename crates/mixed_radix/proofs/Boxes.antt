@@ -165,15 +165,15 @@ module _ (counts : List ℕ) (distance k : ℕ) (within : k < length counts) (so
         rw (box_more, drop_more counts k 0 within)
         (omega (arith, ap (λ (d : ℕ). d * size later) i_in_product.1, ap (nth later bs) i_in_product.2))
 
-    pub found_more : (stride rest left found quotient steps turns digit : ℕ) → IsFound counts distance i (k + 1) stride rest left found →
-        quotient ≡ rest / n → steps ≡ rest % n → turns ≡ left / (steps + 1) → digit ≡ left % (steps + 1) → IsFound counts distance i k (stride * n) quotient turns (found + digit * stride)
-    found_more stride rest left found quotient steps turns digit so_far quotient-is steps-is turns-is digit-is =
+    pub found_more : (stride rest left found quotient steps carry digit : ℕ) → IsFound counts distance i (k + 1) stride rest left found →
+        quotient ≡ rest / n → steps ≡ rest % n → carry ≡ left / (steps + 1) → digit ≡ left % (steps + 1) → IsFound counts distance i k (stride * n) quotient carry (found + digit * stride)
+    found_more stride rest left found quotient steps carry digit so_far quotient-is steps-is carry-is digit-is =
         let here_is : steps + 1 ≡ here = ap (λ (b : ℕ). b + 1) (steps-is ∙ ap (λ (r : ℕ). r % n) so_far.rest_is) in
         let digit_here : digit ≡ i / size bs % here = digit-is ∙ ap₂ (λ (l b : ℕ). l % b) so_far.left_is here_is in
         record {
           stride_is = ap (λ (s : ℕ). s * n) so_far.stride_is ∙ rw (drop_more counts k 0 within) (mul_comm (size later) n);
           rest_is = quotient-is ∙ ap (λ (r : ℕ). r / n) so_far.rest_is ∙ rest_more;
-          left_is = turns-is ∙ ap₂ (λ (l b : ℕ). l / b) so_far.left_is here_is ∙ left_more;
+          left_is = carry-is ∙ ap₂ (λ (l b : ℕ). l / b) so_far.left_is here_is ∙ left_more;
           nth_is = ap₂ (λ (f p : ℕ). f + p) so_far.nth_is (ap₂ (λ (d s : ℕ). d * s) digit_here so_far.stride_is) ∙ nth_more;
         }
 

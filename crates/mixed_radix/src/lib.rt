@@ -92,10 +92,10 @@ pub fn nth(counts: &[u32], distance: u32, i: u32) -> u32
     for k in (0..counts.len()).rev() {
         let count = counts[k];
         let (quotient, steps) = split(rest, count);
-        let (turns, digit) = split(left, steps + 1);
+        let (carry, digit) = split(left, steps + 1);
         nth += digit * stride;
         stride *= count;
-        left = turns;
+        left = carry;
         rest = quotient;
     }
     nth

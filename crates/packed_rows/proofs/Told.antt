@@ -1,4 +1,4 @@
--- Words that tell the first rows, and one more.
+-- Words that determine the first rows, and one more.
 use Rattle.std.proofs.Common.{inl, inr, ◌≡◌, ℕ, zero, suc, ◌+◌, ◌-◌, ◌*◌, ◌/◌, ◌<◌, ◌≤◌, Bool, true, false, leb, List, [], ◌∷◌, ◌++◌, length, get_or, cond, Option, None, sym, ap, ◌∙◌, subst, refl, arith}
 use Rattle.std.specs.List.{All, AllWithin, count_by}
 use Rattle.std.specs.List.Sorted.{IsNonDecreasingBy}
@@ -31,7 +31,7 @@ count_point p (x ∷ xs) (suc i) le passes fails =
     let rest : count_by p xs ≡ i = count_point p xs i (omega (arith, le)) (λ k d l m. passes (suc k) d (omega arith) (omega (arith, m))) (λ k d l m. fails (suc k) d (omega (arith, l)) (omega (arith, m))) in
     count-cons p x xs ∙ rw e (omega (arith, rest))
 
--- words that all tell cells up to this one
+-- words that all have cells up to this one
 pub all_up_to : (words : List ℕ) (c : ℕ) → All (λ word. cell_in word ≤ c) words → words_up_to words c ≡ length words
 all_up_to words c each =
     count_point (λ word. leb (cell_in word) c) words (length words) (omega arith) (λ k d l m. le-leb _ _ (each k d m)) (λ k d l m. absurd (omega (arith, l, m)))
@@ -39,7 +39,7 @@ all_up_to words c each =
 told_last : (words : List ℕ) (c : ℕ) → All (λ word. cell_in word ≤ c) words → row_told words c ≡ row_in (get_or words (length words - 1) 0)
 told_last words c each = ap (λ (n : ℕ). row_in (get_or words (n - 1) 0)) (all_up_to words c each)
 
--- The words tell the rows of the cells below c.
+-- The words determine the rows of the cells below c.
 pub record ToldBelow (rows : List (Option Row)) (words : List ℕ) (c : ℕ) : Type 0 where
   pub words_are : AreWords words c
   pub below : All (λ word. cell_in word < c) words

@@ -1,4 +1,4 @@
--- Rows by words: a word stands for a stretch of cells with one row or with none, and tells its first cell and the row.
+-- Rows by words: a word stands for a stretch of cells with one row or with none, and holds its first cell and the row.
 use Rattle.std.specs.Prelude.{◌≡◌, ℕ, zero, suc, ◌-◌, ◌/◌, ◌%◌, ◌<◌, ◌≤◌, nat_le, List, map, length, slice_index, Option, Some, None}
 use Rattle.std.specs.List.{count_by, range_with_len}
 use Rattle.std.specs.List.Sorted.{IsNonDecreasingBy}
@@ -17,15 +17,15 @@ abbrev pub row_numbered : ℕ → Option Row
 row_numbered zero = None
 row_numbered (suc n) = Some (record { rank = n / VECTORS_LIMIT; input = n % VECTORS_LIMIT })
 
--- the cell that a word tells
+-- the cell of a word
 abbrev pub cell_in : ℕ → ℕ
 cell_in word = word / ROW_NUMBERS
 
--- the row that a word tells
+-- the row of a word
 abbrev pub row_in : ℕ → Option Row
 row_in word = row_numbered (word % ROW_NUMBERS)
 
--- how many of the words tell this cell or one before it
+-- how many of the words have this cell or one before it
 abbrev pub words_up_to : List ℕ → ℕ → ℕ
 words_up_to words c = count_by (λ word. nat_le (cell_in word) c) words
 
@@ -37,7 +37,7 @@ row_told words c = row_in (slice_index words (words_up_to words c - 1))
 abbrev pub decoded_rows : List ℕ → ℕ → List (Option Row)
 decoded_rows words cells = map (row_told words) (range_with_len 0 cells)
 
--- The words stand in the order of their cells, and the first of them tells the first cell. There are no more than cells.
+-- The words stand in the order of their cells, and the first of them has the first cell. There are no more than cells.
 pub record AreWords (words : List ℕ) (cells : ℕ) : Type 0 where
   pub rising : IsNonDecreasingBy cell_in words
   pub some : 0 < cells → 0 < length words

@@ -11,7 +11,7 @@ use game_core::Row;
 /// A word is the cell times this, and the number of the row: 0 for none, and from 1 on for those that fit.
 pub(crate) const ROW_NUMBERS: u64 = 1 << 33;
 
-/// The word that tells the row from a cell on.
+/// The word of a stretch with this row, from a cell on.
 pub(crate) fn word_of(cell: u32, row: Option<Row>) -> u64
     requires cell { cell ≤ CELLS_LIMIT }
     requires row { IfSome row FitsWord }
@@ -21,7 +21,7 @@ pub(crate) fn word_of(cell: u32, row: Option<Row>) -> u64
     u64::from(cell) * ROW_NUMBERS + row_number(row)
 }
 
-/// 1 where a word tells this cell or one before it, else 0.
+/// 1 where the cell of a word is this one or one before it, else 0.
 #[inline]
 pub(crate) fn one_if_up_to(word: u64, cell: u32) -> usize
     ensures { result ≡ one_if (nat_le (cell_in word) cell) }
@@ -30,7 +30,7 @@ pub(crate) fn one_if_up_to(word: u64, cell: u32) -> usize
     (past / (1 << 32)) as usize
 }
 
-/// The row that a word tells.
+/// The row of a word.
 #[inline]
 pub(crate) fn row_in(word: u64) -> Option<Row>
     ensures { result ≡ row_in word }

@@ -29,7 +29,7 @@ pub(crate) fn positions_of(alloc: Global, words: &[u64], cells: u32) -> Result<V
     Ok(positions)
 }
 
-/// The position of the last word that tells a cell or one before it, which is among so many from a position on.
+/// The position of the last word with a cell or one before it, which is among so many from a position on.
 #[inline]
 pub(crate) fn search(words: &[u64], cell: u32, first: usize, count: usize) -> usize
     requires rising { IsNonDecreasingBy cell_in words.now }

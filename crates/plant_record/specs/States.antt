@@ -6,7 +6,7 @@ use Rattle.grid_quantiser.specs.CellBoxes.{IsInBox}
 use Rattle.plant_record.specs.declared.aims.StateBox.{StateBox}
 use Rattle.plant_record.specs.Description.{Description, axes_of}
 
--- a state of a plant as a point, with 0 in the places past the states
+-- a state of a plant as a point, with 0 past the states
 abbrev pub state_point : Description → List ℤ → List ℤ
 state_point p x = point_of (take (length p.states) x)
 

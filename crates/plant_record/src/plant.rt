@@ -146,7 +146,7 @@ impl Plant {
         &self.grid
     }
 
-    /// A state as a point, with 0 in the places past the states.
+    /// A state as a point, with 0 past the states.
     pub fn state_point(&self, x: &Point) -> Point
         ensures { result ≡ state_point self.now x.now }
     {

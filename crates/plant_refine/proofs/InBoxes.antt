@@ -11,7 +11,7 @@ at_most_each (a ∷ axes) (x ∷ xs) [] h i lt = absurd h
 at_most_each (a ∷ axes) (x ∷ xs) (y ∷ ys) h zero lt = h.0
 at_most_each (a ∷ axes) (x ∷ xs) (y ∷ ys) h (suc i) lt = at_most_each axes xs ys h.1 i (omega (arith, lt))
 
--- what stands at a place of a list
+-- what stands at a position of a list
 pub got : {X : Type 0} (xs : List X) (i : ℕ) (x : X) → slice_get xs i ≡ Some x → (i < length xs) × (get_or xs i x ≡ x)
 got [] i x e = absurd (let none : None ≡ Some x = e in cc)
 got (y ∷ xs) zero x e = (omega arith, cc)

@@ -106,7 +106,7 @@ fn one_row_past_64_bits_leaves_no_answer(rt: HostRuntime) -> Result<(), Fail> {
     Ok(())
 }
 
-/// ((x1 + (x0 + x0)) + 3 * x3) - x2 mentions the first four variables, and moves with x1 alone: with x0 it moves twice as far.
+/// ((x1 + (x0 + x0)) + 3 * x3) - x2 mentions the first four variables, and shifts with x1 alone: with x0 it shifts twice as far.
 fn only_a_summand_of_its_own_moves(alloc: Global) -> Result<bool, AllocError> {
     let double = Expr::Add(
         Box::new(alloc, Expr::Var(0))?,

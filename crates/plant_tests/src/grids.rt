@@ -217,7 +217,7 @@ fn boxes_may_reach_to_the_end_of_the_numbers(rt: HostRuntime) {
     assert!(rt; box_of_a_plane());
 }
 
-/// 35 and 41 stand at the indices 3 and 4, and 60 past the last. On the axis prolonged from -60 on -5 and 3 stand at 5 and 6, and
+/// 35 and 41 stand at the indices 3 and 4, and 60 past the last. On the axis extended from -60 on -5 and 3 stand at 5 and 6, and
 /// -61 before the first.
 fn extents_of_the_plane() -> bool {
     let Ok(grid) = Grid::new(&PLANE) else {

@@ -77,7 +77,7 @@ pub record IsStated (q : PartialPlant) (line : List ℕ) (r : PartialPlant) : Ty
   pub fits : FitsAfter q statement
   pub leads_to : r ≡ with_statement q statement
 
--- a line is passed over or states something
+-- a line is skipped or states something
 abbrev pub Extends : PartialPlant → List ℕ → PartialPlant → Type 0
 Extends q line r = ((is_skipped line ≡ true) × (r ≡ q)) ⊎ IsStated q line r
 

@@ -32,7 +32,7 @@ pub fn read_plant(alloc: Global, bytes: &[u8]) -> Result<Plant, PlantFault>
     draft.finish().map_err(|what| PlantFault::Limit { what })
 }
 
-/// Reads the lines of a text, the last of which is `end` but for those that are passed over.
+/// Reads the lines of a text, the last of which is `end` but for those that are skipped.
 fn read_lines(alloc: Global, bytes: &[u8]) -> Result<Draft, PlantFault>
     requires { IsShort bytes.now }
     ensures read { IfOk result (λ d. IsReading LineStep IsEnded nothing_yet (lines_of bytes.now) (partial_of d) []) }

@@ -4,7 +4,7 @@ use Rattle.std.specs.List.{flat_map}
 use Rattle.std.specs.Fmt.{signed_decimal}
 use Rattle.fixed_expr.specs.Expression.{Expression, NumExpr, VarExpr, NegExpr, AddExpr, SubExpr, MulExpr, DivExpr, MinExpr, MaxExpr, AbsExpr, LutExpr}
 
--- the text, in brackets where its own level is less than the one that its place asks for
+-- the text, in brackets where its own level is less than the one that its position needs
 abbrev pub at_level : ℕ → ℕ → List ℕ → List ℕ
 at_level own asked text = if nat_lt own asked then codes "(" ++ text ++ codes ")" else text
 
@@ -12,7 +12,7 @@ at_level own asked text = if nat_lt own asked then codes "(" ++ text ++ codes ")
 abbrev pub point_text : ℤ × ℤ → List ℕ
 point_text p = codes ", " ++ signed_decimal p.0 ++ codes ":" ++ signed_decimal p.1
 
--- an expression at a place that asks for a level: sums have 1, products 2, all others 3
+-- an expression at a position that needs a level: sums have 1, products 2, all others 3
 abbrev pub expression_text : List (List ℕ) → ℕ → Expression → List ℕ
 expression_text names asked (NumExpr k) = signed_decimal k
 expression_text names asked (VarExpr i) = slice_index_or names i []

@@ -1,4 +1,4 @@
-//! The text of an expression, in brackets only where its place asks for them.
+//! The text of an expression, in brackets only where its position needs them.
 
 ghost use Rattle.std.specs.Prelude.{◌≡◌, ◌++◌, length, nat_lt, OnOk};
 ghost use Rattle.std.specs.List.{flat_map};
@@ -14,7 +14,7 @@ use itoa::Buffer;
 use plant_record::Names;
 use std::alloc::AllocError;
 
-/// What may stand at a place without brackets: sums, products and all others from there on.
+/// What may stand at a position without brackets: sums, products and all others from there on.
 #[derive(Clone, Copy)]
 pub enum Level {
     Sum,
@@ -22,7 +22,7 @@ pub enum Level {
     Factor,
 }
 
-/// Appends the text of an expression at a place that asks for a level.
+/// Appends the text of an expression at a position that needs a level.
 #[cycle(expression)]
 pub fn push_expression(
     text: &mut Vec<u8>,
@@ -110,7 +110,7 @@ fn push_point(text: &mut Vec<u8>, point: (i128, i128)) -> Result<(), AllocError>
     push_number(text, point.1)
 }
 
-/// Two expressions at their places, with a text between.
+/// Two expressions at their positions, with a text between.
 #[cycle(expression)]
 fn push_two(
     text: &mut Vec<u8>,

@@ -2,7 +2,7 @@
 ghost use Rattle.std.specs.Prelude.{◌≡◌, ◌<◌, Some, None, map, length, take, drop, replicate, get_or, slice_set, IfOk};
 ghost use Rattle.std.specs.Fork.{AcceptsChunksMut};
 ghost use Rattle.std.specs.Vec.Ownership.{FitsInBlock};
-ghost use Rattle.raw_slots.specs.Slots.{IsRun};
+ghost use Rattle.raw_slots.specs.Slots.{IsFilled};
 ghost use Rattle.raw_slots.specs.inside.Chunks.{AreFilledByChunks};
 
 use crate::making::Making;
@@ -97,8 +97,8 @@ impl<T: Copy> Block<T> {
 
     /// The `len` values from the slot `from` on.
     #[inline]
-    pub fn run(&self, from: usize, len: usize) -> &[T]
-        requires { IsRun self.now from len }
+    pub fn slice(&self, from: usize, len: usize) -> &[T]
+        requires { IsFilled self.now from len }
         ensures { take len (drop from self.now) ≡ map Some result.now }
     {
         self.part.slots.slice(self.part.base, from, len)

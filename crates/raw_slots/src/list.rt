@@ -67,7 +67,7 @@ impl<T: Copy> RawList<T> {
     pub fn as_slice(&self) -> &[T]
         ensures { result.now ≡ self.now }
     {
-        self.block.run(0, self.block.len())
+        self.block.slice(0, self.block.len())
     }
 }
 

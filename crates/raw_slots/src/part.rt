@@ -42,7 +42,7 @@ impl<T> Part<T> {
     pub(crate) fn join(self, other: Part<T>) -> Part<T>
         requires beside { other.slots.at ≡ ptr_add T.row self.len self.slots.at }
         requires fits { FitsInBlock T.row (self.len + other.len) }
-        ensures place { result.slots.at ≡ self.slots.at }
+        ensures address { result.slots.at ≡ self.slots.at }
         ensures contents { result.slots.contents ≡ self.slots.contents ++ other.slots.contents }
     {
         let Part { base, len, slots } = self;
@@ -61,7 +61,7 @@ impl<T> Part<T> {
     /// Fills an empty slot.
     pub(crate) fn write(&mut self, at: usize, value: T)
         requires { (at < length self.old.slots.contents) × (get_or self.old.slots.contents at None ≡ None) }
-        ensures place { self.new.slots.at ≡ self.old.slots.at }
+        ensures address { self.new.slots.at ≡ self.old.slots.at }
         ensures contents { self.new.slots.contents ≡ slice_set self.old.slots.contents at (Some value) }
     {
         self.slots.write(self.base, at, value);
@@ -72,7 +72,7 @@ impl<T> Part<T> {
     where
         T: Copy,
         requires { self.old.slots.contents ≡ replicate (length items.now) None }
-        ensures place { self.new.slots.at ≡ self.old.slots.at }
+        ensures address { self.new.slots.at ≡ self.old.slots.at }
         ensures contents { self.new.slots.contents ≡ map Some items.now }
     {
         for k in 0..items.len() {

@@ -4,7 +4,7 @@ ghost use Rattle.std.specs.Vec.Ownership.{FitsInBlock};
 ghost use Rattle.core.specs.Ptr.{ptr_add};
 ghost use base.Fml.{ftrue};
 ghost use denote.RawPtr.{Ptr};
-ghost use Rattle.raw_slots.specs.Slots.{IsRun};
+ghost use Rattle.raw_slots.specs.Slots.{IsFilled};
 ghost use Rattle.raw_slots.specs.inside.Ownership.{slots_own, slots_lent, deed_owns};
 
 use std::alloc::{AllocError, Allocator};
@@ -127,7 +127,7 @@ impl<T> Slots<T> {
 
     /// The `len` values from `from` on.
     pub(crate) fn slice(&self, base: Base<T>, from: usize, len: usize) -> &[T]
-        requires { (base.ptr ≡ self.now.at) × IsRun self.now.contents from len }
+        requires { (base.ptr ≡ self.now.at) × IsFilled self.now.contents from len }
         ensures { take len (drop from self.now.contents) ≡ map Some result.now }
     {
         unsafe { slice::from_raw_parts(base.ptr.add(from), len) }

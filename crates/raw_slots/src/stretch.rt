@@ -34,7 +34,7 @@ impl<T: Copy + Send> Stretch<T> {
     ) -> (Part<T>, Result<(), AllocError>)
         requires fits { FitsInBlock T.row self.part.len }
         requires accepts { AcceptsStretch F.Fn making self }
-        ensures place { (result.0.slots.at ≡ self.part.slots.at) × (result.0.len ≡ self.part.len) }
+        ensures address { (result.0.slots.at ≡ self.part.slots.at) × (result.0.len ≡ self.part.len) }
         ensures filled { IfOk result.1 (λ _. AreFilled F.Fn making.entry self result.0.slots.contents) }
     {
         if self.count == 1 {
@@ -76,7 +76,7 @@ impl<T: Copy + Send> Stretch<T> {
         requires fits { FitsInBlock T.row (self.part.len + next.part.len) }
         requires accepts { AcceptsStretch F.Fn making self }
         requires accepts_next { AcceptsStretch F.Fn making next }
-        ensures place { (result.0.slots.at ≡ self.part.slots.at) × (result.0.len ≡ self.part.len + next.part.len) }
+        ensures address { (result.0.slots.at ≡ self.part.slots.at) × (result.0.len ≡ self.part.len + next.part.len) }
         ensures filled { IfOk result.1 (λ _. AreBothFilled F.Fn making.entry self next result.0.slots.contents) }
     {
         if depth == 0 {
@@ -89,14 +89,14 @@ impl<T: Copy + Send> Stretch<T> {
             requires threads { IsSync R.row × IsSync F.row × IsSend T.row }
             requires fits { FitsInBlock T.row self.part.len }
             requires accepts { AcceptsStretch F.Fn making self }
-            ensures place { (result.0.slots.at ≡ self.part.slots.at) × (result.0.len ≡ self.part.len) }
+            ensures address { (result.0.slots.at ≡ self.part.slots.at) × (result.0.len ≡ self.part.len) }
             ensures filled { IfOk result.1 (λ _. AreFilled F.Fn making.entry self result.0.slots.contents) }
         { self.fill(making, below) };
         let second = move || -> (Part<T>, Result<(), AllocError>)
             requires threads { IsSync R.row × IsSync F.row × IsSend T.row }
             requires fits { FitsInBlock T.row next.part.len }
             requires accepts { AcceptsStretch F.Fn making next }
-            ensures place { (result.0.slots.at ≡ next.part.slots.at) × (result.0.len ≡ next.part.len) }
+            ensures address { (result.0.slots.at ≡ next.part.slots.at) × (result.0.len ≡ next.part.len) }
             ensures filled { IfOk result.1 (λ _. AreFilled F.Fn making.entry next result.0.slots.contents) }
         { next.fill(making, below) };
         let ((front, made), (back, made_back)) = join(making.rt, first, second);
@@ -110,7 +110,7 @@ impl<T: Copy + Send> Stretch<T> {
     ) -> (Part<T>, Result<(), AllocError>)
         requires one { self.count ≡ 1 }
         requires accepts { AcceptsStretch F.Fn making self }
-        ensures place { (result.0.slots.at ≡ self.part.slots.at) × (result.0.len ≡ self.part.len) }
+        ensures address { (result.0.slots.at ≡ self.part.slots.at) × (result.0.len ≡ self.part.len) }
         ensures filled { IfOk result.1 (λ _. AreFilled F.Fn making.entry self result.0.slots.contents) }
     {
         match self.make_chunk(making) {
@@ -135,13 +135,13 @@ impl<T: Copy + Send> Stretch<T> {
     {
         let mut chunk = Vec::with_capacity(making.alloc, self.part.len)?;
         chunk.resize(self.part.len, self.start)?;
-        change(making.f, self.at, &mut chunk);
+        call_on(making.f, self.at, &mut chunk);
         Ok(chunk)
     }
 }
 
 /// Calls `f` with a chunk, which begins at a position.
-fn change<T, F: Fn(usize, &mut [T])>(f: &F, at: usize, chunk: &mut [T])
+fn call_on<T, F: Fn(usize, &mut [T])>(f: &F, at: usize, chunk: &mut [T])
     requires { AcceptsAt F.Fn f.now at chunk.old }
     ensures { ChangesAt F.Fn f.now at chunk.old chunk.new }
 {

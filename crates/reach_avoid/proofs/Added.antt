@@ -23,7 +23,7 @@ claimed-append xs ys =
     ap (map (λ (o : Offer). o.word)) (filter-append first xs ys) ∙ map-append (λ (o : Offer). o.word) (filter first xs) (filter first ys)
 
 module _ (g : Game) (rank : ℕ) where
-  -- a pair bids with the cut that uses it up
+  -- a pair offers with the cut that leaves nothing
   pub offers_added : (more : List Account) → All (KeepsRule g rank) more → map word_and_value (offers_in more) ≡ map (due_offer g (suc rank)) (last_cuts (cuts_in more))
   offers_added [] h = refl
   offers_added (a ∷ more) h =

@@ -1,4 +1,4 @@
--- What stands with no cell on the list, and what a resolved game is then.
+-- What stands with no cell on the list, and what a solved game is then.
 use Rattle.std.proofs.Common.{◌≡◌, ℕ, ◌^◌, ◌<◌, List, None, Some, arith, sym, ◌∙◌, subst}
 use Rattle.std.proofs.lemmas.List.FromFn.{fill_by_all}
 use Rattle.cell_counters.specs.declared.account.Account.{Account}
@@ -8,8 +8,8 @@ use Rattle.game_core.specs.Game.{Game, IsGraph}
 use Rattle.game_core.specs.Solution.{row_of, IsReachSolution}
 use Rattle.game_core.specs.Tally.{IsReachTally}
 use Rattle.game_core.proofs.Right.{right_rows_are_the_solution}
-use Rattle.board_rounds.specs.declared.resolving.Resolved.{Resolved}
-use Rattle.board_rounds.specs.Resolving.{IsResolved}
+use Rattle.board_rounds.specs.declared.solving.SolvedGame.{SolvedGame}
+use Rattle.board_rounds.specs.Solving.{IsSolvedByRule}
 use Rattle.board_rounds.specs.Rules.{IsAtEnd}
 use Rattle.reach_avoid.specs.ReachBoards.{IsBoardOf}
 use Rattle.reach_avoid.specs.ReachReckoned.{IsReckoned}
@@ -28,7 +28,7 @@ module _ (g : Game) (a : IsGraph g) where
       omega arith
 
   -- the game is solved
-  pub solved : (board : BoardModel) → IsBoardOf g board → (s : Resolved) → IsResolved g.cells (IsReachInvariant g) (λ accounts c row. row ≡ row_in (word_after g accounts c)) board s → IsSolved g s
+  pub solved : (board : BoardModel) → IsBoardOf g board → (s : SolvedGame) → IsSolvedByRule g.cells (IsReachInvariant g) (λ accounts c row. row ≡ row_in (word_after g accounts c)) board s → IsSolved g s
   solved board of_game s r =
       let accounts = s.root.accounts in
       let rank = s.tally.rounds in

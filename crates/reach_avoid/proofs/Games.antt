@@ -13,7 +13,7 @@ use Rattle.board_rounds.proofs.Graphs.{cell_below}
 use Rattle.reach_avoid.specs.ReachReckoned.{word_and_value, due_offer}
 use Rattle.reach_avoid.specs.inside.ReachRounds.{IsDueOffer}
 
--- an offer is what some pair bids at a rank
+-- an offer is what some pair offers at a rank
 pub record IsDueOfferOf (g : Game) (rank : ℕ) (o : Offer) : Type 0 where
   pub pair : ℕ
   pub below : pair < pairs_of g
@@ -24,7 +24,7 @@ module _ (g : Game) (a : IsGraph g) where
   pub input_of_pair : (pair : ℕ) → pair % g.inputs < g.inputs
   input_of_pair pair = let some' = a.some_input in omega arith
 
-  -- what pairs bid at a rank are bids, one after another
+  -- what pairs offer at a rank are offers, one after another
   pub due_offers_of : (rank : ℕ) (offers : List Offer) (pairs : List ℕ) → All (λ pair. pair < pairs_of g) pairs → map word_and_value offers ≡ map (due_offer g rank) pairs → All (IsDueOfferOf g rank) offers
   due_offers_of rank offers pairs below same i d lt =
       let o = get_or offers i d in

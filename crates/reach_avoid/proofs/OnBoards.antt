@@ -1,4 +1,4 @@
--- What a board of a game tells: its numbers are the game's, and a word tells a row.
+-- What a board of a game is: its numbers are the game's, and a minimum determines a row.
 use Rattle.std.proofs.Common.{◌≡◌, ℕ, ◌<◌, List, [], length, slice_index, arith, sym, ◌∙◌, ap, subst}
 use Rattle.std.proofs.lemmas.List.{append-nil}
 use Rattle.std.proofs.lemmas.List.FromFn.{length-map-range_with_len, get_or-map-range_with_len}

@@ -126,7 +126,7 @@ module _ (g : Game) (a : IsGraph g) (rank : ℕ) (accounts : List Account) (was 
   pub reckoned : IsReckonedBy g rows accounts
   reckoned = record { cuts = λ pair lt. was.cuts pair lt ∙ taken_is_ranked pair; no_other_cut = was.no_other_cut; offers = offers_due }
 
-  -- each offer is the bid of a resolved pair
+  -- each offer is that of a resolved pair
   offered_by : (o : Offer) → Contains (offers_in accounts) o → (pair : ℕ) × (pair < pairs_of g) × (is_resolved g rows pair ≡ true) × (word_and_value o ≡ offer_row pair)
   offered_by o has =
       let there = Contains-permutation (map word_and_value (offers_in accounts)) (map offer_row resolved) (word_and_value o) (IsPermutation-sym (map offer_row resolved) (map word_and_value (offers_in accounts)) offers_due) (contains_map word_and_value (offers_in accounts) o has) in
@@ -137,7 +137,7 @@ module _ (g : Game) (a : IsGraph g) (rank : ℕ) (accounts : List Account) (was 
       let below = All-filter (is_resolved g rows) (λ pair. pair < pairs_of g) (all_pairs g) (All-range (pairs_of g)) in
       (pair, below i 0 lt, passes i 0 lt, sym there.2 ∙ get_or-map offer_row resolved i 0 (word_and_value o) lt)
 
-  -- the word of a cell is at most what its resolved pairs bid
+  -- the minimum of a cell is at most what its resolved pairs offer
   word_below : (pair : ℕ) → pair < pairs_of g → is_resolved g rows pair ≡ true → (word_after g accounts (pair / g.inputs) ≤ 1 + rank_by g rows pair * 4096 + pair % g.inputs) × (word_after g accounts (pair / g.inputs) < NONE)
   word_below pair lt e =
       let c = pair / g.inputs in
@@ -172,7 +172,7 @@ module _ (g : Game) (a : IsGraph g) (rank : ℕ) (accounts : List Account) (was 
         subst (λ n. (word_after g accounts c ≤ 1 + rank_by g rows (pair_of g c v) * 4096 + n) × (word_after g accounts c < NONE)) input_is
         (subst (λ d. (word_after g accounts d ≤ 1 + rank_by g rows (pair_of g c v) * 4096 + pair_of g c v % g.inputs) × (word_after g accounts d < NONE)) cell_is w)
 
-  -- a plain cell with a row has the word of a resolved pair of its own
+  -- a plain cell with a row has the offer of a resolved pair of its own
   pub record IsWordBy (c w : ℕ) : Type 0 where
     pub input : ℕ
     pub enabled : input < g.inputs

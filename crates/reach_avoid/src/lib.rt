@@ -6,12 +6,16 @@
 //! fail.
 #![tactic(auto)]
 
-mod outcome;
 mod reach_rule;
 mod reach_solver;
 mod scratch;
 
 pub use game_core::{NoMemory, Tally};
-pub use outcome::Solved;
 pub use reach_solver::{solve, solve_in};
 pub use scratch::{ReachStart, Scratch};
+
+/// A solved game: its solution, what was counted, the board on which it was solved, and the board's root.
+///
+/// `tally` has as cuts the edges into cells with a row, as offers the enabled pairs all of whose successors have one, and the rounds up
+/// to the greatest rank.
+pub type Solved = board_rounds::SolvedGame;

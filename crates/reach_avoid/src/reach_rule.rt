@@ -12,8 +12,8 @@ use board_rounds::{Rule, Worker};
 use cell_counters::{Board, NONE, Root};
 use game_core::{Graph, Mark, Row};
 
-/// What counts as one rank in an offer: it is more than each input.
-const INPUTS: u64 = VECTORS_LIMIT as u64;
+/// What one rank counts in an offer: more than each input.
+const RANK_UNIT: u64 = VECTORS_LIMIT as u64;
 
 /// A round is of the cells of one rank.
 #[derive(Drop)]
@@ -65,7 +65,7 @@ impl<G: Graph + Sync> Rule for Reach<'_, G> {
 }
 
 impl<G: Graph> Reach<'_, G> {
-    /// Cuts a pair. The cut that leaves nothing bids on the pair's cell.
+    /// Cuts a pair. The cut that leaves nothing is followed by an offer to the pair's cell.
     fn cut_and_offer(&self, board: &Board, worker: &mut Worker, rank: u32, pair: u32)
         requires board { IsBoardOf (G.game self.now.graph.now) board.now }
         requires worker { worker.old.board ≡ board.now }
@@ -87,7 +87,7 @@ impl<G: Graph> Reach<'_, G> {
         ensures { DueOffers (G.game self.now.graph.now) rank pair worker.old worker.new }
     {
         let cell = pair / self.inputs;
-        let value = 1 + u64::from(rank + 1) * INPUTS + u64::from(pair % self.inputs);
+        let value = 1 + u64::from(rank + 1) * RANK_UNIT + u64::from(pair % self.inputs);
         if worker.offer(board, cell, value) {
             // Each cell is logged once at most, so there is a slot for it.
             let _ = worker.log(board, cell);
@@ -113,7 +113,7 @@ fn decoded_row(word: u64) -> Option<Row>
         return None;
     }
     Some(Row {
-        rank: ((word - 1) / INPUTS) as u32,
-        input: ((word - 1) % INPUTS) as u32,
+        rank: ((word - 1) / RANK_UNIT) as u32,
+        input: ((word - 1) % RANK_UNIT) as u32,
     })
 }

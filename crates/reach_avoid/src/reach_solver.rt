@@ -1,13 +1,13 @@
 //! The solver.
 ghost use Rattle.std.specs.Prelude.{◌≤◌, IfOk};
+ghost use Rattle.base.specs.Workers.{AreWorkers};
 ghost use Rattle.reach_avoid.specs.ReachBoards.{IsBoardOf};
 ghost use Rattle.reach_avoid.specs.Solved.{IsSolved};
-ghost use Rattle.base.specs.declared.limits.TheConstants.{WORKERS_LIMIT};
 
-use crate::outcome::Solved;
+use crate::Solved;
 use crate::reach_rule::Reach;
 use crate::scratch::Scratch;
-use board_rounds::resolve;
+use board_rounds::solve_by_rule;
 use frontier_pool::Gate;
 use game_core::{Graph, NoMemory};
 use std::alloc::Global;
@@ -21,7 +21,7 @@ pub fn solve<R: Threads + Sync, G: Graph + Sync, T: Gate>(
     workers: u32,
     gate: &T,
 ) -> Result<Solved, NoMemory>
-    requires { (1 ≤ workers) × (workers ≤ WORKERS_LIMIT) }
+    requires { AreWorkers workers }
     ensures { IfOk result (IsSolved (G.game g.now)) }
 {
     let scratch = Scratch::new(rt, alloc, g, workers)?;
@@ -43,5 +43,5 @@ pub fn solve_in<R: Threads + Sync, G: Graph + Sync, T: Gate>(
         graph: g,
         inputs: g.inputs(),
     };
-    resolve(rt, alloc, scratch, &rule, gate)
+    solve_by_rule(rt, alloc, scratch, &rule, gate)
 }

@@ -6,7 +6,7 @@ use board_rounds::Start;
 use cell_counters::NONE;
 use game_core::{Forward, Mark};
 
-/// A counter for each pair, and a least word for each cell.
+/// A counter for each pair, and a minimum for each cell.
 pub struct ReachStart;
 
 /// The memory in which a reach game is solved.

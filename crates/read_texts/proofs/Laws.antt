@@ -122,7 +122,7 @@ module _ {S A : Type 0} (Step : S → List A → S → Type 0) (Closed : S → L
       let e = one_end q text a.pieces b.pieces m n rest others is a.read b.read (reading_ends q text m rest is a) (reading_ends q text n others is b) in
       (e.state, e.rest)
 
-  -- ONE FIRST REFUSAL, at one place and in one state
+  -- ONE FIRST REFUSAL, at one position and in one state
   pub one_position : (q : S) (text : List A) (i j : ℕ) → IsMet q → (r : IsFirstRefused Step Closed q text i) → (s : IsFirstRefused Step Closed q text j) → AreEven r.pieces s.pieces r.to s.to r.rest s.rest
   one_position q text i j is r s = one_end q text r.pieces s.pieces r.to s.to r.rest s.rest is r.read s.read r.stuck s.stuck
 

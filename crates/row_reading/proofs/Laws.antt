@@ -1,4 +1,4 @@
--- Bytes tell one list of rows or have one first refused line, never both and never neither.
+-- Bytes give one list of rows or have one first refused line, never both and never neither.
 use Rattle.std.proofs.Common.{◌≡◌, ℕ, ◌+◌, ◌≤◌, List, [], ◌∷◌, ◌++◌, length, map, Option, refl, sym, ap, ◌∙◌, arith}
 use Rattle.std.specs.List.{AllByRecursion}
 use Rattle.std.proofs.lemmas.List.Elements.{recursion_from_All}
@@ -54,7 +54,7 @@ module _ (rules : RowRules) (small : AreSmall rules) where
       each [] order h = tt
       each (r ∷ rs) order h = (spelled_run rules r small order.0 h.0, each rs order.2 h.1)
 
-  -- the lines of rows tell them
+  -- the lines of rows give them
   pub lines_tell : (rows others : List (Option Row)) → AreRowsWithin rules rows → AreRowsWithin rules others → row_lines rules.version rules.format rows ≡ row_lines rules.version rules.format others → rows ≡ others
   lines_tell rows others h k e =
       differ rules.version rows others (h.one_each ∙ sym k.one_each)

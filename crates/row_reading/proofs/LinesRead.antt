@@ -78,7 +78,7 @@ module _ (v : TableVersion) (format : RowFormat) (bytes : List ℕ) where
   no_first none y h = none (y.0.first, last_words v y.0.last (row_format format y.0.row y.1)) (h.0.first, h.1 ∙ run_words v format y.0 y.1)
 
   module _ (first : ℕ) (words : List ℕ) (number : IsNumberTo 32 bytes (first, words)) where
-    -- the run begins at this cell, and ends at the one that the words tell
+    -- the run begins at this cell, and ends at the one that its words spell
     told : (y : Run × List ℕ) → IsRunAt v format bytes y → (first ≡ y.0.first) × IsLastAt v first words (y.0.last, row_format format y.0.row y.1)
     told y h =
         let same = one_number first y.0.first 32 words (last_words v y.0.last (row_format format y.0.row y.1)) number.0 h.0.first refl (sym number.1 ∙ h.1 ∙ run_words v format y.0 y.1) in

@@ -1,4 +1,4 @@
--- The lines of rows are a grammar: each is one line, and tells one thing.
+-- The lines of rows are a grammar: each is one line, and says one thing.
 use Rattle.std.proofs.Common.{◌≡◌, ℕ, zero, suc, ◌+◌, ◌^◌, ◌<◌, ◌≤◌, List, [], length, length-append, Option, Some, None, sym, ap, subst, ◌∙◌, arith}
 use Rattle.std.specs.Prelude.{codes}
 use Rattle.row_runs.specs.declared.run.Run.{Run}

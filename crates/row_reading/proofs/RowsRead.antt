@@ -1,4 +1,4 @@
--- Rows that lines tell, and the way along these lines.
+-- Rows that lines give, and the way along these lines.
 use Rattle.std.proofs.Common.{inl, inr, ◌≡◌, ℕ, suc, ◌+◌, ◌≤◌, List, [], ◌∷◌, ◌++◌, length, map, Option, Some, None, refl, sym, ap, subst, ◌∙◌, append-nil, arith}
 use Rattle.std.specs.Prelude.{IfSome}
 use Rattle.std.specs.List.{AllByRecursion, concat}
@@ -79,7 +79,7 @@ module _ (rules : RowRules) where
         let size : length runs + 0 ≡ length lines = omega (arith, length-map runs line_of) in
         (led.0, subst (λ (n : ℕ). Leads (RowStep rules) (Due n None) lines (Due 0 led.0)) size led.1)
 
-    -- the line that tells how many they are, and those lines
+    -- the line that says how many they are, and those lines
     pub counted_lead : (before : Option Run) × Leads (RowStep rules) Begin (count_line (length lines) ∷ lines) (Due 0 before)
     counted_lead = (rows_lead.0, (Due (length lines) None, (length lines, few_lines rules rows within, refl, refl), rows_lead.1))
 
@@ -110,7 +110,7 @@ rows_within rules runs rows size are given = record {
     fits c None e = tt
     fits c (Some row) e = given_within rules runs c row (recursion_from_All (IsRunWithin rules) runs are.each) (given c row e)
 
--- runs that tell rows are the rows' own
+-- runs that give rows are the rows' own
 pub rows_at : (rules : RowRules) (count : ℕ) (runs : List Run) (rows : List (Option Row)) (bytes rest : List ℕ) → length rows ≡ rules.cells → AreRunsWithin rules runs → EncodeRows runs rows → length runs ≡ count
     → bytes ≡ joined (map (run_line rules.version rules.format) runs) ++ rest → AreRowsAt rules count bytes rows rest
 rows_at rules count runs rows bytes rest size are tell counted text =

@@ -1,4 +1,4 @@
--- The lines of rows: each is one line, and tells one thing.
+-- The lines of rows: each is one line, and says one thing.
 use Rattle.std.proofs.Common.{◌≡◌, ℕ, ◌+◌, ◌%◌, ◌^◌, ◌<◌, ◌≤◌, Bool, true, false, cond, eqb, not, List, [], ◌∷◌, ◌++◌, drop, refl, sym, ap, subst, ◌∙◌, append_assoc, arith}
 use Rattle.std.specs.Prelude.{codes, ◌||◌}
 use Rattle.std.specs.List.{list_all}
@@ -72,7 +72,7 @@ run_is_line Second format r s = record {
   are = refl;
 }
 
--- ---- what a line tells
+-- ---- what a line gives
 
 pub count_same : (m n : ℕ) → m < 2 ^ 64 → n < 2 ^ 64 → count_line m ≡ count_line n → m ≡ n
 count_same m n hm hn e =

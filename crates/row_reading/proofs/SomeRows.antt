@@ -1,4 +1,4 @@
--- No bytes tell no rows and have no line that is refused.
+-- No bytes give no rows and have no line that is refused.
 use Rattle.std.proofs.Common.{inl, inr, ◌≡◌, ℕ, zero, suc, ◌<◌, ◌≤◌, List, [], ◌∷◌, ◌++◌, length, map, Option, Some, None, refl, sym, ap, subst, ◌∙◌, append-nil, append_assoc, arith}
 use Rattle.std.specs.Prelude.{◌↔◌}
 use Rattle.std.specs.List.{AllByRecursion, range_with_len}
@@ -25,7 +25,7 @@ use Rattle.row_reading.proofs.RowGrammar.{rows_are_grammar}
 use Rattle.row_reading.proofs.RowsRead.{FollowsOn, rows_at}
 use Rattle.row_reading.proofs.RefusedRows.{whole_text}
 
--- ---- the rows that runs tell
+-- ---- the rows that runs give
 
 -- the cells of the runs after a run lie beyond it
 beyond : (v : TableVersion) (r : Run) (runs : List Run) (c : ℕ) (row : Row) → AreRuns v (r ∷ runs) → Gives runs c row → r.last < c

@@ -1,4 +1,4 @@
--- Which line may come next where rows are told: how many row lines there are, those lines, and the end.
+-- Which line may come next where rows are given: how many row lines there are, those lines, and the end.
 use Rattle.std.specs.Prelude.{◌≡◌, ℕ, zero, suc, ◌≤◌, List, [], Option, Some, None}
 use Rattle.row_runs.specs.declared.run.Run.{Run}
 use Rattle.row_runs.specs.declared.run.TableVersion.{TableVersion}
@@ -42,20 +42,20 @@ AreAll (Due zero last) rest = Unit {0}
 AreAll (Due (suc n) last) rest = ⊥
 AreAll Done rest = ⊥
 
--- a line leads from one place to the next
+-- a line leads from one state of rows to the next
 abbrev pub RowStep : RowRules → RowState → List ℕ → RowState → Type 0
 RowStep rules Begin line to = (n : ℕ) × (n ≤ rules.cells) × (line ≡ count_line n) × (to ≡ Due n None)
 RowStep rules (Due zero last) line to = (line ≡ end_line) × (to ≡ Done)
 RowStep rules (Due (suc n) last) line to = RunStep rules (Due (suc n) last) line to
 RowStep rules Done line to = ⊥
 
--- the rows are told after the end, with no bytes left
+-- the rows are given after the end, with no bytes left
 abbrev pub IsOver : RowState → List ℕ → Type 0
 IsOver Begin rest = ⊥
 IsOver (Due n last) rest = ⊥
 IsOver Done rest = rest ≡ []
 
--- the n-th line, from 1, is the first that is refused where rows are told
+-- the n-th line, from 1, is the first that is refused where rows are given
 abbrev pub IsRowRefused : RowRules → List ℕ → ℕ → Type 0
 IsRowRefused rules bytes n = IsFirstRefused (RowStep rules) IsOver Begin bytes n
 

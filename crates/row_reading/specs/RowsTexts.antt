@@ -1,4 +1,4 @@
--- Rows that rules allow, and the lines that tell them.
+-- Rows that rules allow, and the lines that give them.
 use Rattle.std.specs.Prelude.{◌≡◌, ℕ, ◌<◌, ◌≤◌, List, [], ◌∷◌, ◌++◌, length, map, Option, IfSome}
 use Rattle.std.specs.List.{All, concat}
 use Rattle.game_core.specs.declared.game.Row.{Row}
@@ -10,7 +10,7 @@ use Rattle.row_runs.specs.Runs.{runs_from}
 use Rattle.row_runs.specs.RunText.{run_line, count_line, end_line}
 use Rattle.row_reading.specs.declared.row_rules.RowRules.{RowRules}
 
--- what the words of a row don't tell is 0
+-- what a line of the row doesn't say is 0
 abbrev pub Determines : RowFormat → Row → Type 0
 Determines InputAboveZero row = row.rank ≡ 0 → row.input ≡ 0
 Determines InputAlone row = row.rank ≡ 0
@@ -41,12 +41,12 @@ row_lines version format rows = map (run_line version format) (runs_from version
 abbrev pub counted_lines : TableVersion → RowFormat → List (Option Row) → List (List ℕ)
 counted_lines version format rows = count_line (length (row_lines version format rows)) ∷ row_lines version format rows ++ end_line ∷ []
 
--- The bytes tell these rows: how many lines they have, those lines, and the end.
+-- The bytes give these rows: how many lines they have, those lines, and the end.
 pub record IsRowsText (rules : RowRules) (bytes : List ℕ) (rows : List (Option Row)) : Type 0 where
   pub within : AreRowsWithin rules rows
   pub text : bytes ≡ concat (counted_lines rules.version rules.format rows)
 
--- So many lines of rows stand at the front, and tell these rows.
+-- So many lines of rows stand at the front, and give these rows.
 pub record AreRowsAt (rules : RowRules) (count : ℕ) (bytes : List ℕ) (rows : List (Option Row)) (rest : List ℕ) : Type 0 where
   pub within : AreRowsWithin rules rows
   pub counted : length (row_lines rules.version rules.format rows) ≡ count

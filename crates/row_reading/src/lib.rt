@@ -1,18 +1,18 @@
 //! Lines of rows that are read.
 //!
-//! The layer above gives the bytes after a header, and rules: in which version and words rows are told, and which rows
-//! a cell may have. It gets the one list of rows that the lines tell, or the first line that is refused. Which line may
-//! come next is a grammar of `read_texts`. Numbers, fronts and lines of any bytes are read here too.
+//! The layer above gives the bytes after a header, and rules: in which version and format rows are written, and which rows
+//! a cell may have. It gets the one list of rows that the lines give, or the first line that is refused. Which line may
+//! come next is a grammar of `read_texts`. Numbers, prefixes and lines of any bytes are read here too.
 #![tactic(auto)]
 
-mod front;
+mod prefix;
 mod row_fault;
 mod row_numbers;
 mod row_reader;
 mod row_rules;
 mod run_reader;
 
-pub use front::{after_prefix, line_count};
+pub use prefix::{after_prefix, line_count};
 pub use row_fault::RowFault;
 pub use row_numbers::take_number;
 pub use row_reader::{read_rows, take_rows};

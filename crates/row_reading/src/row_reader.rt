@@ -7,7 +7,7 @@ ghost use Rattle.row_reading.specs.RowsTexts.{AreRowsAt, IsRowsText};
 ghost use Rattle.row_reading.specs.RowSteps.{IsRowRefused, IsRunRefused, IsRefusedAt};
 ghost use Rattle.row_reading.specs.inside.ReadRows.{IsCountAt};
 
-use crate::front::after_prefix;
+use crate::prefix::after_prefix;
 use crate::row_fault::RowFault;
 use crate::row_numbers::take_number;
 use crate::row_rules::RowRules;
@@ -16,7 +16,7 @@ use game_core::Answer;
 use row_runs::fill_run;
 use std::alloc::Global;
 
-/// The rows that the bytes tell.
+/// The rows that the bytes give.
 pub fn read_rows(alloc: Global, rules: RowRules, bytes: &[u8]) -> Result<Answer, RowFault>
     requires { rules.cells ≤ CELLS_LIMIT }
     ensures read { IfOk result (λ answer. IsRowsText rules bytes.now answer) }

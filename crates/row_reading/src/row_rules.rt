@@ -1,6 +1,6 @@
 use row_runs::{RowFormat, TableVersion};
 
-/// How lines tell rows, and which rows a cell may have.
+/// How lines give rows, and which rows a cell may have.
 #[derive(Clone, Copy)]
 pub struct RowRules {
     pub version: TableVersion,

@@ -7,7 +7,7 @@ ghost use Rattle.row_reading.specs.RowSteps.{MayStandAfter};
 ghost use Rattle.row_reading.specs.Found.{Finds};
 ghost use Rattle.row_reading.specs.inside.RunReading.{AreSmall, IsLastAt, IsRowAt, IsRunAt, IsNextRunAt};
 
-use crate::front::after_prefix;
+use crate::prefix::after_prefix;
 use crate::row_numbers::take_number;
 use crate::row_rules::RowRules;
 use game_core::Row;

@@ -1,4 +1,4 @@
--- The lines of texts with rows: each is one line, and tells one thing, where its numbers are below 2 ^ 64.
+-- The lines of texts with rows: each is one line, and says one thing, where its numbers are below 2 ^ 64.
 use Rattle.std.proofs.Common.{◌≡◌, ℕ, ◌+◌, ◌%◌, ◌^◌, ◌<◌, ◌≤◌, Bool, true, false, eqb, not, List, [], ◌∷◌, ◌++◌, length, map, Option, Some, None, refl, sym, ap, subst, ◌∙◌, append_assoc, arith, inl, inr}
 use Rattle.std.specs.Prelude.{codes, ◌||◌, IfSome}
 use Rattle.std.specs.List.{All, AllByRecursion, list_all}
@@ -86,7 +86,7 @@ pub runs_are_lines : (runs : List Run) → AllByRecursion IsSpelledOut runs → 
 runs_are_lines [] h = tt
 runs_are_lines (r ∷ runs) h = (run_is_line r h.0, runs_are_lines runs h.1)
 
--- ---- what a run's line tells
+-- ---- what a run's line gives
 
 spaced : (a l b i : List ℕ) → (a ++ (32 ∷ (l ++ (32 ∷ (b ++ (32 ∷ i)))))) ++ (10 ∷ []) ≡ a ++ 32 ∷ (l ++ 32 ∷ (b ++ 32 ∷ (i ++ 10 ∷ [])))
 spaced a l b i = simp append_assoc

@@ -1,4 +1,4 @@
--- Two lists of runs that tell the same rows are one.
+-- Two lists of runs that give the same rows are one.
 use Rattle.std.proofs.Common.{◌≡◌, ℕ, suc, ◌<◌, ◌≤◌, List, [], ◌∷◌, refl, sym, ap₂, ◌∙◌, arith, inl, inr}
 use Rattle.std.proofs.lemmas.Bool.{cases_lt}
 use Rattle.game_core.specs.declared.game.Row.{Row}

@@ -1,4 +1,4 @@
--- The lines that tell runs of rows.
+-- The lines that give runs of rows.
 use Rattle.std.specs.Prelude.{ℕ, ◌==◌, List, [], ◌∷◌, map, Option, codes, if◌then◌else◌}
 use Rattle.std.specs.Fmt.{decimal}
 use Rattle.game_core.specs.declared.game.Row.{Row}
@@ -22,17 +22,17 @@ input_field InputAboveZero row = if row.rank == 0 then codes "-" else decimal ro
 input_field InputAlone row = decimal row.input
 input_field Both row = decimal row.input
 
--- the line of a run: its cell in the first version, its first and last cell in the second, and the words of its row
+-- the line of a run: its cell in the first version, its first and last cell in the second, then rank and input in a format
 abbrev pub run_line : TableVersion → RowFormat → Run → List ℕ
-run_line First words r = line (decimal r.first ∷ rank_field words r.row ∷ input_field words r.row ∷ [])
-run_line Second words r =
-    line (decimal r.first ∷ decimal r.last ∷ rank_field words r.row ∷ input_field words r.row ∷ [])
+run_line First format r = line (decimal r.first ∷ rank_field format r.row ∷ input_field format r.row ∷ [])
+run_line Second format r =
+    line (decimal r.first ∷ decimal r.last ∷ rank_field format r.row ∷ input_field format r.row ∷ [])
 
--- the lines of the longest runs of cells with one row, in these words
+-- the lines of the longest runs of cells with one row, in this format
 abbrev pub run_lines : RowFormat → List (Option Row) → List (List ℕ)
-run_lines words rows = map (run_line Second words) (runs_from Second 0 rows)
+run_lines format rows = map (run_line Second format) (runs_from Second 0 rows)
 
--- the line that tells how many lines of runs follow
+-- the line that says how many lines of runs follow
 abbrev pub count_line : ℕ → List ℕ
 count_line n = line (codes "rows" ∷ decimal n ∷ [])
 

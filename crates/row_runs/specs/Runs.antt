@@ -54,7 +54,7 @@ abbrev pub Gives : List Run → ℕ → Row → Type 0
 Gives [] c row = ⊥
 Gives (r ∷ runs) c row = ((r.first ≤ c) × (c ≤ r.last) × (r.row ≡ row)) ⊎ Gives runs c row
 
--- runs tell the rows: each gives its row to its cells, and no other cell has a row
+-- runs give the rows: each gives its row to its cells, and no other cell has a row
 abbrev pub EncodeRows : List Run → List (Option Row) → Type 0
 EncodeRows runs rows = (c : ℕ) (row : Row) → (row_of rows c ≡ Some row) ↔ Gives runs c row
 

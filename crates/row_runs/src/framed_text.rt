@@ -7,10 +7,10 @@ use text_pieces::{Pieces, copy_prefix};
 /// The last line.
 const END: &[u8] = b"end\n";
 
-/// A text that has a front in memory, a body that comes in pieces, and the last line. Seen as the bytes that are still to come.
+/// A text that has a header in memory, a body that comes in pieces, and the last line. Seen as the bytes that are still to come.
 #[derive(Drop)]
 pub struct FramedText<T: Pieces + Drop> {
-    /// The front, and how many of its bytes are written.
+    /// The header, and how many of its bytes are written.
     header: Vec<u8>,
     at: usize,
     body: T,

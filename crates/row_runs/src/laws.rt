@@ -2,12 +2,12 @@
 
 ghost use Rattle.row_runs.specs.Laws.{RunsEncodeTheRows, OneListOfRuns, RunsDiffer};
 
-/// The runs of rows stand one after another, and tell the rows.
+/// The runs of rows stand one after another, and give the rows.
 pub fn runs_encode_the_rows()
     ensures { RunsEncodeTheRows }
 {}
 
-/// No two lists of runs tell the same rows.
+/// No two lists of runs give the same rows.
 pub fn one_list_of_runs()
     ensures { OneListOfRuns }
 {}

@@ -79,31 +79,31 @@ impl LineText {
         self.start = write_digits(u64::from(number), &mut self.bytes, self.start);
     }
 
-    /// Puts the words of a row before the rest, with a space before each.
-    pub fn prepend_row(&mut self, words: RowFormat, row: Row)
+    /// Puts rank and input of a row, as its format prints them, before the rest, with a space before each.
+    pub fn prepend_row(&mut self, format: RowFormat, row: Row)
         requires { 22 + length self.old ≤ LINE_CAPACITY }
-        ensures text { self.new ≡ 32 ∷ (rank_field words row ++ 32 ∷ (input_field words row ++ self.old)) }
+        ensures text { self.new ≡ 32 ∷ (rank_field format row ++ 32 ∷ (input_field format row ++ self.old)) }
         ensures length { length self.new ≤ 22 + length self.old }
     {
-        self.prepend_input(words, row);
+        self.prepend_input(format, row);
         self.prepend(b" ");
-        self.prepend_rank(words, row);
+        self.prepend_rank(format, row);
         self.prepend(b" ");
     }
 
     /// The line of a run.
-    pub(crate) fn write_run(&mut self, words: RowFormat, run: Run)
-        ensures text { self.new ≡ run_line Second words run }
+    pub(crate) fn write_run(&mut self, format: RowFormat, run: Run)
+        ensures text { self.new ≡ run_line Second format run }
         ensures some { 0 < length self.new }
     {
         self.begin();
-        self.prepend_row(words, run.row);
+        self.prepend_row(format, run.row);
         self.prepend_number(run.last);
         self.prepend(b" ");
         self.prepend_number(run.first);
     }
 
-    /// The line that tells how many lines of runs follow.
+    /// The line that says how many lines of runs follow.
     pub(crate) fn write_count(&mut self, runs: u32)
         ensures { self.new ≡ count_line runs }
     {
@@ -112,23 +112,23 @@ impl LineText {
         self.prepend(b"rows ");
     }
 
-    fn prepend_input(&mut self, words: RowFormat, row: Row)
+    fn prepend_input(&mut self, format: RowFormat, row: Row)
         requires { 10 + length self.old ≤ LINE_CAPACITY }
-        ensures text { self.new ≡ input_field words row ++ self.old }
+        ensures text { self.new ≡ input_field format row ++ self.old }
         ensures length { length self.new ≤ 10 + length self.old }
     {
-        match words {
+        match format {
             RowFormat::InputAboveZero if row.rank == 0 => self.prepend(b"-"),
             _ => self.prepend_number(row.input),
         }
     }
 
-    fn prepend_rank(&mut self, words: RowFormat, row: Row)
+    fn prepend_rank(&mut self, format: RowFormat, row: Row)
         requires { 10 + length self.old ≤ LINE_CAPACITY }
-        ensures text { self.new ≡ rank_field words row ++ self.old }
+        ensures text { self.new ≡ rank_field format row ++ self.old }
         ensures length { length self.new ≤ 10 + length self.old }
     {
-        match words {
+        match format {
             RowFormat::InputAlone => self.prepend(b"-"),
             RowFormat::InputAboveZero | RowFormat::Both => self.prepend_number(row.rank),
         }

@@ -1,4 +1,4 @@
-/// Which words tell a row.
+/// What a line prints of a row: its rank, its input, or both.
 #[derive(Clone, Copy, PartialEq, Eq)]
 pub enum RowFormat {
     /// The rank, and the input above rank 0: `4 1`, `0 -`.

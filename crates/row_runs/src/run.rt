@@ -1,6 +1,6 @@
 use game_core::Row;
 
-/// How lines tell rows.
+/// How lines give rows.
 #[derive(Clone, Copy, PartialEq, Eq)]
 pub enum TableVersion {
     /// Cell by cell.

@@ -12,7 +12,7 @@ use text_pieces::{Pieces, copy_prefix};
 /// The lines of the runs of rows, piece by piece. Seen as the bytes that are still to come.
 #[derive(Drop)]
 pub struct RunLines<'a> {
-    words: RowFormat,
+    format: RowFormat,
     /// What is left of the line that is being written.
     line: LineText,
     /// The runs after it.
@@ -27,29 +27,29 @@ impl<'a> Model for RunLines<'a> {
 
     ghost Value = { List ℕ };
 
-    ghost view = { λ l. l.line ++ concat (map (run_line Second l.words) l.runs) };
+    ghost view = { λ l. l.line ++ concat (map (run_line Second l.format) l.runs) };
 }
 
 impl<'a> RunLines<'a> {
     /// The lines of all runs.
-    pub fn new(words: RowFormat, answer: &'a Answer) -> RunLines<'a>
-        ensures { result ≡ concat (run_lines words answer.now) }
+    pub fn new(format: RowFormat, answer: &'a Answer) -> RunLines<'a>
+        ensures { result ≡ concat (run_lines format answer.now) }
     {
         RunLines {
-            words,
+            format,
             line: LineText::empty(),
             runs: Runs::new(answer),
         }
     }
 
-    /// The lines of all runs, after the line that tells how many they are.
-    pub fn counted(words: RowFormat, answer: &'a Answer) -> RunLines<'a>
-        ensures { result ≡ concat (count_line (length (run_lines words answer.now)) ∷ run_lines words answer.now) }
+    /// The lines of all runs, after the line that says how many they are.
+    pub fn counted(format: RowFormat, answer: &'a Answer) -> RunLines<'a>
+        ensures { result ≡ concat (count_line (length (run_lines format answer.now)) ∷ run_lines format answer.now) }
     {
         let mut line = LineText::empty();
         line.write_count(count_runs(answer));
         RunLines {
-            words,
+            format,
             line,
             runs: Runs::new(answer),
         }
@@ -64,7 +64,7 @@ impl Pieces for RunLines<'_> {
             let Some(run) = self.runs.next() else {
                 return 0;
             };
-            self.line.write_run(self.words, run);
+            self.line.write_run(self.format, run);
         }
         let count = copy_prefix(self.line.as_slice(), buf);
         self.line.advance(count);

@@ -21,7 +21,7 @@ taken_till_fault (Some told) now after bytes most so_far kept within = taken_so_
     same (Some xs) None e kept = absurd kept
     same (Some xs) (Some ys) e kept = ap (λ (zs : List ℕ). Some zs) kept ∙ e
 
--- the next read took n bytes more, which found no room
+-- the next read took n bytes more, which found no capacity
 pub taken_past : (before now after : Option (List ℕ)) (bytes buffer : List ℕ) (n most : ℕ) → ReadSoFar before now bytes → Takes now after n buffer → length bytes + n ≤ most → TakesAtMost before after most
 taken_past None now after bytes buffer n most so_far takes within = tt
 taken_past (Some told) now after bytes buffer n most so_far takes within =

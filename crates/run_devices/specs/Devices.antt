@@ -55,7 +55,7 @@ pub record GainsWhole (sink : Writing) (text : List ℕ) : Type 0 where
   pub gained : Gains sink.before sink.after text
   pub no_fault : sink.faults_after ≡ sink.faults_before
 
--- A part of a text was appended, and not the whole: one fault was counted, and the sink hadn't promised room for the text.
+-- A part of a text was appended, and not the whole: one fault was counted, and the sink hadn't promised capacity for the text.
 pub record GainsPart (sink : Writing) (text : List ℕ) : Type 0 where
   pub count : ℕ
   pub proper : count < length text

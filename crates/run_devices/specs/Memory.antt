@@ -9,7 +9,7 @@ pub record MemoryLeft : Type 0 where
   pub fails : List ℕ
   pub faults : ℕ
 
--- The bytes that were taken, the room for all bytes, how many are taken at once, the calls so far, the
+-- The bytes that were taken, the capacity for all bytes, how many are taken at once, the calls so far, the
 -- numbers of the calls that fail, and the faults so far.
 pub record MemoryTaken : Type 0 where
   pub got : List ℕ
@@ -37,10 +37,10 @@ sure_capacity s = capacity_of s.fails s.capacity s.got
 abbrev pub uncalled_sink : ℕ → ℕ → List ℕ → MemoryTaken
 uncalled_sink capacity at_once fails = record { got = []; capacity = capacity; at_once = at_once; calls = 0; fails = fails; faults = 0 }
 
--- a sink fails at the call of this number: the call is to fail, or there is no room left
+-- a sink fails at the call of this number: the call is to fail, or there is no capacity left
 abbrev pub FailsAt : MemoryTaken → ℕ → Type 0
 FailsAt s call = Contains s.fails call ⊎ (s.capacity ≤ length s.got)
 
--- a sink after some calls is to fail at the same calls, and has the same room, for all bytes and for a call
+-- a sink after some calls is to fail at the same calls, and has the same capacity, for all bytes and for a call
 abbrev pub HasSameLimits : MemoryTaken → MemoryTaken → Type 0
 HasSameLimits before after = (after.fails ≡ before.fails) × (after.capacity ≡ before.capacity) × (after.at_once ≡ before.at_once)

@@ -116,7 +116,7 @@ impl Source for MemorySource {
     }
 }
 
-/// A sink into memory with room for so many bytes, of which chosen calls fail.
+/// A sink into memory with capacity for so many bytes, of which chosen calls fail.
 #[derive(Drop)]
 pub struct MemorySink {
     got: Vec<u8>,
@@ -140,7 +140,7 @@ impl Model for MemorySink {
 
 impl MemorySink {
     /// Takes all its memory here. A call takes at most `at_once` bytes, but at least one; the calls
-    /// whose numbers, from 1, stand in `fails` fail, and those that find no room left.
+    /// whose numbers, from 1, stand in `fails` fail, and those that find no capacity left.
     pub fn new(
         alloc: Global,
         capacity: usize,

@@ -4,7 +4,7 @@ use plant_text::write_plant;
 use std::test::Fail;
 use synth_run::demo_plant;
 
-/// 60 cells of ten places by 20 cells of ten in speed: the cart on 600 places
+/// 60 cells of ten positions by 20 cells of ten in speed: the cart on 600 positions
 const CART: &[u8] = b"plant 1
 state p 0 599 10
 state v -100 99 10

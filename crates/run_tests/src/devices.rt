@@ -102,7 +102,7 @@ fn write_that_fails_leaves_the_front_of_the_table(rt: HostRuntime) -> Result<(),
     Ok(())
 }
 
-/// One byte a call, into room for fewer bytes than the table has: the front of it that fits.
+/// One byte a call, into room for fewer bytes than the table has: the first bytes of it that fit.
 fn is_cut_at<R: Threads + Sync>(rt: &R, alloc: Global, capacity: usize) -> Result<bool, Fail> {
     let devices = Devices {
         at_once: 1,

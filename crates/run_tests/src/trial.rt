@@ -5,7 +5,7 @@ use std::test::Fail;
 use std::thread::Threads;
 use synth_run::{Gate, MemorySink, MemorySource, run};
 
-/// The places 0 to 14 in cells of three, moved by three to either side, to be brought to 12 to 14.
+/// Positions 0 to 14 in cells of three; inputs of -3 and 3; the target is 12 to 14.
 pub const PLANT: &[u8] =
     b"plant 1\nstate x 0 14 3\ninput u -3 3\nnext x = x + u\ntarget 12 14\ngoal reach\nend\n";
 

@@ -1,13 +1,13 @@
--- What stands with no cell on the list, and what a resolved game is then.
+-- What stands with no cell on the list, and what a solved game is then.
 use Rattle.std.proofs.Common.{◌≡◌, List, length, arith, sym, ◌∙◌, ap, subst}
 use Rattle.cell_counters.specs.declared.account.Account.{Account}
 use Rattle.cell_counters.specs.BoardModels.{BoardModel}
 use Rattle.game_core.specs.Game.{Game, IsGraph}
 use Rattle.game_core.specs.Tally.{IsKeepTally}
 use Rattle.game_core.proofs.Keep.{stable_rows_are_the_keep_solution}
-use Rattle.board_rounds.specs.declared.resolving.Resolved.{Resolved}
+use Rattle.board_rounds.specs.declared.solving.SolvedGame.{SolvedGame}
 use Rattle.board_rounds.specs.Crew.{offers_in}
-use Rattle.board_rounds.specs.Resolving.{IsResolved}
+use Rattle.board_rounds.specs.Solving.{IsSolvedByRule}
 use Rattle.board_rounds.specs.Rules.{IsAtEnd}
 use Rattle.safety_game.specs.KeepBoards.{IsBoardOf}
 use Rattle.safety_game.specs.Kept.{IsKeepSolved}
@@ -25,7 +25,7 @@ module _ (g : Game) (a : IsGraph g) where
       omega arith
 
   -- the game is solved
-  pub solved : (board : BoardModel) → IsBoardOf g board → (k : Resolved) → IsResolved g.cells (IsKeepInvariant g) (IsRowDecoded g) board k → IsKeepSolved g k
+  pub solved : (board : BoardModel) → IsBoardOf g board → (k : SolvedGame) → IsSolvedByRule g.cells (IsKeepInvariant g) (IsRowDecoded g) board k → IsKeepSolved g k
   solved board of_game k r =
       let accounts = k.root.accounts in
       let d = k.tally.rounds in

@@ -1,4 +1,4 @@
--- When a cell falls, said by how many of its pairs are hit.
+-- When a cell falls, said by how many of its pairs are lost.
 use Rattle.std.proofs.Common.{inl, inr, ◌≡◌, ℕ, zero, suc, ◌+◌, ◌-◌, ◌/◌, ◌<◌, ◌≤◌, ◌==◌, ◌&&◌, ◌||◌, not, nat_lt, Bool, true, false, length, get_or, count_by, arith, refl, sym, ◌∙◌, ap, subst, ne_eqb}
 use Rattle.std.specs.List.{list_any, range_with_len}
 use Rattle.std.proofs.Math.Bool.{or-true}
@@ -111,7 +111,7 @@ module _ (g : Game) where
   pub gone_few : (d pair : ℕ) → gone_in g d pair ≤ length (successors_at g pair)
   gone_few d pair = count_by-le-length (fell_before g d) (successors_at g pair)
 
-  -- a cell has fallen where all its enabled pairs are hit, and the other way round
+  -- a cell has fallen where all its enabled pairs are lost, and the other way round
   pub falls_by_cell_cuts : (d c : ℕ) → enabled_at g c ≤ cell_cuts_at g d c → has_fallen g d c ≡ true
   falls_by_cell_cuts zero c le = ap (λ b. is_obstacle (mark_of g c) || b) (counts_helpless g (λ s. false) c le) ∙ or-true (is_obstacle (mark_of g c))
   falls_by_cell_cuts (suc d) c le = ap (λ b. has_fallen g d c || b) (counts_helpless g (has_fallen g d) c le) ∙ or-true (has_fallen g d c)
@@ -124,7 +124,7 @@ module _ (g : Game) where
         | inr helpless ↦ helpless_counts g (has_fallen g d) c clear helpless
       ]
 
-  -- an obstacle falls at once, and none of its pairs is hit
+  -- an obstacle falls at once, and none of its pairs is lost
   pub obstacle_falls : (d c : ℕ) → is_obstacle (mark_of g c) ≡ true → has_fallen g d c ≡ true
   obstacle_falls zero c e = ap (λ b. b || is_helpless g (λ s. false) c) e
   obstacle_falls (suc d) c e = ap (λ b. b || is_helpless g (has_fallen g d) c) (obstacle_falls d c e)

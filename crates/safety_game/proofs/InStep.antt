@@ -67,7 +67,7 @@ module _ (g : Game) where
       by_mark true = refl
       by_mark false = all
 
-  -- where nothing was a pair's first cut, nothing is a hit
+  -- where nothing was a pair's first cut, no cell is cut
   pub no_cell_cuts : (cuts : List Cut) (c : ℕ) → All (λ pair. firsts_in g cuts pair ≡ 0) (pairs_at g c) → cell_cuts_in g cuts c ≡ 0
   no_cell_cuts cuts c none = by_mark (is_obstacle (mark_of g c))
     where
@@ -108,7 +108,7 @@ module _ (g : Game) where
       (All-head (λ (a : Account). IsInStep g a.cuts (logged_cells a.logs)) a more h)
       (all_in_step more (All-tail (λ (a : Account). IsInStep g a.cuts (logged_cells a.logs)) a more h)))
 
--- the cut of one pair, and of its cell after a blow
+-- the cut of one pair, and of its cell after the pair's first cut
 module _ (g : Game) (some' : 0 < g.inputs) (pair left : ℕ) (lt : pair < pairs_of g) where
   abbrev is_first : Bool
   is_first = left == length (successors_at g pair) - 1
@@ -137,7 +137,7 @@ module _ (g : Game) (some' : 0 < g.inputs) (pair left : ℕ) (lt : pair < pairs_
   no_cell : (c : ℕ) → pair ≢ pairs_of g + c
   no_cell c e = absurd (omega arith)
 
-  -- with no blow there is no hit
+  -- without a first cut no cell is cut
   quiet_hits : is_first_cut g pair left ≡ false → (c : ℕ) → cell_cuts_in g (cut pair left ∷ []) c ≡ 0
   quiet_hits quiet c = by_mark (is_obstacle (mark_of g c)) refl is_first refl
     where
@@ -159,7 +159,7 @@ module _ (g : Game) (some' : 0 < g.inputs) (pair left : ℕ) (lt : pair < pairs_
     no_other_cut = All-cons (λ (c : Cut). c.counter < pairs_of g + g.cells) (cut pair left) [] (omega arith) (All-nil (λ (c : Cut). c.counter < pairs_of g + g.cells));
   }
 
-  -- a blow is a hit of the cell, and of no other
+  -- a pair's first cut is a cut of its cell, and of no other
   blow_parts : is_first_cut g pair left ≡ true → (is_first ≡ true) × (is_obstacle (mark_of g (pair / g.inputs)) ≡ false)
   blow_parts e = parts is_first (is_obstacle (mark_of g (pair / g.inputs))) e
     where

@@ -1,4 +1,4 @@
--- What a test of a mark tells.
+-- What a test of a mark says.
 use Rattle.std.proofs.Common.{◌≡◌, true, false, refl}
 use denote.Enum.Bare.{sameb}
 use Rattle.game_core.specs.contracts.game.Mark.{the_type}

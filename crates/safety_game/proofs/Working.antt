@@ -25,7 +25,7 @@ pub record HasCut (g : Game) (pair : ℕ) (was now : HandModel) : Type 0 where
   pub once : (p : ℕ) → p < pairs_of g → times p (counters_of more) ≡ one_if (pair == p)
 
 module _ (g : Game) (some' : 0 < g.inputs) (pair : ℕ) (lt : pair < pairs_of g) (inside : pair / g.inputs < g.cells) where
-  -- no blow
+  -- not the first cut
   quiet : (was between now : HandModel) → CutsFirst g pair was between false → CellCutsAfter g (pair / g.inputs) false between now → HasCut g pair was now
   quiet was between now t same =
       let is : now ≡ record was { account = record was.account { cuts = was.account.cuts ++ cut pair t.left ∷ [] } } = same ∙ t.taken in
@@ -42,7 +42,7 @@ module _ (g : Game) (some' : 0 < g.inputs) (pair : ℕ) (lt : pair < pairs_of g)
         once = λ p lp. one_counter p pair t.left;
       }
 
-  -- a blow to the cell
+  -- the first cut
   first_cut : (was between now : HandModel) → CutsFirst g pair was between true → CellCutsAfter g (pair / g.inputs) true between now → HasCut g pair was now
   first_cut was between now t h =
       let cell = pair / g.inputs in

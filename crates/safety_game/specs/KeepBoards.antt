@@ -17,6 +17,6 @@ enabled_at g c = count_by (λ pair. nat_lt 0 (length (successors_at g pair))) (p
 abbrev pub counters_of : Game → List ℕ
 counters_of g = fans_of g ++ for_each_cell g (enabled_at g)
 
--- counters for the pairs and for the cells, no least word, and a slot in the log for each cell
+-- counters for the pairs and for the cells, no minimum, and a slot in the log for each cell
 abbrev pub IsBoardOf : Game → BoardModel → Type 0
 IsBoardOf g board = IsBegunWith (counters_of g) [] g board

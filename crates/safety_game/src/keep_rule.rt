@@ -62,7 +62,7 @@ impl<G: Graph + Sync> Rule for Keep<'_, G> {
 }
 
 impl<G: Graph> Keep<'_, G> {
-    /// Cuts a pair, and then its cell where that was a blow to it.
+    /// Cuts a pair, and then its cell where that was the pair's first cut.
     fn cut_pair_and_cell(&self, board: &Board, worker: &mut Worker, pair: u32)
         requires board { IsBoardOf (G.game self.now.graph.now) board.now }
         requires worker { worker.old.board ≡ board.now }

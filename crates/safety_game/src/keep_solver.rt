@@ -1,13 +1,13 @@
 //! The solver.
 ghost use Rattle.std.specs.Prelude.{◌≤◌, IfOk};
+ghost use Rattle.base.specs.Workers.{AreWorkers};
 ghost use Rattle.safety_game.specs.KeepBoards.{IsBoardOf};
 ghost use Rattle.safety_game.specs.Kept.{IsKeepSolved};
-ghost use Rattle.base.specs.declared.limits.TheConstants.{WORKERS_LIMIT};
 
 use crate::keep_rule::Keep;
-use crate::outcome::Kept;
+use crate::Kept;
 use crate::scratch::Scratch;
-use board_rounds::resolve;
+use board_rounds::solve_by_rule;
 use frontier_pool::Gate;
 use game_core::{Graph, NoMemory};
 use std::alloc::Global;
@@ -21,7 +21,7 @@ pub fn keep<R: Threads + Sync, G: Graph + Sync, T: Gate>(
     workers: u32,
     gate: &T,
 ) -> Result<Kept, NoMemory>
-    requires { (1 ≤ workers) × (workers ≤ WORKERS_LIMIT) }
+    requires { AreWorkers workers }
     ensures { IfOk result (IsKeepSolved (G.game g.now)) }
 {
     let scratch = Scratch::new(rt, alloc, g, workers)?;
@@ -45,5 +45,5 @@ pub fn keep_in<R: Threads + Sync, G: Graph + Sync, T: Gate>(
         inputs,
         pairs: g.cells() * inputs,
     };
-    resolve(rt, alloc, scratch, &rule, gate)
+    solve_by_rule(rt, alloc, scratch, &rule, gate)
 }

@@ -7,10 +7,14 @@
 
 mod keep_rule;
 mod keep_solver;
-mod outcome;
 mod scratch;
 
 pub use game_core::{NoMemory, Tally};
 pub use keep_solver::{keep, keep_in};
-pub use outcome::Kept;
 pub use scratch::{KeepStart, Scratch};
+
+/// A solved keep game: its solution, what was counted, the board on which it was solved, and the board's root.
+///
+/// `tally` has as cuts the edges into cells that aren't kept and the pairs that are lost by them, no offers, and the rounds in which a
+/// cell falls.
+pub type Kept = board_rounds::SolvedGame;

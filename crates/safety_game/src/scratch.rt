@@ -5,7 +5,7 @@ ghost use Rattle.safety_game.specs.KeepBoards.{enabled_at};
 use board_rounds::Start;
 use game_core::Forward;
 
-/// A counter for each pair, then one for each cell, and no least word.
+/// A counter for each pair, then one for each cell, and no minimum.
 pub struct KeepStart;
 
 /// The memory in which a keep game is solved.

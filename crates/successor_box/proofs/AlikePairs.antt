@@ -143,9 +143,9 @@ module _ (p : Description) (c u d v k : ℕ) where
         later past (inl here) = same_input past here (alike here)
         later past (inr noise) = central_noise p d v k noise ∙ sym (central_noise p c u k noise)
 
--- ---- one side
+-- ---- one extent
 
--- a variable that stands in the equation, and isn't a state that moves the extent
+-- a variable that stands in the equation, and isn't a state that shifts the extent
 depends : (p : Description) (i k : ℕ) → mentions (equation_at p i) k ≡ true → (moves_along p i ≡ true → k ≡ i → ⊥) → depends_on p i k ≡ true
 depends p i k stands other = and_from (mentions (equation_at p i) k) (not (moves_along p i && eqb k i)) stands (not_from_false (moves_along p i && eqb k i) (apart (cases_Bool (moves_along p i))))
   where

@@ -18,7 +18,7 @@ use Rattle.successor_box.proofs.CellValues.{vector_count}
 use Rattle.successor_box.proofs.Centres.{centre_count}
 use Rattle.successor_box.proofs.Ranges.{in_first, in_second, in_third, noise_told}
 
--- ---- intervals moved by numbers, one for each
+-- ---- intervals shifted by numbers, one for each
 
 pub moved_all : List ℤ → List Interval → List Interval
 moved_all [] os = []

@@ -38,7 +38,7 @@ ends_ordered p c u i sound lt = by _ _ (next_interval_of p.version p c u (equati
     by : (x y : ℤ) (i : Interval) → x ≡ i.lo → y ≡ i.hi → IsInterval i → x ≤ℤ y
     by x y i low high order = omega (arith, ints, low, high, order)
 
--- an extent that isn't moved
+-- an extent that isn't shifted
 pub unmoved : (a : Axis) (low high : ℤ) (extent : Option Extent) → IsExtentOf (extended_axis a) low high extent → IsExtentBefore a 0 low high extent
 unmoved a low high extent is =
     let same : (x : ℤ) → x ≡ x -ℤ (a.width *ℤ pos 0) = λ x. omega (arith, ints) in

@@ -9,16 +9,16 @@ use Rattle.successor_box.specs.declared.cell_line.CellLine.{CellLine}
 use Rattle.successor_box.specs.SuccessorBoxes.{central_values}
 use Rattle.successor_box.specs.PairExtents.{IsExtentBeforeAt}
 
--- the index along a state of the cell so many places further along a line
+-- the index along a state of the cell so many cells further along a line
 abbrev pub index_on : List ℕ → ℕ → ℕ → ℕ → ℕ
 index_on indices along places k = slice_index indices k + (if k == along then places else 0)
 
--- A cell stands so many places along a line from where the states have these indices.
+-- A cell stands so many cells along a line from where the states have these indices.
 pub record IsCellOn (p : Description) (indices : List ℕ) (along places c : ℕ) : Type 0 where
   pub cell : c < cells_of (axes_of p)
   pub each : (k : ℕ) → k < length p.states → index_along (axes_of p) k c ≡ index_on indices along places k
 
--- there is a cell at each of so many places along a line
+-- there are so many cells along a line
 abbrev pub LiesInGrid : Description → List ℕ → ℕ → ℕ → Type 0
 LiesInGrid p indices along cells = (places : ℕ) → places < cells → (c : ℕ) × IsCellOn p indices along places c
 
@@ -52,7 +52,7 @@ HaveCentresOf p indices along cells line = (cell : ℕ → ℕ) → AreCellsOn p
 abbrev pub KeepCentres : Description → CellLine → CellLine → Type 0
 KeepCentres p old new = (cell : ℕ → ℕ) → AreCentresOf p cell old ↔ AreCentresOf p cell new
 
--- the extents of the first cells under an input, along the axis of a state, on the prolonged axis
+-- the extents of the first cells under an input, along the axis of a state, on the extended axis
 abbrev pub HoldExtentsUnder : Description → (ℕ → ℕ) → ℕ → ℕ → List (Option Extent) → Type 0
 HoldExtentsUnder p cell u i extents = (lane : ℕ) → lane < length extents → IsExtentBeforeAt p (cell lane) u i 0 (slice_index_or extents lane None)
 

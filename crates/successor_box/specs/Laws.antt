@@ -39,8 +39,8 @@ PointsLieWithTheirStates =
     (p : Description) (xs : List ℤ) → length p.states ≤ length xs →
     (IsInDomain (axes_of p) (point_of xs) ↔ IsInDomain (axes_of p) xs) × (cell_of (axes_of p) (point_of xs) ≡ cell_of (axes_of p) xs)
 
--- the extent along a state's axis, as many indices before as its cell moves it, depends on the pair's indices in the
--- variables of the state's equation alone, but for the state itself where it moves with that
+-- the extent along a state's axis, as many indices before as its cell shifts it, depends on the pair's indices in the
+-- variables of the state's equation alone, but for the state itself where it shifts with that
 abbrev pub ExtentsDependOnIndices : Type 0
 ExtentsDependOnIndices =
     (p : Description) (i c u d v : ℕ) (extent : Option Extent) → IsSound p → i < length p.equations →

@@ -25,24 +25,24 @@ IsBoxAlong p states c u found = IsBoxMeeting (take states (axes_of p)) (low_corn
 abbrev pub index_in : Description → ℕ → ℕ → ℕ → ℕ
 index_in p c u k = if nat_lt k (length p.states) then index_along (axes_of p) k c else value_index p.inputs (k - length p.states) u
 
--- the extents along an axis move with the cell's own index there: the state's equation moves with the state
+-- the extents along an axis shift with the cell's own index there: the state's equation shifts with the state
 abbrev pub moves_along : Description → ℕ → Bool
 moves_along p i = shifts_with (equation_at p i) i
 
--- how many indices a cell moves an extent along
+-- how many indices a cell shifts an extent
 abbrev pub shifted_by : Description → ℕ → ℕ → ℕ
 shifted_by p i c = if moves_along p i then index_along (axes_of p) i c else 0
 
--- the extent of the successor box along an axis, were the box so many indices before, on the prolonged axis
+-- the extent of the successor box along an axis, were the box so many indices before, on the extended axis
 abbrev pub IsExtentBeforeAt : Description → ℕ → ℕ → ℕ → ℕ → Option Extent → Type 0
 IsExtentBeforeAt p c u i indices extent =
     IsExtentBefore (slice_index_or (axes_of p) i no_axis) indices (slice_index_or (low_corner p c u) i (pos 0)) (slice_index_or (high_corner p c u) i (pos 0)) extent
 
--- indices, behind those of the states, are those of an input vector's values
+-- indices, after those of the states, are those of an input vector's values
 abbrev pub AreInputIndices : Description → List ℕ → ℕ → Type 0
 AreInputIndices p indices u = (k : ℕ) → k < length p.inputs → slice_index indices (length p.states + k) ≡ value_index p.inputs k u
 
--- an extent depends on a variable that stands in the state's equation, but for the state itself where the extent moves with it
+-- an extent depends on a variable that stands in the state's equation, but for the state itself where the extent shifts with it
 abbrev pub depends_on : Description → ℕ → ℕ → Bool
 depends_on p i k = mentions (equation_at p i) k && not (moves_along p i && k == i)
 

@@ -28,8 +28,8 @@ pub fn points_lie_with_their_states()
 {}
 
 /// The extent of a pair along a state's axis depends on its indices in the variables of the state's equation
-/// alone: pairs that are alike in these have one extent. Where the equation moves with the state itself, the
-/// extent depends on the others, and moves with the pair's index along the axis.
+/// alone: pairs that are alike in these have one extent. Where the equation shifts with the state itself, the
+/// extent depends on the others, and shifts with the pair's index along the axis.
 pub fn extents_depend_on_indices()
     ensures { ExtentsDependOnIndices }
 {}

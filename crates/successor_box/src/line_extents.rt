@@ -25,7 +25,7 @@ use interval_eval::Interval;
 use plant_record::PlantVersion;
 
 impl Sampled<'_> {
-    /// The extents of successor boxes along the axis of a state prolonged by its own length below, from which `Grid::shifted_extent`
+    /// The extents of successor boxes along the axis of a state extended by its own length below, from which `Grid::shifted_extent`
     /// goes on, each None where one of the box's ends leaves that too: of the first cells of a line, under an input vector. It takes
     /// no memory, and leaves the vector's values in the line. With what `additive_line` gives of the line the equation isn't evaluated
     /// again.

@@ -22,7 +22,7 @@ use std::marker::Model;
 /// How far each equation of a plant moves within a cell, by input vector.
 #[derive(Drop)]
 pub struct Slopes {
-    lanes: Vec<Vec<i128>>,
+    by_equation: Vec<Vec<i128>>,
 }
 
 impl Model for Slopes {
@@ -31,7 +31,7 @@ impl Model for Slopes {
 
     ghost Value = { List (List ℤ) };
 
-    ghost view = { λ s. map (λ (lane : Vec ℤ). lane.items) s.lanes.items };
+    ghost view = { λ s. map (λ (deviations : Vec ℤ). deviations.items) s.by_equation.items };
 }
 
 impl Slopes {
@@ -42,7 +42,7 @@ impl Slopes {
         requires input { input < length (slice_index_or self.now equation []) }
         ensures { result ≡ slice_index_or (slice_index_or self.now equation []) input (pos 0) }
     {
-        self.lanes[equation as usize][input as usize]
+        self.by_equation[equation as usize][input as usize]
     }
 }
 
@@ -54,11 +54,11 @@ pub fn find_slopes(alloc: Global, p: &Plant) -> Result<Slopes, SlopeFault>
     ensures overflow { IfErr result (λ f. IsOverflow p.now f) }
 {
     let radii = radii(p);
-    let mut lanes = Vec::new(alloc);
+    let mut by_equation = Vec::new(alloc);
     for equation in 0..p.equations().len() {
-        lanes.push(deviations_along(alloc, p, &radii, equation as u32)?)?;
+        by_equation.push(deviations_along(alloc, p, &radii, equation as u32)?)?;
     }
-    Ok(Slopes { lanes })
+    Ok(Slopes { by_equation })
 }
 
 /// The deviations of one equation, by input vector.
@@ -70,7 +70,7 @@ fn deviations_along(
 ) -> Result<Vec<i128>, SlopeFault>
     requires equation { equation < length p.now.equations }
     requires radii { AreRadii p.now radii.now }
-    ensures found { IfOk result (λ lane. lane.items ≡ deviations_along p.now (equation_at p.now equation)) }
+    ensures found { IfOk result (λ deviations. deviations.items ≡ deviations_along p.now (equation_at p.now equation)) }
     ensures fits { IfOk result (λ _. (u : ℕ) → u < vectors_of p.now.inputs → HasNoOverflowAt p.now equation u) }
     ensures overflow { IfErr result (λ f. IsOverflowAlong p.now equation f) }
 {

@@ -1,6 +1,6 @@
 //! The program.
 //!
-//! It gives its arguments and its standard streams to `run`, or to `run_live` for the word `live`, and ends with the
+//! It gives its arguments and its standard streams to `run`, or to `run_live` where the first is `live`, and ends with the
 //! status.
 #![tactic(auto)]
 
@@ -20,17 +20,17 @@ use std::sync::Wait;
 use std::thread::Threads;
 use synth_run::{Open, run};
 
-/// There was no memory for the words.
+/// There was no memory for the arguments.
 const NO_MEMORY: u8 = 8;
 
-/// The words could not be had, for example where one is no text.
-const UNREADABLE_WORDS: u8 = 10;
+/// The arguments could not be had, for example where one is no text.
+const UNREADABLE_ARGUMENTS: u8 = 10;
 
 fn main(rt: HostRuntime) -> ExitCode {
     let mut source = StdSource::new(rt.stdin());
     let mut out = StdSink::new(rt.stdout());
     let mut err = StdErrSink::new(rt.stderr());
-    let arguments = match own_words(&rt) {
+    let arguments = match own_arguments(&rt) {
         Ok(arguments) => arguments,
         Err(status) => return ExitCode::from(status),
     };
@@ -42,7 +42,7 @@ fn main(rt: HostRuntime) -> ExitCode {
     ExitCode::from(status)
 }
 
-/// Does what the words ask for, and answers the exit status.
+/// Does what the arguments request, and answers the exit status.
 fn carry_out<R: Threads + Wait + Sync, S: Source, O: Sink, E: Sink>(
     rt: &R,
     alloc: Global,
@@ -60,7 +60,7 @@ fn carry_out<R: Threads + Wait + Sync, S: Source, O: Sink, E: Sink>(
     }
 }
 
-/// Whether the first word is `live`.
+/// Whether the first argument is `live`.
 fn asks_for_live(arguments: &[&str]) -> bool
     ensures { IsTrue result ↔ BeginWithLive (as_words arguments.now) }
 {
@@ -73,12 +73,12 @@ fn is_live(word: &str) -> bool
     word == "live"
 }
 
-/// The words after the program's name, or the status that their lack gives.
-fn own_words<R: Env + AllocGlobal>(rt: &R) -> Result<Vec<String>, u8> {
+/// The arguments after the program's name, or the status with which the program ends without them.
+fn own_arguments<R: Env + AllocGlobal>(rt: &R) -> Result<Vec<String>, u8> {
     let args = match env::args(rt) {
         Ok(args) => args,
         Err(e) if e.kind() == ErrorKind::OutOfMemory => return Err(NO_MEMORY),
-        Err(_) => return Err(UNREADABLE_WORDS),
+        Err(_) => return Err(UNREADABLE_ARGUMENTS),
     };
     let mut arguments = Vec::new(rt.alloc());
     for word in args.skip(1) {
@@ -89,7 +89,7 @@ fn own_words<R: Env + AllocGlobal>(rt: &R) -> Result<Vec<String>, u8> {
     Ok(arguments)
 }
 
-/// The words as they are passed on.
+/// The arguments, borrowed.
 fn borrowed(alloc: Global, arguments: &[String]) -> Result<Vec<&str>, AllocError> {
     let mut texts = Vec::new(alloc);
     for word in arguments {

@@ -15,7 +15,7 @@ use Rattle.synth_run.specs.Headline.{IsAnswer}
 use Rattle.synth_run.specs.Played.{SolvesNothing}
 use Rattle.synth_run.specs.RunClauses.{IsAnswered, IsCutOff, IsRunOf}
 use Rattle.synth_run.specs.Sources.{bytes_for, most_read, LeavesAlone}
-use Rattle.synth_run.specs.inside.SolvedGames.{IsToBeLeft}
+use Rattle.synth_run.specs.inside.SolvedAbstractions.{IsToBeLeft}
 use Rattle.synth_run.specs.inside.Texts.{bytes_of}
 use Rattle.synth_run.specs.inside.Causes.{outcome_of}
 use Rattle.synth_run.specs.inside.Working.{IsWorkedOut, IsStopped, IsWrittenOut, IsLeftAfter}

@@ -8,16 +8,16 @@ use Rattle.plant_game.specs.Abstraction.{IsGameOf}
 use Rattle.abstraction_table.specs.Table.{game_of}
 use Rattle.command_line.specs.declared.command.Command.{Command}
 use Rattle.command_line.specs.declared.command.Command.TheVariants.{Synth, Check, Upgrade, Sim, Demo, Stay, Patrol}
-use Rattle.synth_run.specs.declared.solved_game.SolvedGame.{SolvedGame}
+use Rattle.synth_run.specs.declared.solved_abstraction.SolvedAbstraction.{SolvedAbstraction}
 use Rattle.run_devices.specs.Devices.{Reading}
 use Rattle.synth_run.specs.Played.{IsBoardFor, IsReckonedFor, IsSolvedOn, LeavesTheGameOf, IsPlayed, LeavesAGame, SolvesNothing}
-use Rattle.synth_run.specs.inside.SolvedGames.{IsSolvedGame, IsToBeLeft}
+use Rattle.synth_run.specs.inside.SolvedAbstractions.{IsSolvedAbstraction, IsToBeLeft}
 use Rattle.synth_run.specs.Sources.{bytes_for, most_read}
 use Rattle.synth_run.specs.inside.Making.{IsReadFor}
 use Rattle.synth_run.proofs.Limits.{of_front, long_front}
 
--- a plant's game, resolved for the plant's goal
-pub solved_on : (p : Description) (goal : GoalKind) (solved : SolvedGame) → goal ≡ p.goal → IsGameOf p (game_of solved.game) → IsSolvedGame goal solved → IsSolvedOn p solved.board solved.root
+-- a plant's game, solved for the plant's goal
+pub solved_on : (p : Description) (goal : GoalKind) (solved : SolvedAbstraction) → goal ≡ p.goal → IsGameOf p (game_of solved.game) → IsSolvedAbstraction goal solved → IsSolvedOn p solved.solution.board solved.solution.root
 solved_on p goal solved same abstraction h = record {
   game = game_of solved.game;
   abstraction = abstraction;

@@ -1,4 +1,4 @@
--- What a run leaves of the game that it solved: the board on which its workers resolved it, and the board's root.
+-- What a run leaves of the game that it solved: the board on which its workers solved it, and the board's root.
 use Rattle.std.specs.Prelude.{◌≡◌, ℕ, List, Option, Some, None}
 use Rattle.cell_counters.specs.declared.account.Account.{Account}
 use Rattle.cell_counters.specs.BoardModels.{BoardModel, RootModel}
@@ -27,7 +27,7 @@ abbrev pub IsReckonedFor : GoalKind → Game → List Account → Type 0
 IsReckonedFor Reach g accounts = IsReachReckoned g accounts
 IsReckonedFor Keep g accounts = IsKeepReckoned g accounts
 
--- The board on which a plant's game was resolved, with its root: no hand is out, and the accounts have exactly the cuts
+-- The board on which a plant's game was solved, with its root: no hand is out, and the accounts have exactly the cuts
 -- and the offers that the solution asks for. Of logs and notes nothing is said.
 pub record IsSolvedOn (p : Description) (board : BoardModel) (root : RootModel) : Type 0 where
   pub game : Game
@@ -37,7 +37,7 @@ pub record IsSolvedOn (p : Description) (board : BoardModel) (root : RootModel) 
   pub settled : root.out ≡ 0
   pub reckoned : IsReckonedFor p.goal game root.accounts
 
--- a board and its root are left, on which the plant's game was resolved
+-- a board and its root are left, on which the plant's game was solved
 abbrev pub LeavesTheGameOf : Description → Option (BoardModel × RootModel) → Type 0
 LeavesTheGameOf p played = (board : BoardModel) × (root : RootModel) × (played ≡ Some (board, root)) × IsSolvedOn p board root
 

@@ -1,6 +1,6 @@
 pub mod Causes
 pub mod Judging
 pub mod Making
-pub mod SolvedGames
+pub mod SolvedAbstractions
 pub mod Texts
 pub mod Working

@@ -1,4 +1,4 @@
-//! The game of a plant as it is seen ahead, or why the plant is refused.
+//! The forward abstraction of a plant, or why the plant is refused.
 
 ghost use Rattle.std.specs.Prelude.{IfOk, IfErr};
 ghost use Rattle.plant_game.specs.Abstraction.{IsGameOf};
@@ -14,7 +14,7 @@ use std::alloc::Global;
 use std::thread::Threads;
 use successor_box::find_slopes;
 
-/// The game of a plant as it is seen ahead, without its reversed edges.
+/// The forward abstraction of a plant: its game without source lists.
 pub fn forward_of<R: Threads + Sync>(
     rt: &R,
     alloc: Global,
@@ -29,7 +29,7 @@ pub fn forward_of<R: Threads + Sync>(
     Ok(game)
 }
 
-/// The plant that the bytes spell, with its game as it is seen ahead.
+/// The plant that the bytes spell, with its forward abstraction.
 pub fn forward_of_text<R: Threads + Sync>(
     rt: &R,
     alloc: Global,

@@ -9,7 +9,7 @@
 mod abstraction;
 mod commands;
 pub mod laws;
-mod solved_game;
+mod solved_abstraction;
 mod stop;
 mod text;
 mod top;

@@ -7,7 +7,7 @@ ghost use Rattle.command_line.specs.declared.command.Command.{Command};
 ghost use Rattle.synth_run.specs.IsOutcomeFor.{IsRefusalFor};
 ghost use Rattle.synth_run.specs.inside.Causes.{IsStopFor};
 ghost use Rattle.synth_run.specs.inside.Making.{IsReadFor, IsMade};
-ghost use Rattle.synth_run.specs.inside.SolvedGames.{HasItsGame};
+ghost use Rattle.synth_run.specs.inside.SolvedAbstractions.{HasItsGame};
 ghost use Rattle.synth_run.specs.inside.Texts.{CanBeWritten};
 ghost use Rattle.synth_run.specs.inside.Working.{HasItsAnswer, IsStopped, IsWrittenOut, IsLeftAfter};
 
@@ -29,14 +29,14 @@ use run_devices::{Sink, Source, WriteFault, read_up_to};
 use std::alloc::Global;
 use std::thread::Threads;
 
-/// The top call: does what the words ask for, and answers the exit status.
+/// The top call: does what the arguments request, and answers the exit status.
 ///
-/// 0: the answer was written. 1: a row of the table isn't right, or there is none where a trace would begin. 2: the words are of no command.
+/// 0: the answer was written. 1: a row of the table isn't right, or there is none where a trace would begin. 2: the arguments are of no command.
 /// 3: a line of the text is malformed. 4: a number leaves the range. 5: a limit is exceeded. 6: a read failed. 7: a write failed. 8: there
 /// was no memory left.
 ///
 /// The gate is passed before each item of each round of the game's workers (tested: `Gate`). At status 0 of `synth` and `demo`, `played`
-/// holds the board on which they resolved the game, with its root; at every other end it is None.
+/// holds the board on which they solved the game, with its root; at every other end it is None.
 pub fn run<R: Threads + Sync, S: Source, O: Sink, E: Sink, G: Gate>(
     rt: &R,
     alloc: Global,
@@ -62,7 +62,7 @@ pub fn run<R: Threads + Sync, S: Source, O: Sink, E: Sink, G: Gate>(
     outcome.status()
 }
 
-/// Does what the words ask for.
+/// Does what the arguments request.
 fn outcome_of<R: Threads + Sync, S: Source, O: Sink, G: Gate>(
     rt: &R,
     alloc: Global,

@@ -1,10 +1,11 @@
 //! Patrol, by the solver of the reach game under other marks, among the cells that the solver of the keep game keeps.
 ghost use Rattle.std.specs.Prelude.{◌≤◌, ◌*◌, length, IfOk};
+ghost use Rattle.base.specs.Workers.{AreWorkers};
 ghost use Rattle.plant_game.specs.Abstraction.{IsGameOf};
 ghost use Rattle.temporal_texts.specs.Targets.{IsInTarget};
 ghost use Rattle.temporal_games.specs.Patrol.{IsPatrol};
 ghost use Rattle.temporal_games.specs.inside.PatrolSearch.{IsAtStart};
-ghost use Rattle.base.specs.declared.limits.TheConstants.{TURNS_LIMIT, WORKERS_LIMIT};
+ghost use Rattle.base.specs.declared.limits.TheConstants.{TURNS_LIMIT};
 
 use crate::turns::PatrolSearch;
 use frontier_pool::Gate;
@@ -26,7 +27,7 @@ pub fn patrol<R: Threads + Sync, G: Graph + Sync, T: Gate>(
     gate: &T,
 ) -> Result<PatrolRows, NoMemory>
     requires game { IsGameOf p.now (G.game g.now) }
-    requires workers { (1 ≤ workers) × (workers ≤ WORKERS_LIMIT) }
+    requires workers { AreWorkers workers }
     requires size { (G.game g.now).cells * length p.now.targets ≤ TURNS_LIMIT }
     ensures { IfOk result (IsPatrol (G.game g.now) (IsInTarget p.now) (length p.now.targets)) }
 {
@@ -48,7 +49,7 @@ fn first_turns<R: Threads + Sync, G: Graph + Sync, T: Gate>(
     gate: &T,
 ) -> Result<PatrolSearch, NoMemory>
     requires game { IsGameOf p.now (G.game g.now) }
-    requires workers { (1 ≤ workers) × (workers ≤ WORKERS_LIMIT) }
+    requires workers { AreWorkers workers }
     ensures { IfOk result (IsAtStart p.now (G.game g.now)) }
 {
     let kept = keep(rt, alloc, g, workers, gate)?.answer;

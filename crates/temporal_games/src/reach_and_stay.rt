@@ -1,8 +1,8 @@
 //! Reach and stay, by the solvers of both games under other marks.
 ghost use Rattle.std.specs.Prelude.{◌≡◌, ◌≤◌, length, IfOk};
+ghost use Rattle.base.specs.Workers.{AreWorkers};
 ghost use Rattle.temporal_games.specs.Stay.{IsStaySolution};
 ghost use Rattle.temporal_games.specs.inside.StayMarks.{rows_over};
-ghost use Rattle.base.specs.declared.limits.TheConstants.{WORKERS_LIMIT};
 
 use crate::stay_marks::{marks_to_hold, marks_to_reach};
 use frontier_pool::Gate;
@@ -21,7 +21,7 @@ pub fn stay<R: Threads + Sync, G: Graph + Sync, T: Gate>(
     workers: u32,
     gate: &T,
 ) -> Result<Answer, NoMemory>
-    requires { (1 ≤ workers) × (workers ≤ WORKERS_LIMIT) }
+    requires { AreWorkers workers }
     ensures { IfOk result (IsStaySolution (G.game g.now)) }
 {
     let marks = marks_to_hold(alloc, g)?;

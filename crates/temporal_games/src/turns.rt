@@ -1,10 +1,10 @@
 //! The search for a patrol, turn by turn.
 ghost use Rattle.std.specs.Prelude.{◌≡◌, ℕ, ◌<◌, ◌≤◌, ◌^◌, true, false, length, IfOk, IfSome};
+ghost use Rattle.base.specs.Workers.{AreWorkers};
 ghost use Rattle.std.specs.Option.{IfNone};
 ghost use Rattle.plant_game.specs.Abstraction.{IsGameOf};
 ghost use Rattle.game_core.specs.Keep.{IsKeepSolution};
 ghost use Rattle.temporal_games.specs.inside.PatrolSearch.{PatrolProgress, is_due, AreLaterReachRows, AreTurnMarks, HasOneEach, HaveObstacles, IsAtStart, IsBefore, IsSolvedAt};
-ghost use Rattle.base.specs.declared.limits.TheConstants.{WORKERS_LIMIT};
 
 use crate::arrivals::Arrivals;
 use crate::best_row::best_row;
@@ -90,7 +90,7 @@ impl PatrolSearch {
         requires turn { turn < length self.old.due }
         requires one_each { HasOneEach self.old }
         requires marks { HaveObstacles (G.game g.now) self.old }
-        requires workers { (1 ≤ workers) × (workers ≤ WORKERS_LIMIT) }
+        requires workers { AreWorkers workers }
         ensures { IfOk result (λ _. IsSolvedAt (G.game g.now) turn self.old self.new) }
     {
         let rows = later_reach_rows(rt, alloc, g, &self.arrivals[turn as usize], workers, gate)?;
@@ -121,7 +121,7 @@ fn later_reach_rows<R: Threads + Sync, G: Graph + Sync, T: Gate>(
     gate: &T,
 ) -> Result<Answer, NoMemory>
     requires marks { AreTurnMarks (G.game g.now) (λ _. Unit {0}) arrivals.now }
-    requires workers { (1 ≤ workers) × (workers ≤ WORKERS_LIMIT) }
+    requires workers { AreWorkers workers }
     ensures { IfOk result (AreLaterReachRows (G.game g.now) arrivals.now) }
 {
     let game = Remark::new(g, arrivals.marks());

@@ -40,7 +40,7 @@ are_lines rows h =
       lines_then (run_lines Both rows) (end_line ∷ []) (runs_are_lines (runs_from Second 0 rows) (spelled_runs rows h)) (end_is_line, tt),
     )
 
--- the lines after the plant's text tell the rows of as many cells
+-- the lines after the plant's text give the rows of as many cells
 decoded_rows : (rows others : List (Option Row)) → AreSpelledOut rows → AreSpelledOut others → length rows ≡ length others → concat (lines_after rows) ≡ concat (lines_after others) → rows ≡ others
 decoded_rows rows others h k len e =
     let lines = same_lines (lines_after rows) (lines_after others) (are_lines rows h) (are_lines others k) e in

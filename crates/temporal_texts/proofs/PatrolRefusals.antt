@@ -33,7 +33,7 @@ patrol_texts_are_headed = record {
   one_line = λ k p bytes m n within r s. texts.one_refusal (TurnStep p) AreOver Met (turns_are_grammar p within) (AfterTurns 0 0 None) bytes m n tt r.1 s.1;
 }
 
--- the bytes after a plant tell these rows
+-- the bytes after a plant give these rows
 pub patrol_told : (bytes rest : List ℕ) (p : Description) (rows : List (List (Option Row))) → IsWithinLimits p → bytes ≡ patrol_line ++ text_of p ++ rest → EncodeTurns p rest rows → IsPatrolText bytes p rows
 patrol_told bytes rest p rows within are told = record {
   limits = within;

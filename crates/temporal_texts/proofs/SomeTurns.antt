@@ -1,4 +1,4 @@
--- No bytes tell no rows of turns and have no line that is refused.
+-- No bytes give no rows of turns and have no line that is refused.
 use Rattle.std.proofs.Common.{inl, inr, ◌≡◌, ℕ, zero, suc, ◌+◌, ◌^◌, ◌<◌, ◌≤◌, List, [], ◌∷◌, ◌++◌, length, Option, Some, None, refl, sym, ap, subst, ◌∙◌, append_assoc, append-nil, arith}
 use Rattle.std.specs.List.{AllByRecursion}
 use Rattle.game_core.specs.declared.game.Row.{Row}
@@ -37,9 +37,9 @@ module _ (p : Description) (within : IsWithinLimits p) where
   few : (n : ℕ) → n ≤ cells → n < 2 ^ 64
   few n le = let bound = within.cells in omega (arith, le, bound)
 
-  -- ---- the rows that the lines of one turn tell
+  -- ---- the rows that the lines of one turn give
 
-  -- Rows that lines tell, and how many they are.
+  -- Rows that lines give, and how many they are.
   record AreRowsOf (n : ℕ) (lines : List (List ℕ)) : Type 0 where
     rows : List (Option Row)
     are_within : AreRowsWithin (patrol_rules p) rows
@@ -110,7 +110,7 @@ module _ (p : Description) (within : IsWithinLimits p) where
 
   -- ---- the rows of all turns
 
-  -- Rows of the turns from one on, which lines and the end tell.
+  -- Rows of the turns from one on, which lines and the end give.
   record AreTurnsOf (j : ℕ) (lines : List (List ℕ)) : Type 0 where
     rows : List (List (Option Row))
     size : j + length rows ≡ length p.targets
@@ -147,7 +147,7 @@ module _ (p : Description) (within : IsWithinLimits p) where
         deny (record { rows = []; size = omega (arith, end.0); each = tt; lines_are = ap (λ (y : List ℕ). y ∷ lines) end.1 ∙ ap (λ (ys : List (List ℕ)). end_line ∷ ys) nothing }))
   ]
 
-  -- the text that is read tells rows
+  -- the text that is read gives rows
   text_told : (bytes : List ℕ) (to : TurnState) (rest : List ℕ) (lines : List (List ℕ)) → AreOver to rest → IsRead (TurnStep p) (AfterTurns 0 0 None) bytes lines to rest → (((rows : List (List (Option Row))) × EncodeTurns p bytes rows) → ⊥) → ⊥
   text_told bytes (AfterTurns j n last) rest lines over read deny = over
   text_told bytes AfterAll rest lines over read deny =

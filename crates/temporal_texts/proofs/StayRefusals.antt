@@ -26,7 +26,7 @@ stay_texts_are_headed = record {
   one_line = λ k p bytes m n within r s. one_row_refused (stay_rules p) (small_rules p within) bytes m n r s;
 }
 
--- the bytes after a plant tell these rows
+-- the bytes after a plant give these rows
 pub stay_told : (bytes rest : List ℕ) (p : Description) (rows : List (Option Row)) → IsWithinLimits p → bytes ≡ stay_line ++ text_of p ++ rest → IsRowsText (stay_rules p) rest rows → IsStayText bytes p rows
 stay_told bytes rest p rows within are told = record {
   limits = within;

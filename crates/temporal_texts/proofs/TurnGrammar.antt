@@ -1,4 +1,4 @@
--- The lines of turns are a grammar: each is one line, and tells one thing.
+-- The lines of turns are a grammar: each is one line, and says one thing.
 use Rattle.std.proofs.Common.{inl, inr, ◌≡◌, ℕ, zero, suc, ◌^◌, ◌<◌, ◌≤◌, List, [], ◌∷◌, length, length-append, Option, Some, None, refl, sym, ap, subst, ◌∙◌, arith}
 use Rattle.std.specs.Prelude.{codes}
 use Rattle.grid_quantiser.specs.Axes.{cells_of}
@@ -19,7 +19,7 @@ use Rattle.temporal_texts.proofs.PatrolRules.{small_rules}
 some_byte : IsLine [] → ⊥
 some_byte l = omega (arith, ap length l.are, length-append l.front (codes "\n"))
 
--- where turns are told, the state plays no part
+-- where turns are given, the state plays no part
 abbrev pub Met : TurnState → Type 0
 Met q = Unit {0}
 
@@ -87,7 +87,7 @@ module _ (p : Description) (within : IsWithinLimits p) where
 
 -- ---- the row lines of one turn
 
--- the place among the lines of all turns, where so many turns stand
+-- the position among the lines of all turns, where so many turns stand
 abbrev pub at_place : ℕ → RowState → TurnState
 at_place j Begin = AfterAll
 at_place j (Due n last) = AfterTurns j n last

@@ -35,7 +35,7 @@ patrol_text p rows = patrol_line ++ text_of p ++ concat (turn_lines 0 rows ++ en
 abbrev pub rows_for : List (List (Option Row)) → ℕ → List (Option Row)
 rows_for rows j = slice_index_or rows j []
 
--- What a patrol text tells.
+-- What a patrol text says.
 pub record PatrolModel : Type 0 where
   pub plant : Description
   pub rows : List (List (Option Row))

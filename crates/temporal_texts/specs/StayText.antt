@@ -21,7 +21,7 @@ abbrev pub stay_text : Description → List (Option Row) → List ℕ
 stay_text p rows =
     stay_line ++ text_of p ++ concat (count_line (length (run_lines Both rows)) ∷ run_lines Both rows ++ end_line ∷ [])
 
--- What a stay text tells.
+-- What a stay text says.
 pub record StayModel : Type 0 where
   pub plant : Description
   pub rows : List (Option Row)

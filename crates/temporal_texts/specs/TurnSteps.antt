@@ -1,4 +1,4 @@
--- Which line may come next where rows are told turn by turn: a turn's line, its row lines, those of the next turn, and the end.
+-- Which line may come next where rows are given turn by turn: a turn's line, its row lines, those of the next turn, and the end.
 use Rattle.std.specs.Prelude.{◌≡◌, ◌⊎◌, ℕ, zero, suc, ◌<◌, ◌≤◌, List, [], ◌∷◌, ◌++◌, length, Option, Some, None}
 use Rattle.std.specs.List.{concat}
 use Rattle.game_core.specs.declared.game.Row.{Row}
@@ -37,16 +37,16 @@ TurnStep p (AfterTurns j zero last) line to =
 TurnStep p (AfterTurns j (suc n) last) line to = (r : Run) × IsNextRow (patrol_rules p) last r line × (to ≡ AfterTurns j n (Some r))
 TurnStep p AfterAll line to = ⊥
 
--- the rows are told after the end, with no bytes left
+-- the rows are given after the end, with no bytes left
 abbrev pub AreOver : TurnState → List ℕ → Type 0
 AreOver (AfterTurns j n last) rest = ⊥
 AreOver AfterAll rest = rest ≡ []
 
--- the n-th line, from 1, is the first that is refused where a plant's rows are told turn by turn
+-- the n-th line, from 1, is the first that is refused where a plant's rows are given turn by turn
 abbrev pub AreTurnsRefusedAt : Description → List ℕ → ℕ → Type 0
 AreTurnsRefusedAt p bytes n = IsFirstRefused (TurnStep p) AreOver (AfterTurns 0 0 None) bytes n
 
--- The bytes tell these rows of a plant: for each turn its line and its row lines, and the end.
+-- The bytes give these rows of a plant: for each turn its line and its row lines, and the end.
 pub record EncodeTurns (p : Description) (bytes : List ℕ) (rows : List (List (Option Row))) : Type 0 where
   pub fitting : PatrolRowsFit p rows
   pub text : bytes ≡ concat (turn_lines 0 rows ++ end_line ∷ [])

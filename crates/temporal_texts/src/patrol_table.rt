@@ -11,7 +11,7 @@ use game_core::Row;
 use plant_record::Plant;
 use std::marker::Model;
 
-/// What a patrol text tells: a plant with few enough turns, and for each turn a row that fits it for some of its cells.
+/// What a patrol text says: a plant with few enough turns, and for each turn a row that fits it for some of its cells.
 #[derive(Drop)]
 pub struct PatrolTable {
     plant: Plant,

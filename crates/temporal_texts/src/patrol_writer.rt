@@ -1,7 +1,7 @@
 ghost use Rattle.std.specs.Prelude.{◌≡◌, IfOk};
 ghost use Rattle.temporal_texts.specs.PatrolText.{patrol_text};
 
-use crate::header::header_of;
+use controller_table::header_of;
 use crate::patrol_rows::PatrolRows;
 use crate::turn_lines::TurnLines;
 use game_core::NoMemory;

@@ -9,7 +9,7 @@ use game_core::{Answer, Row};
 use plant_record::Plant;
 use std::marker::Model;
 
-/// What a stay text tells: a plant, and for some of its cells a row that fits it.
+/// What a stay text says: a plant, and for some of its cells a row that fits it.
 #[derive(Drop)]
 pub struct StayTable {
     plant: Plant,

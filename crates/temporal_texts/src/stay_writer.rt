@@ -1,7 +1,7 @@
 ghost use Rattle.std.specs.Prelude.{◌≡◌, IfOk};
 ghost use Rattle.temporal_texts.specs.StayText.{stay_text};
 
-use crate::header::header_of;
+use controller_table::header_of;
 use game_core::{Answer, NoMemory};
 use plant_record::Plant;
 use row_runs::{FramedText, RowFormat, RunLines};

@@ -15,7 +15,7 @@ use row_reading::{RowFault, RowRules, after_prefix, take_number, take_rows};
 use row_runs::{RowFormat, TableVersion};
 use std::alloc::Global;
 
-/// The rows that the bytes tell for each turn.
+/// The rows that the bytes give for each turn.
 pub(crate) fn read_turns(alloc: Global, p: &Plant, bytes: &[u8]) -> Result<PatrolRows, RowFault>
     requires limits { IsWithinLimits p.now }
     requires size { length bytes.now < 2 ^ 31 }

@@ -33,6 +33,6 @@ pub always_answers : (t : TextModel) (x : List ℤ) (bytes : List ℕ) → Tells
 always_answers t x bytes tells values are before after number sized encodes =
     encodes.1 ∙ answers_by t x before after bytes tells values are sized encodes.0 encodes.2 encodes.3
 
--- the values move the plant as their input does
+-- the values have the step of their input
 pub moves : (p : Description) (s : LoopSample) (u : ℕ) → s.values ≡ vector_of p.inputs u → moved_by p s ≡ step_of p s.state u s.noise
 moves p s u are = ap (λ (values : List ℤ). map (λ e. value_of e (take (length p.states) s.state ++ values ++ take (length p.noises) s.noise)) p.equations) are

@@ -1,4 +1,4 @@
--- What is answered, by each text that tells the same.
+-- What is answered, by each text that says the same.
 use Rattle.std.proofs.Common.{◌≡◌, ℕ, List, sym, subst, ◌∙◌}
 use Rattle.std.specs.Prelude.{ℤ}
 use Rattle.std.proofs.lemmas.Option.{same_Some}

@@ -1,4 +1,4 @@
--- What a text tells is what each of its rows, choices and ranks speaks of.
+-- What a text says is what each of its rows, choices and ranks speaks of.
 use Rattle.std.proofs.Common.{inl, inr, ◌≡◌, ℕ, ◌<◌, List, [], length, Option, Some, refl, sym, ap, subst, ◌∙◌, arith}
 use Rattle.std.specs.Prelude.{ℤ}
 use Rattle.std.proofs.lemmas.Bool.{cases_lt}
@@ -33,7 +33,7 @@ module _ (bytes : List ℕ) (t : TextModel) where
   abbrev HasRow : List ℤ → Row → Type 0
   HasRow x row = HasRowAt t.plant (due_rows t) x row
 
-  -- ---- from the text to what it tells
+  -- ---- from the text to what it says
 
   stay_row : IsStayText bytes t.plant (due_rows t) → (x : List ℤ) (row : Row) → HasStayRow bytes x row → HasRow x row
   stay_row tells x row h =
@@ -67,7 +67,7 @@ module _ (bytes : List ℕ) (t : TextModel) where
   ranked_row Stay tells x k ranked = (ranked.0, stay_row tells x ranked.0 ranked.1, ranked.2)
   ranked_row Patrol tells x k ranked = (ranked.0, patrol_row tells t.turn x ranked.0 ranked.1, ranked.2)
 
-  -- ---- from what a text tells to the text
+  -- ---- from what a text says to the text
 
   pub has_stay_row : IsStayText bytes t.plant (due_rows t) → (x : List ℤ) (row : Row) → HasRow x row → HasStayRow bytes x row
   has_stay_row tells x row has = record { plant = t.plant; rows = due_rows t; table = tells; inside = has.inside; is = has.is }

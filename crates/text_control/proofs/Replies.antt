@@ -12,7 +12,7 @@ use Rattle.text_control.specs.Each.{piece, EncodesReplyAt}
 use Rattle.text_control.proofs.Pieces.{width, piece_is, piece_other, piece_here, later_same, length_written, drop_next}
 use Rattle.base.proofs.Products.{part_fits}
 
--- the k-th number tells the reply at the k-th piece
+-- the k-th number means the reply at the k-th piece
 abbrev pub EncodesPiece : TextModel → ℕ → ℕ → List ℤ → List ℤ → List ℤ → List ℤ → ℕ → Type 0
 EncodesPiece t size capacity states before after numbers k = EncodesReply t (piece size k states) (piece capacity k before) (piece capacity k after) (get_or numbers k (pos 0))
 

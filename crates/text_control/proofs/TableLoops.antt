@@ -73,7 +73,7 @@ module _ (bytes : List ℕ) (t : TextModel) (version : TableVersion) (tells : Te
   chooses : (x : List ℤ) (u : ℕ) → IsChoice bytes x u → AlwaysAnswers t x
   chooses x u c = always_answers t x bytes tells (vector_of c.plant.inputs u) (subst (λ (kd : TextKind). AreTextValues kd t.turn bytes x (vector_of c.plant.inputs u)) (sym kind) (u, c, refl))
 
-  -- the plant moves by the input that a choice names
+  -- the plant makes a step under the input that a choice names
   moves_on : (s : LoopSample) (x : List ℤ) (u : ℕ) → s.state ≡ x → Answers t x s.values → IsChoice bytes x u → step_of p x u s.noise ≡ moved_by p s
   moves_on s x u at answers is =
       let c = choice x s.values answers in

@@ -78,7 +78,7 @@ refused_as Patrol bytes t f tells few (inr (inr h)) = h.1 (begins patrol_line (t
 pub text_or_refused : TextOrRefused
 text_or_refused bytes t f tells few refused = refused_as t.kind bytes t f tells few refused
 
--- what a text of a kind tells, if it has one turn
+-- what a text of a kind says, if it has one turn
 abbrev told : TextKind → Description → List (List (Option Row)) → TextModel
 told kind p turns = record { kind = kind; plant = p; turns = turns; turn = 0 }
 

@@ -1,4 +1,4 @@
--- When the turn changes, by each patrol text that tells the same.
+-- When the turn changes, by each patrol text that says the same.
 use Rattle.std.proofs.Common.{inl, inr, ◌≡◌, ℕ, List, ap, subst}
 use Rattle.std.specs.Prelude.{ℤ}
 use Rattle.game_core.specs.declared.game.Row.{Row}

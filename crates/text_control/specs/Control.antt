@@ -1,4 +1,4 @@
--- What is to be done at a state by what a text tells, and by each text that tells it.
+-- What is to be done at a state by what a text says, and by each text that says it.
 use Rattle.std.specs.Prelude.{◌≡◌, ℕ, ◌<◌, ℤ, pos, negsuc, List, length}
 use Rattle.game_core.specs.declared.game.Row.{Row}
 use Rattle.plant_record.specs.declared.aims.GoalKind.{GoalKind}
@@ -87,11 +87,11 @@ IsReplyBy kind j bytes x after replies.Arrived = HasTextRank kind j bytes x 0 ×
 IsReplyBy kind j bytes x after replies.NoRow = HasNoTextRank kind j bytes x × AppliesNone kind j bytes x
 IsReplyBy kind j bytes x after replies.WrongSizes = Unit {0}
 
--- whatever text tells this
+-- whatever text says this
 abbrev pub IsReplyByText : TextModel → List ℤ → List ℤ → Reply → Type 0
 IsReplyByText t x after reply = (bytes : List ℕ) → Tells bytes t → IsReplyBy t.kind t.turn bytes x after reply
 
--- a number that tells a reply, and the text's reply, by the numbers in the inputs before and after it
+-- a number that means a reply, and the text's reply, by the numbers in the inputs before and after it
 abbrev pub EncodesReply : TextModel → List ℤ → List ℤ → List ℤ → ℤ → Type 0
 EncodesReply t x before after number =
     (reply : Reply) × (number ≡ reply_number reply) × IsReply t x before after reply × IsReplyByText t x after reply
@@ -102,10 +102,10 @@ pub record IsRankAt (t : TextModel) (x : List ℤ) (rank : ℕ) : Type 0 where
   pub has : HasRowAt t.plant (due_rows t) x row
   pub is : rank ≡ row.rank
 
--- the rank at the state, and by whatever text tells this
+-- the rank at the state, and by whatever text says this
 abbrev pub IsRank : TextModel → List ℤ → ℕ → Type 0
 IsRank t x rank = IsRankAt t x rank × ((bytes : List ℕ) → Tells bytes t → HasTextRank t.kind t.turn bytes x rank)
 
--- the cell of the state has no row for the turn, and by whatever text tells this
+-- the cell of the state has no row for the turn, and by whatever text says this
 abbrev pub IsUnranked : TextModel → List ℤ → Type 0
 IsUnranked t x = HasNoRow t x × ((bytes : List ℕ) → Tells bytes t → HasNoTextRank t.kind t.turn bytes x)

@@ -12,7 +12,7 @@ pub record AreSizedEach (t : TextModel) (count : ℕ) (xs before : List ℤ) : T
   pub states : length xs ≡ count * length t.plant.states
   pub inputs : length before ≡ count * length t.plant.inputs
 
--- the k-th number tells the reply at the k-th state
+-- the k-th number means the reply at the k-th state
 abbrev pub EncodesReplyAt : TextModel → List ℤ → List ℤ → List ℤ → List ℤ → ℕ → Type 0
 EncodesReplyAt t states before after numbers k =
     EncodesReply t (piece (length t.plant.states) k states) (piece (length t.plant.inputs) k before) (piece (length t.plant.inputs) k after) (slice_index_or numbers k (pos 0))
@@ -21,7 +21,7 @@ EncodesReplyAt t states before after numbers k =
 abbrev pub AreReplies : TextModel → List ℤ → List ℤ → List ℤ → List ℤ → Type 0
 AreReplies t states before after numbers = (k : ℕ) → k < length numbers → EncodesReplyAt t states before after numbers k
 
--- each number is told, or the sizes are wrong and nothing is changed
+-- each number is set, or the sizes are wrong and nothing is changed
 abbrev pub IsReplyEach : TextModel → List ℤ → List ℤ → List ℤ → List ℤ → List ℤ → Bool → Type 0
 IsReplyEach t states before after old new true =
     AreSizedEach t (length old) states before × (length new ≡ length old) × AreReplies t states before after new

@@ -22,7 +22,7 @@ use Rattle.text_control.specs.Loops.{LoopSample, moved_by, AlwaysAnswers, IsLoop
 abbrev pub HasFewEnoughTurns : TextModel → Type 0
 HasFewEnoughTurns t = t.kind ≡ Patrol → HasFewTurns t.plant
 
--- bytes tell what is read from them
+-- bytes say what is read from them
 abbrev pub ReadTextsTell : Type 0
 ReadTextsTell = (bytes : List ℕ) (t : TextModel) → IsReadFrom bytes t → Tells bytes t
 

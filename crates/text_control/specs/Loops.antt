@@ -1,4 +1,4 @@
--- Loops that apply at each sample what is answered at the state: the plant moves by the values, under a noise.
+-- Loops that apply at each sample what is answered at the state: the plant makes a step under the values and a noise.
 use Rattle.std.specs.Prelude.{◌≡◌, ℤ, pos, List, [], ◌∷◌, ◌++◌, length, map, take}
 use Rattle.fixed_expr.specs.Value.{value_of}
 use Rattle.plant_record.specs.Description.{Description}

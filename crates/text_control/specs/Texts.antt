@@ -1,4 +1,4 @@
--- What a table, a stay text or a patrol text tells, and the turn that is due.
+-- What a table, a stay text or a patrol text says, and the turn that is due.
 use Rattle.std.specs.Prelude.{◌≡◌, ◌⊎◌, ℕ, ◌<◌, List, [], ◌∷◌, ◌++◌, length, Option, IfSome}
 use Rattle.std.specs.List.{All}
 use Rattle.game_core.specs.declared.game.Row.{Row}
@@ -20,7 +20,7 @@ use Rattle.text_control.specs.declared.text_kind.TextKind.TheVariants.{Table, St
 use Rattle.text_control.specs.declared.text_fault.TextFault.{TextFault}
 use Rattle.text_control.specs.declared.text_fault.TextFault.TheVariants.{Malformed, Limit, Memory}
 
--- What a text tells, for each turn one optional row for each cell; and the turn that is due. A patrol has a turn for each target,
+-- What a text says, for each turn one optional row for each cell; and the turn that is due. A patrol has a turn for each target,
 -- another text has one.
 pub record TextModel : Type 0 where
   pub kind : TextKind
@@ -38,29 +38,29 @@ pub record TurnsFit (p : Description) (turns : List (List (Option Row))) : Type 
   pub one_row_each : All (λ (rows : List (Option Row)). length rows ≡ cells_of (axes_of p)) turns
   pub each : All (λ (rows : List (Option Row)). All (λ row. IfSome row (λ (r : Row). r.input < vectors_of p.inputs)) rows) turns
 
--- what a table tells
+-- what a table says
 abbrev pub of_table : TableModel → TextModel
 of_table t = record { kind = Table t.version; plant = t.plant; turns = t.rows ∷ []; turn = 0 }
 
--- what a stay text tells
+-- what a stay text says
 abbrev pub of_stay : StayModel → TextModel
 of_stay t = record { kind = Stay; plant = t.plant; turns = t.rows ∷ []; turn = 0 }
 
--- what a patrol text tells, where its first turn is due
+-- what a patrol text says, where its first turn is due
 abbrev pub of_patrol : PatrolModel → TextModel
 of_patrol t = record { kind = Patrol; plant = t.plant; turns = t.rows; turn = 0 }
 
--- the bytes are a text of this kind that tells the plant and the rows
+-- the bytes are a text of this kind that says the plant and the rows
 abbrev pub TellsAs : TextKind → List ℕ → TextModel → Type 0
 TellsAs (Table version) bytes t = IsTable bytes t.plant (due_rows t)
 TellsAs Stay bytes t = IsStayText bytes t.plant (due_rows t)
 TellsAs Patrol bytes t = IsPatrolText bytes t.plant t.turns
 
--- the bytes are a text that tells this
+-- the bytes are a text that says this
 abbrev pub Tells : List ℕ → TextModel → Type 0
 Tells bytes t = TellsAs t.kind bytes t
 
--- this is all that the bytes tell, which are a table, in its version, a stay text or a patrol text
+-- this is all that the bytes say, which are a table, in its version, a stay text or a patrol text
 abbrev pub IsReadFrom : List ℕ → TextModel → Type 0
 IsReadFrom bytes t =
     ((table : TableModel) × (t ≡ of_table table) × IsTableIn table.version bytes table.plant table.rows)

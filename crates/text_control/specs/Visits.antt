@@ -37,7 +37,7 @@ IsVisit t x after Next = (length x ≡ length t.plant.states) × HasArrivedInTur
 IsVisit t x after Same = (length x ≡ length t.plant.states) × (HasArrivedInTurn t x → ⊥) × (after ≡ t)
 IsVisit t x after WrongSize = (length x ≡ length t.plant.states → ⊥) × (after ≡ t)
 
--- the turn is that of whatever patrol text tells this
+-- the turn is that of whatever patrol text says this
 abbrev pub IsVisitByText : TextModel → List ℤ → TextModel → Visit → Type 0
 IsVisitByText t x after Next = (bytes : List ℕ) → Tells bytes t → t.kind ≡ Patrol → IsTurnFrom t.plant bytes t.turn x after.turn
 IsVisitByText t x after Same = (bytes : List ℕ) → Tells bytes t → t.kind ≡ Patrol → IsTurnFrom t.plant bytes t.turn x after.turn
@@ -49,6 +49,6 @@ visit_number Next = pos 1
 visit_number Same = pos 0
 visit_number WrongSize = negsuc 1
 
--- a number that tells what a visit does, also by the text
+-- a number that means what a visit does, also by the text
 abbrev pub EncodesVisit : TextModel → List ℤ → TextModel → ℤ → Type 0
 EncodesVisit t x after number = (visit : Visit) × (number ≡ visit_number visit) × IsVisit t x after visit × IsVisitByText t x after visit

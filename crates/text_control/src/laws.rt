@@ -2,7 +2,7 @@
 
 ghost use Rattle.text_control.specs.Laws.{ReadTextsTell, OneTextRefusal, TextOrRefused, NoBytesAreNeither, ReachLoopsArrive, KeepLoopsGoOn, StayLoopsSettle, PatrolLoopsGoOn};
 
-/// Bytes tell what is read from them.
+/// Bytes say what is read from them.
 pub fn read_texts_tell()
     ensures { ReadTextsTell }
 {}

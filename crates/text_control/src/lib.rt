@@ -1,9 +1,9 @@
 //! What a text says to do at a state.
 //!
-//! The layer above gives the bytes of a table, of a stay text or of a patrol text, and gets what they tell as a `PackedText`
+//! The layer above gives the bytes of a table, of a stay text or of a patrol text, and gets what they say as a `PackedText`
 //! in little memory, or why they are none of the three. At each sample it gives a state's numbers. It gets the values of the
 //! input vector that the text applies there, or learns that there are none; for one state or for many. Of a patrol it is
-//! told when the next turn begins. By its contracts these are the answers of each text that tells the same.
+//! told when the next turn begins. By its contracts these are the answers of each text that says the same.
 #![tactic(auto)]
 
 mod at_state;

@@ -20,7 +20,7 @@ use std::alloc::Global;
 use std::marker::Model;
 use temporal_texts::{PatrolTable, StayTable};
 
-/// What a table, a stay text or a patrol text tells, in little memory: its rows take 8 bytes for each stretch of cells with
+/// What a table, a stay text or a patrol text says, in little memory: its rows take 8 bytes for each stretch of cells with
 /// one row or with none. Of a patrol it keeps which turn is due.
 #[derive(Drop)]
 pub struct PackedText {
@@ -45,7 +45,7 @@ impl Model for PackedText {
 }
 
 impl PackedText {
-    /// What a table tells.
+    /// What a table says.
     pub fn from_table(alloc: Global, table: Table) -> Result<PackedText, NoMemory>
         ensures { IfOk result (λ text. text ≡ of_table table) }
     {
@@ -53,7 +53,7 @@ impl PackedText {
         one_turn(alloc, TextKind::Table(version), plant, &answer)
     }
 
-    /// What a stay text tells.
+    /// What a stay text says.
     pub fn from_stay(alloc: Global, table: StayTable) -> Result<PackedText, NoMemory>
         ensures { IfOk result (λ text. text ≡ of_stay table) }
     {
@@ -61,7 +61,7 @@ impl PackedText {
         one_turn(alloc, TextKind::Stay, plant, &answer)
     }
 
-    /// What a patrol text tells; the first turn is due.
+    /// What a patrol text says; the first turn is due.
     pub fn from_patrol(alloc: Global, table: PatrolTable) -> Result<PackedText, NoMemory>
         ensures { IfOk result (λ text. text ≡ of_patrol table) }
     {

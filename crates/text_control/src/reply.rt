@@ -15,7 +15,7 @@ pub enum Reply {
 }
 
 impl Reply {
-    /// The number that other languages are told.
+    /// The number that a C caller is told.
     pub fn number(self) -> i32
         ensures { result ≡ reply_number self }
     {

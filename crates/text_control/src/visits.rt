@@ -13,7 +13,7 @@ pub enum Visit {
 }
 
 impl Visit {
-    /// The number that other languages are told.
+    /// The number that a C caller is told.
     pub fn number(self) -> i32
         ensures { result ≡ visit_number self }
     {

@@ -19,7 +19,7 @@ first_of p digits c = sum_by (λ (d : Digit). index_in p c 0 d.variable * d.stri
 abbrev pub extent_in : ExtentTable → ℕ → ℕ → Option Extent
 extent_in t first u = slice_index_or t.extents (first + slice_index t.inputs.items u) None
 
--- an extent is that of some range on the prolonged axis of a state
+-- an extent is that of some range on the extended axis of a state
 abbrev pub IsRelativeExtent : Description → ℕ → Option Extent → Type 0
 IsRelativeExtent p i extent = (low : ℤ) × (high : ℤ) × (low ≤ℤ high) × IsExtentOf (extended_axis (slice_index_or (axes_of p) i no_axis)) low high extent
 

@@ -16,7 +16,7 @@ use Rattle.cell_counters.specs.BoardModels.{BoardModel, RootModel, HandModel, bl
 abbrev pub setup_of : Beginning → Setup
 setup_of b = record { starts = take b.counters b.words.items; least = drop b.counters b.words.items; slots = b.slots }
 
--- the word that counts the logs: it stands after the counters and the least words
+-- the word that counts the logs: it stands after the counters and the minima
 abbrev pub tail_of : Setup → ℕ
 tail_of n = length n.starts + length n.least
 
@@ -33,7 +33,7 @@ abbrev pub made_of : List View → ℕ
 made_of [] = 0
 made_of (root ∷ hands) = root.made
 
--- lawful for a least word, which is free only where it began free and nothing was offered
+-- lawful for a minimum, which is free only where it began free and nothing was offered
 pub record Stands (accounts : List Account) (word start now : ℕ) : Type 0 where
   pub lawful : IsLawfulLeast accounts word start now
   pub offered : 0 < length (all_offers word accounts) → now < NONE
@@ -43,7 +43,7 @@ pub record Stands (accounts : List Account) (word start now : ℕ) : Type 0 wher
 abbrev pub ExplainsCounters : List ℕ → List ℕ → List Account → Type 0
 ExplainsCounters starts words accounts = (c : ℕ) → c < length starts → IsLawfulCounter accounts c (slice_index starts c) (slice_index words c)
 
--- these accounts are lawful for each least word
+-- these accounts are lawful for each minimum
 abbrev pub ExplainsLeast : List ℕ → List ℕ → List ℕ → List Account → Type 0
 ExplainsLeast starts least words accounts = (w : ℕ) → w < length least → Stands accounts w (slice_index least w) (slice_index words (length starts + w))
 
@@ -144,7 +144,7 @@ hand_model table v = record { board = board_of table v.began; account = account_
 abbrev pub Seated : Type 0
 Seated = Me (Unit {0}) View
 
--- the table has the counters first, then the least words, the tail and the slots, at most 2^32 words
+-- the table has the counters first, then the minima, the tail and the slots, at most 2^32 words
 pub record IsSized (b : Beginning) (counters tail slots words : ℕ) : Type 0 where
   pub split : counters ≡ b.counters
   pub within : counters ≤ tail

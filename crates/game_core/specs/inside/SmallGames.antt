@@ -6,7 +6,7 @@ use Rattle.game_core.specs.declared.game.Row.{Row}
 use Rattle.game_core.specs.declared.tally.Tally.{Tally}
 use Rattle.game_core.specs.Game.{Game}
 
--- five cells in a row, of which the last is a goal, and two inputs that lead to the cell on either side
+-- five cells side by side, of which the last is a goal, and two inputs that lead to the cell on either side
 abbrev pub line : Game
 line = record {
   cells = 5;
@@ -24,7 +24,7 @@ line_rows =
 abbrev pub line_tally : Tally
 line_tally = record { cuts = 8; offers = 8; rounds = 5 }
 
--- five cells in a row, of which the last two are goals, and two inputs that lead on
+-- five cells side by side, of which the last two are goals, and two inputs that lead on
 abbrev pub corridor : Game
 corridor = record {
   cells = 5;

@@ -14,9 +14,9 @@ loop-k-preserved c =
     let back : c.loop-k.k ≡ k + 1 = omega arith in
     let within : k < length counts = omega arith in
     let some : 0 < size counts = omega (arith, c.requires.below) in
-    found_more counts c.args.distance k within some c.args.i c.loop-k.stride c.loop-k.rest c.loop-k.left c.loop-k.nth c.split-quotient.result.0 c.split-quotient.result.1 c.split-turns.result.0 c.split-turns.result.1
+    found_more counts c.args.distance k within some c.args.i c.loop-k.stride c.loop-k.rest c.loop-k.left c.loop-k.nth c.split-quotient.result.0 c.split-quotient.result.1 c.split-carry.result.0 c.split-carry.result.1
     (subst (λ (j : ℕ). IsFound counts c.args.distance c.args.i j c.loop-k.stride c.loop-k.rest c.loop-k.left c.loop-k.nth) back c.loop-k.invariant)
-    c.split-quotient.ensures.quotient c.split-quotient.ensures.left c.split-turns.ensures.quotient c.split-turns.ensures.left
+    c.split-quotient.ensures.quotient c.split-quotient.ensures.left c.split-carry.ensures.quotient c.split-carry.ensures.left
 
 pub overflow_add-nth : goal.overflow_add-nth
 overflow_add-nth c =

@@ -3,7 +3,7 @@ use Rattle.std.specs.Prelude.{ℕ, ◌+◌, ◌*◌, ◌/◌, ◌<◌, ◌≤◌
 use Rattle.packed_rows.specs.RowWords.{cell_in}
 use Rattle.packed_rows.specs.declared.word_positions.TheConstants.{CELLS_EACH}
 
--- The last word that tells a cell or one before it stands at this position.
+-- The last word with a cell or one before it stands at this position.
 pub record IsLastUpTo (words : List ℕ) (c position : ℕ) : Type 0 where
   pub within : position < length words
   pub before : cell_in (slice_index words position) ≤ c

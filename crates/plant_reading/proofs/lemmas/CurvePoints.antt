@@ -78,7 +78,7 @@ colon_takes : (ts rest : List TokenKind) → after_colon ts ≡ Some rest → ts
 colon_takes (kind.Colon ∷ ts) rest e = cc
 colon_takes ts rest e = absurd cc
 
--- the tokens of a point's parts, one behind another
+-- the tokens of a point's parts, one after another
 point_spelled : (a b : ℤ) (ts us vs rest : List TokenKind) → ts ≡ signed_kinds a ++ us → us ≡ kind.Colon ∷ vs → vs ≡ signed_kinds b ++ rest → ts ≡ pair_kinds (a, b) ++ rest
 point_spelled a b ts us vs rest first colon second =
     first

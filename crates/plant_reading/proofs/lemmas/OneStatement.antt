@@ -1,4 +1,4 @@
--- A line states one thing at most, and nothing where it is passed over.
+-- A line states one thing at most, and nothing where it is skipped.
 use Rattle.std.proofs.Common.{◌≡◌, ◌≢◌, ap₂, ℕ, zero, suc, ◌+◌, ◌-◌, ◌*◌, ◌<◌, true, List, [], ◌∷◌, ◌++◌, length, get_or, map, take, replicate, refl, sym, ap, ◌∙◌, subst, arith}
 use Rattle.std.specs.Prelude.{ℤ, pos, AllPairs}
 use Rattle.std.specs.List.{All, AllZip, flat_map}
@@ -133,7 +133,7 @@ one_statement names n words (Goal i) (Goal j) one differ named h k = ap Goal (on
 one_statement names n words End End one differ named h k = refl
 one_statement names n words s t one differ named h k = absurd (omega (arith, same_kind names n words s t h k))
 
--- ---- lines that are passed over
+-- ---- lines that are skipped
 
 first_of_skipped : (line : List ℕ) (words : List (List ℕ)) → words_of line ≡ words → is_skipped line ≡ true → (front_of words).0 < 36
 first_of_skipped line [] e passed = omega arith

@@ -155,7 +155,7 @@ greatest m b ts y e p h =
     let g = c.sum in
     record { tree = MaxTree f.tree g.tree; grammatical = (f.grammatical, g.grammatical); level = omega arith; means = cc (f.means, g.means, k.0); yields = ap (λ (us : List TokenKind). kind.Max ∷ us) (pair_spelled (kinds_of f.tree) (kinds_of g.tree) y.2 ts p.inner c.after p.rest p.opened f.yields g.yields c.close); brackets = omega (arith, p.some, f.brackets, g.brackets); small = k.1 }
 
--- the tokens of a table behind its word
+-- the tokens of a table after its word
 table_spelled : (u v rest inner after ts : List TokenKind) → v ++ kind.Close ∷ rest ≡ after → u ++ after ≡ inner → ts ≡ kind.Open ∷ inner → (kind.Lut ∷ kind.Open ∷ (u ++ (v ++ kind.Close ∷ []))) ++ rest ≡ kind.Lut ∷ ts
 table_spelled u v rest inner after ts points sum opened =
     ap (λ (us : List TokenKind). kind.Lut ∷ us) (ap (λ (us : List TokenKind). kind.Open ∷ us) (append_assoc u (v ++ kind.Close ∷ []) rest ∙ ap (λ (us : List TokenKind). u ++ us) (append_assoc v (kind.Close ∷ []) rest ∙ points) ∙ sum) ∙ sym opened)

@@ -1,4 +1,4 @@
--- The words of a line state one thing at most, and a line that is passed over states nothing.
+-- The words of a line state one thing at most, and a line that is skipped states nothing.
 use Rattle.plant_reading.specs.inside.StatementLaws.{OneStatement, SkippedLinesStateNothing}
 use Rattle.plant_reading.proofs.lemmas.OneStatement as lines
 use Rattle.plant_reading.proofs.lemmas.ExpressionLaws.{one_expression}

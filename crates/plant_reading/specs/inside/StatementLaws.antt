@@ -10,7 +10,7 @@ abbrev pub OneStatement : Type 0
 OneStatement =
     (names : List (List ℕ)) (n : ℕ) (words : List (List ℕ)) (s t : Statement) → AllPairs (λ a b. a ≢ b) names → All IsName names → States names n words s → States names n words t → s ≡ t
 
--- a line that is passed over states nothing
+-- a line that is skipped states nothing
 abbrev pub SkippedLinesStateNothing : Type 0
 SkippedLinesStateNothing =
     (names : List (List ℕ)) (n : ℕ) (line : List ℕ) (s : Statement) → is_skipped line ≡ true → States names n (words_of line) s → ⊥

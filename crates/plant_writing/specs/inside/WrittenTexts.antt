@@ -8,11 +8,11 @@ use Rattle.plant_writing.specs.declared.expression_writer.Level.{Level}
 use Rattle.plant_writing.specs.ExpressionText.{expression_text, point_text}
 use Rattle.plant_writing.specs.inside.WriterLevels.{number_of}
 
--- the text of an expression at a place that asks for a level
+-- the text of an expression at a position that needs a level
 abbrev pub text_at : List (List ℕ) → Level → Expr → List ℕ
 text_at names asked e = expression_text names (number_of asked) (expression_of e)
 
--- the texts of two expressions at their places, with a text between
+-- the texts of two expressions at their positions, with a text between
 abbrev pub pair_text : List (List ℕ) → Level × Bor Expr → List ℕ → Level × Bor Expr → List ℕ
 pair_text names left between right = text_at names left.0 left.1.now ++ between ++ text_at names right.0 right.1.now
 

@@ -27,7 +27,7 @@ abbrev pub least_from : ℕ → List ℕ → ℕ
 least_from start [] = start
 least_from start (v ∷ rest) = least_from (min start v) rest
 
--- the least word of a cell after these accounts
+-- the minimum of a cell after these accounts
 abbrev pub word_after : Game → List Account → ℕ → ℕ
 word_after g accounts c = least_from (word_at (mark_of g c)) (values (all_offers c accounts))
 
@@ -53,7 +53,7 @@ count_ranked_below g rows k pair = count_by (λ s. below_in k (row_of rows s)) (
 abbrev pub is_done : Game → List (Option Row) → ℕ → ℕ → Bool
 is_done g rows k pair = nat_lt 0 (length (successors_at g pair)) && (count_ranked_below g rows k pair == length (successors_at g pair))
 
--- the bids of the pairs that are done, by the ranks of their successors
+-- the offers of the pairs that are done, by the ranks of their successors
 abbrev pub due_offers : Game → List (Option Row) → ℕ → List (ℕ × ℕ)
 due_offers g rows k = map (λ pair. due_offer g (rank_by g rows pair) pair) (filter (is_done g rows k) (all_pairs g))
 
@@ -98,7 +98,7 @@ IsFull rows rank = (rank ≡ 0) ⊎ ((c : ℕ) × (row : Row) × (row_of rows c 
 abbrev pub last_cuts : List Cut → List ℕ
 last_cuts cuts = cut_to 0 cuts
 
--- what the account of a worker keeps in the round of a rank: each cut that used up a pair bid, and each cell that was first bid on was logged
+-- what the account of a worker keeps in the round of a rank: each cut that left nothing was followed by an offer, and each cell with a first offer was logged
 pub record KeepsRule (g : Game) (rank : ℕ) (a : Account) : Type 0 where
   pub no_other_cut : All (λ (c : Cut). c.counter < pairs_of g) a.cuts
   pub offers : map word_and_value a.offers ≡ map (due_offer g (suc rank)) (last_cuts a.cuts)

@@ -5,7 +5,7 @@ use Rattle.game_core.specs.Game.{Game}
 use Rattle.board_rounds.specs.Crew.{logged_cells, claimed_words}
 use Rattle.reach_avoid.specs.ReachReckoned.{word_and_value, due_offer}
 
--- a worker has bid for a pair, and logged the pair's cell where it was the first to bid on it
+-- a worker has made a pair's offer, and logged the pair's cell where the offer was its first
 pub record DueOffers (g : Game) (rank pair : ℕ) (before after : HandModel) : Type 0 where
   pub at : after.board ≡ before.board
   pub cuts : after.account.cuts ≡ before.account.cuts
@@ -13,7 +13,7 @@ pub record DueOffers (g : Game) (rank pair : ℕ) (before after : HandModel) : T
   pub logs : logged_cells before.account.logs ≡ claimed_words before.account.offers → logged_cells after.account.logs ≡ claimed_words after.account.offers
   pub notes : after.account.notes ≡ before.account.notes
 
--- a worker has cut a pair, and bid for it where nothing was left
+-- a worker has cut a pair, and made its offer where nothing was left
 pub record Cuts (g : Game) (rank pair : ℕ) (before after : HandModel) : Type 0 where
   pub left : ℕ
   pub at : after.board ≡ before.board

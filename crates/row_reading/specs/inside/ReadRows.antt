@@ -10,7 +10,7 @@ use Rattle.row_reading.specs.declared.row_rules.RowRules.{RowRules}
 use Rattle.row_reading.specs.RowsTexts.{IsRunWithin}
 use Rattle.row_reading.specs.RowSteps.{Due, RunStep}
 
--- the number of row lines that is told at the front, at most this, and what stands after its line
+-- the number of row lines that is said at the front, at most this, and what stands after its line
 abbrev pub IsCountAt : ℕ → List ℕ → ℕ × List ℕ → Type 0
 IsCountAt most bytes y = (y.0 ≤ most) × (bytes ≡ count_line y.0 ++ y.1)
 
@@ -25,7 +25,7 @@ pub record AreRunsWithin (rules : RowRules) (runs : List Run) : Type 0 where
   pub order : AreRuns rules.version runs
   pub each : All (IsRunWithin rules) runs
 
--- The lines of some runs are read, which tell the rows, and so many are due after the last one.
+-- The lines of some runs are read, which give the rows, and so many are due after the last one.
 pub record AreRead (rules : RowRules) (count due : ℕ) (last : Option Run) (bytes rest : List ℕ) (rows : List (Option Row)) : Type 0 where
   pub one_each : length rows ≡ rules.cells
   pub runs : List Run

@@ -13,7 +13,7 @@ use Rattle.row_reading.specs.Numbers.{IsNumberTo}
 use Rattle.row_reading.specs.RowsTexts.{Determines, IsRunWithin}
 use Rattle.row_reading.specs.RowSteps.{IsNextRow}
 
--- Numbers of 32 bits that a line tells.
+-- Numbers of 32 bits that a line gives.
 pub record IsSpelledRow (format : RowFormat) (row : Row) : Type 0 where
   pub rank : row.rank < 2 ^ 32
   pub input : row.input < 2 ^ 32

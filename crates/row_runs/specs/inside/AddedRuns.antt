@@ -11,7 +11,7 @@ MayEnd version [] r = Unit {0}
 MayEnd version (x ∷ []) r = MayFollow version x r
 MayEnd version (x ∷ y ∷ runs) r = MayEnd version (y ∷ runs) r
 
--- with one run more, whose row is given to its cells, the longer list tells the rows
+-- with one run more, whose row is given to its cells, the longer list gives the rows
 abbrev pub OneRunMore : Type 0
 OneRunMore =
     (version : TableVersion) (runs : List Run) (r : Run) (rows after : List (Option Row)) → AreRuns version runs → HasCells version r → MayEnd version runs r → EncodeRows runs rows → IsFilled r rows after →

@@ -23,7 +23,7 @@ fn refused_of_one<R: Wait>(rt: &R, alloc: Global) -> Result<[bool; 2], LiveFault
     Ok(refused)
 }
 
-/// One reader has two places, its own and one for what it is told.
+/// One reader has two slots, its own and one for what it is told.
 #[test]
 fn a_told_has_a_place_until_it_is_dropped(rt: HostRuntime) -> Result<(), Fail> {
     let refused = refused_of_one(&rt, rt.alloc())?;

@@ -1,7 +1,7 @@
 -- What stands between the rounds of a keep game, and what a round adds.
 use Rattle.std.specs.Prelude.{◌≡◌, ◌≢◌, ℕ, zero, suc, ◌+◌, ◌-◌, ◌/◌, ◌<◌, ◌≤◌, ◌⊎◌, Bool, true, false, not, ◌&&◌, ◌==◌, nat_lt, cond, List, [], filter, length, sum_by, count_by, Option, Some, None, All}
 use Rattle.std.specs.List.{range_with_len}
-use Rattle.board_rounds.specs.Resolving.{AreTold}
+use Rattle.board_rounds.specs.Solving.{AreTold}
 use Rattle.board_rounds.specs.Crew.{cuts_in, offers_in, logged_cells, counters_of, cut_to}
 use Rattle.game_core.specs.Counts.{one_if, times}
 use Rattle.cell_counters.specs.declared.account.Cut.{Cut}
@@ -26,7 +26,7 @@ gone_in g d pair = count_by (fell_before g d) (successors_at g pair)
 abbrev pub is_cell_cut : Game → ℕ → ℕ → Bool
 is_cell_cut g d pair = not (is_obstacle (mark_of g (pair / g.inputs))) && nat_lt 0 (gone_in g d pair)
 
--- how many pairs of a cell are hit
+-- how many pairs of a cell are lost
 abbrev pub cell_cuts_at : Game → ℕ → ℕ → ℕ
 cell_cuts_at g d c = count_by (is_cell_cut g d) (pairs_at g c)
 

@@ -24,12 +24,12 @@ pub record CellCuts (g : Game) (cell : ℕ) (before after : HandModel) : Type 0 
   pub notes : after.account.notes ≡ before.account.notes
   pub logs : logged_cells after.account.logs ≡ logged_cells before.account.logs ++ cond (left == 0) (cell ∷ []) []
 
--- a worker has cut a cell after a blow, and else done nothing
+-- a worker has cut a cell after a pair's first cut, and else done nothing
 abbrev pub CellCutsAfter : Game → ℕ → Bool → HandModel → HandModel → Type 0
 CellCutsAfter g cell true before after = CellCuts g cell before after
 CellCutsAfter g cell false before after = after ≡ before
 
--- a worker has cut a pair, and then its cell where that was a blow to it
+-- a worker has cut a pair, and then its cell where that was the pair's first cut
 pub record Cuts (g : Game) (pair : ℕ) (before after : HandModel) : Type 0 where
   pub between : HandModel
   pub first_cut : Bool

@@ -38,7 +38,7 @@ offsets_of p u =
     ++ map (λ _. no_range) (vector_of p.inputs u)
     ++ map (λ (w : NoiseVariable). record { lo = w.low -ℤ noise_centre w; hi = w.high -ℤ noise_centre w }) p.noises
 
--- an interval moved by a number
+-- an interval shifted by a number
 abbrev pub moved_to : ℤ → Interval → Interval
 moved_to x o = record { lo = x +ℤ o.lo; hi = x +ℤ o.hi }
 

@@ -34,7 +34,7 @@ patrol_bytes solved = patrol_text solved.plant solved.rows
 abbrev pub trace_of : Simulation → List ℕ
 trace_of s = trace_text s.table.plant s.table.rows s.start s.seed s.samples
 
--- A simulation that is ready to be written: its slopes are those of its plant, which has no overflow, and there is a
+-- A simulation that is ready to be written: its deviations are those of its plant, which has no overflow, and there is a
 -- row where it begins.
 pub record IsReady (s : Simulation) : Type 0 where
   pub slopes : s.slopes ≡ deviations_of s.table.plant

@@ -65,7 +65,7 @@ fn verdict_on<R: Threads + Sync>(rt: &R, alloc: Global, table: &Table) -> Result
     }
 }
 
-/// The verdict on a table by which its plant is to reach a target. It looks ahead alone.
+/// The verdict on a table by which its plant is to reach a target. It needs no source lists.
 fn reach_verdict<R: Threads + Sync>(rt: &R, alloc: Global, table: &Table) -> Result<Verdict, Stop>
     requires { table.now.plant.goal ≡ Reach }
     ensures solvable { IfOk result (λ _. IsSolvable table.now.plant) }

@@ -2,7 +2,8 @@
 
 ghost use Rattle.std.specs.Prelude.{◌≡◌, ℕ, List, IfOk, IfErr};
 ghost use Rattle.command_line.specs.declared.command.Command.{Command};
-ghost use Rattle.command_line.specs.Command.{IsDemoNumber, AreWorkers};
+ghost use Rattle.command_line.specs.Command.{IsDemoNumber};
+ghost use Rattle.base.specs.Workers.{AreWorkers};
 ghost use Rattle.demo_plants.specs.Demo.{demo_plant_of};
 ghost use Rattle.plant_game.specs.Abstraction.{IsGameOf};
 ghost use Rattle.abstraction_table.specs.Table.{forward_game};
@@ -10,7 +11,7 @@ ghost use Rattle.synth_run.specs.inside.Causes.{without_memory};
 ghost use Rattle.synth_run.specs.inside.Making.{IsMade};
 
 use crate::abstraction::forward_of;
-use crate::solved_game::solve_game;
+use crate::solved_abstraction::solve_game;
 use crate::stop::Stop;
 use crate::text::Text;
 use crate::work::Work;
@@ -37,14 +38,15 @@ pub fn demo<R: Threads + Sync, G: Gate>(
 {
     let forward = demo_forward(rt, alloc, number)?;
     let solved = solve_game(rt, alloc, GoalKind::Reach, forward, workers, gate)?;
-    let line = demo_line(alloc, number, &solved.game, &solved.answer)?;
+    let line = demo_line(alloc, number, &solved.game, &solved.solution.answer)?;
+    let solution = solved.solution;
     Ok(Work {
         text: Text::Summary(line),
-        played: Some((solved.board, solved.root)),
+        played: Some((solution.board, solution.root)),
     })
 }
 
-/// The game of the n-th demo plant as it is seen ahead.
+/// The forward abstraction of the n-th demo plant.
 fn demo_forward<R: Threads + Sync>(
     rt: &R,
     alloc: Global,

@@ -3,7 +3,7 @@
 ghost use Rattle.std.specs.Prelude.{◌≡◌, ◌<◌, ◌≤◌, IfOk, IfErr, OnOk};
 ghost use Rattle.command_line.specs.declared.command.Command.{Command};
 ghost use Rattle.command_line.specs.declared.outcome.Refusal.TheVariants.{TooManyTurns};
-ghost use Rattle.command_line.specs.Command.{AreWorkers};
+ghost use Rattle.base.specs.Workers.{AreWorkers};
 ghost use Rattle.synth_run.specs.declared.stop.Stop.TheVariants.{Refused};
 ghost use Rattle.synth_run.specs.IsOutcomeFor.{turns_of, IsRefusalFor};
 ghost use Rattle.synth_run.specs.inside.Causes.{IsStopFor};

@@ -42,7 +42,7 @@ pub fn sim(
     })))
 }
 
-/// The slopes of a table's plant, where the table has a row for the start.
+/// The deviations of a table's plant, where the table has a row for the start.
 fn slopes_of(alloc: Global, table: &Table, start: &StateNumbers) -> Result<Slopes, Stop>
     ensures slopes { IfOk result (λ slopes. slopes ≡ deviations_of table.now.plant) }
     ensures fits { OnOk result (HasNoOverflow table.now.plant) }

@@ -2,7 +2,7 @@
 
 ghost use Rattle.std.specs.Prelude.{IfOk, IfErr};
 ghost use Rattle.command_line.specs.declared.command.Command.{Command};
-ghost use Rattle.command_line.specs.Command.{AreWorkers};
+ghost use Rattle.base.specs.Workers.{AreWorkers};
 ghost use Rattle.synth_run.specs.IsOutcomeFor.{IsRefusalFor};
 ghost use Rattle.synth_run.specs.inside.Causes.{IsStopFor};
 ghost use Rattle.synth_run.specs.inside.Making.{IsMade};

@@ -2,13 +2,13 @@
 
 ghost use Rattle.std.specs.Prelude.{IfOk, IfErr};
 ghost use Rattle.command_line.specs.declared.command.Command.{Command};
-ghost use Rattle.command_line.specs.Command.{AreWorkers};
+ghost use Rattle.base.specs.Workers.{AreWorkers};
 ghost use Rattle.synth_run.specs.IsOutcomeFor.{IsRefusalFor};
 ghost use Rattle.synth_run.specs.inside.Causes.{IsStopFor};
 ghost use Rattle.synth_run.specs.inside.Making.{IsMade};
 
 use crate::abstraction::forward_of_text;
-use crate::solved_game::solve_game;
+use crate::solved_abstraction::solve_game;
 use crate::stop::Stop;
 use crate::text::{SolvedPlant, Text};
 use crate::work::Work;
@@ -30,9 +30,10 @@ pub fn synth<R: Threads + Sync, G: Gate>(
 {
     let (plant, forward) = forward_of_text(rt, alloc, bytes)?;
     let solved = solve_game(rt, alloc, plant.goal(), forward, workers, gate)?;
-    let rows = solved.answer;
+    let solution = solved.solution;
+    let rows = solution.answer;
     Ok(Work {
         text: Text::Table(SolvedPlant { plant, rows }),
-        played: Some((solved.board, solved.root)),
+        played: Some((solution.board, solution.root)),
     })
 }

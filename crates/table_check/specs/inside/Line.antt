@@ -3,7 +3,7 @@ use Rattle.std.specs.Prelude.{[], ◌∷◌}
 use Rattle.game_core.specs.declared.game.Mark.TheVariants.{Goal, Plain}
 use Rattle.game_core.specs.Game.{Game}
 
--- five cells in a row, of which the last is a goal, and two inputs that lead to the cell on either side
+-- five cells side by side, of which the last is a goal, and two inputs that lead to the cell on either side
 abbrev pub line : Game
 line = record {
   cells = 5;

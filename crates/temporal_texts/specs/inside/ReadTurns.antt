@@ -15,7 +15,7 @@ use Rattle.temporal_texts.specs.TurnSteps.{AfterTurns, TurnStep, patrol_rules}
 abbrev pub IsTurnAt : ℕ → ℕ → List ℕ → ℕ × List ℕ → Type 0
 IsTurnAt turn most bytes (count, after) = (count ≤ most) × (bytes ≡ turn_line turn count ++ after)
 
--- The line of a turn and so many row lines stand at the front, and tell these rows.
+-- The line of a turn and so many row lines stand at the front, and give these rows.
 pub record IsTurnRead (rules : RowRules) (turn count : ℕ) (bytes : List ℕ) (rows : List (Option Row)) (after : List ℕ) : Type 0 where
   pub rest : List ℕ
   pub first : IsTurnAt turn rules.cells bytes (count, rest)
@@ -27,7 +27,7 @@ IsTurnRefused rules turn bytes n =
     ((n ≡ 1) × ((y : ℕ × List ℕ) → IsTurnAt turn rules.cells bytes y → ⊥))
     ⊎ ((count : ℕ) × (rest : List ℕ) × IsTurnAt turn rules.cells bytes (count, rest) × (line : ℕ) × (n ≡ suc line) × IsRunRefused rules count rest line)
 
--- The lines of some turns are read, so many lines, which tell the rows.
+-- The lines of some turns are read, so many lines, which give the rows.
 pub record AreTurnsRead (p : Description) (lines : ℕ) (bytes rest : List ℕ) (rows : List (List (Option Row))) : Type 0 where
   pub within : AllByRecursion (AreRowsWithin (patrol_rules p)) rows
   pub counted : length (turn_lines 0 rows) ≡ lines

@@ -2,14 +2,14 @@ use Rattle.std.proofs.Common.{◌≡◌, true}
 use Rattle.command_line.proofs.Words.{where_none, is_demo_command, no_demo_command}
 use Rattle.command_line.proofs.command.parse_three.Goals as goal
 
-pub returns-then-is_demo-clause-found : goal.returns-then-is_demo-clause-found
-returns-then-is_demo-clause-found c =
+pub returns-then-is_named-clause-found : goal.returns-then-is_named-clause-found
+returns-then-is_named-clause-found c =
     let number = c.in_ok-number.ensures.found in
     let workers = c.in_ok-workers.ensures.found in
-    is_demo_command c.args.name.now c.args.number.now c.args.workers.now c.in_ok-number.number c.in_ok-workers.workers (c.is_demo.ensures.0 c.if-is_demo.true) number.0 number.1 workers.0 workers.1
+    is_demo_command c.args.name.now c.args.number.now c.args.workers.now c.in_ok-number.number c.in_ok-workers.workers (c.is_named.ensures.0 c.if-is_named.true) number.0 number.1 workers.0 workers.1
 
-pub returns-else-is_demo-clause-none : goal.returns-else-is_demo-clause-none
-returns-else-is_demo-clause-none c = no_demo_command c.args.name.now c.args.number.now c.args.workers.now (λ a n bounds d w few e. let yes : c.is_demo.result ≡ true = c.is_demo.ensures.1 a in cc)
+pub returns-else-is_named-clause-none : goal.returns-else-is_named-clause-none
+returns-else-is_named-clause-none c = no_demo_command c.args.name.now c.args.number.now c.args.workers.now (λ a n bounds d w few e. let yes : c.is_named.result ≡ true = c.is_named.ensures.1 a in cc)
 
 pub returns-in_err-number-clause-none : goal.returns-in_err-number-clause-none
 returns-in_err-number-clause-none c = where_none c.from_residual.result _ (no_demo_command c.args.name.now c.args.number.now c.args.workers.now (λ a n bounds d w few e. c.in_err-number.ensures.none n bounds d))

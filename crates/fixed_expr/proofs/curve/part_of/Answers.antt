@@ -34,15 +34,15 @@ overflow_cast-rise c = rw (to_z-of_z w128 c.args.rise c.ranges.rise) (narrow c.a
 pub overflow_cast-steps : goal.overflow_cast-steps
 overflow_cast-steps c = rw (to_z-of_z w128 c.args.steps c.ranges.steps) (narrow c.args.steps c.requires.steps)
 
-pub overflow_cast-execute : goal.overflow_cast-execute
-overflow_cast-execute c = rw (to_z-of_z w128 c.args.execute c.ranges.execute) (narrow c.args.execute c.requires.execute)
+pub overflow_cast-run : goal.overflow_cast-run
+overflow_cast-run c = rw (to_z-of_z w128 c.args.run c.ranges.run) (narrow c.args.run c.requires.run)
 
 pub div_euclid-requires : goal.div_euclid-requires
 div_euclid-requires c =
-    let execute : ℤ = c.args.execute in
-    let fits : FitsSigned w64 execute = narrow execute c.requires.execute in
-    rw (to_z-of_z w128 execute c.ranges.execute, to_z-of_z w64 execute fits)
-    (record { nonzero = above_zero w64 execute c.requires.some; no_overflow = λ last _. above_last execute fits c.requires.some last })
+    let run : ℤ = c.args.run in
+    let fits : FitsSigned w64 run = narrow run c.requires.run in
+    rw (to_z-of_z w128 run c.ranges.run, to_z-of_z w64 run fits)
+    (record { nonzero = above_zero w64 run c.requires.some; no_overflow = λ last _. above_last run fits c.requires.some last })
 
 pub overflow_mul-rise : goal.overflow_mul-rise
 overflow_mul-rise c =
@@ -51,32 +51,32 @@ overflow_mul-rise c =
 
 pub div_euclid-requires-in-None : goal.div_euclid-requires-in-None
 div_euclid-requires-in-None c =
-    let execute : ℤ = c.args.execute in
-    rw (to_z-of_z w128 execute c.ranges.execute)
-    (record { nonzero = above_zero w128 execute c.requires.some; no_overflow = λ last _. above_last_wide execute c.ranges.execute c.requires.some last })
+    let run : ℤ = c.args.run in
+    rw (to_z-of_z w128 run c.ranges.run)
+    (record { nonzero = above_zero w128 run c.requires.some; no_overflow = λ last _. above_last_wide run c.ranges.run c.requires.some last })
 
 pub returns-in-Some : goal.returns-in-Some
 returns-in-Some c =
     let rise : ℤ = c.args.rise in
     let steps : ℤ = c.args.steps in
-    let execute : ℤ = c.args.execute in
+    let run : ℤ = c.args.run in
     let product = c.in-Some.product in
     let fits : FitsSigned w64 product = rw (sym c.in-Some.ensures.1) at c.in-Some.ensures.0 in
     let exact = rw (to_z-of_z w128 rise c.ranges.rise, to_z-of_z w128 steps c.ranges.steps, to_z-of_z w64 rise (narrow rise c.requires.rise), to_z-of_z w64 steps (narrow steps c.requires.steps)) at c.in-Some.ensures.1 in
-    let quotient = rw (to_z-of_z w64 product fits, to_z-of_z w128 execute c.ranges.execute, to_z-of_z w64 execute (narrow execute c.requires.execute)) at c.div_euclid.ensures in
+    let quotient = rw (to_z-of_z w64 product fits, to_z-of_z w128 run c.ranges.run, to_z-of_z w64 run (narrow run c.requires.run)) at c.div_euclid.ensures in
     to_z-of_z w128 c.from.result (record { sfits = c.from.type_inv })
     ∙ c.from.ensures
     ∙ to_z-of_z w64 c.div_euclid.result (record { sfits = c.div_euclid.type_inv })
     ∙ quotient
-    ∙ ap (λ (z : ℤ). int_div_euclid z execute) exact
-    ∙ euclid_is (rise *ℤ steps) execute c.requires.some
+    ∙ ap (λ (z : ℤ). int_div_euclid z run) exact
+    ∙ euclid_is (rise *ℤ steps) run c.requires.some
 
 pub returns-in-None : goal.returns-in-None
 returns-in-None c =
     let rise : ℤ = c.args.rise in
     let steps : ℤ = c.args.steps in
-    let execute : ℤ = c.args.execute in
-    let quotient = rw (to_z-of_z w128 rise c.ranges.rise, to_z-of_z w128 steps c.ranges.steps, to_z-of_z w128 execute c.ranges.execute, to_z-of_z w128 (rise *ℤ steps) (product_fits rise steps c.requires.rise c.requires.steps)) at c.div_euclid-in-None.ensures in
+    let run : ℤ = c.args.run in
+    let quotient = rw (to_z-of_z w128 rise c.ranges.rise, to_z-of_z w128 steps c.ranges.steps, to_z-of_z w128 run c.ranges.run, to_z-of_z w128 (rise *ℤ steps) (product_fits rise steps c.requires.rise c.requires.steps)) at c.div_euclid-in-None.ensures in
     to_z-of_z w128 c.div_euclid-in-None.result (record { sfits = c.div_euclid-in-None.type_inv })
     ∙ quotient
-    ∙ euclid_is (rise *ℤ steps) execute c.requires.some
+    ∙ euclid_is (rise *ℤ steps) run c.requires.some

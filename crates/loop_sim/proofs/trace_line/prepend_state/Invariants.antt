@@ -2,7 +2,7 @@ use Rattle.std.proofs.Common.{◌≡◌, ◌+◌, ◌*◌, ◌≤◌, ◌++◌, 
 use Rattle.loop_sim.specs.inside.StateText.{state_text}
 use Rattle.loop_sim.proofs.trace_line.prepend_state.Given as goal
 
--- the numbers from a place on
+-- the numbers from a position on
 abbrev pub invariant-loop-at : goal.invariant-loop-at
 invariant-loop-at l = record {
   text : l.text ≡ state_text (drop l.at l.x) ++ l.fn.text;

@@ -26,7 +26,7 @@ Stretch::fill-returns-clause-filled g t c =
     let cut = halves c.args.making.size c.requires.accepts.0 c.args.self c.split-front.result.0 c.split-front.result.1 c.requires.accepts.1 c.if-self-eq1.false c.split-front.ensures.front.1 c.split-front.ensures.back in
     let all = c.fill_both.result.0 in let front = c.split-front.result.0 in
     let half = c.args.self.count / 2 in let mid = half * c.args.making.size in
-    let long : length (take front.len all.slots.contents) ≡ mid = omega (arith, length-take front.len all.slots.contents, all.whole.1, c.fill_both.ensures.place.1, cut.cut) in
+    let long : length (take front.len all.slots.contents) ≡ mid = omega (arith, length-take front.len all.slots.contents, all.whole.1, c.fill_both.ensures.address.1, cut.cut) in
     IfOk-weaker c.fill_both.result.1 _ _
     (λ _ both.
     subst (AreFilled g.F.Fn c.args.making c.args.self) (take-append-drop front.len all.slots.contents)
@@ -36,7 +36,7 @@ Stretch::fill-returns-clause-filled g t c =
 pub Stretch::fill_both-returns-then-depth-eq0-clause-filled : goal.Stretch::fill_both-returns-then-depth-eq0-clause-filled
 Stretch::fill_both-returns-then-depth-eq0-clause-filled g t c =
     joined c.fill-front.result c.fill-back.result c.join.result c.and.result c.args.self.part.len (AreFilled g.F.Fn c.args.making c.args.self) (AreFilled g.F.Fn c.args.making c.args.next)
-    c.join.ensures.contents c.fill-front.ensures.place.1 c.and.ensures c.fill-front.ensures.filled c.fill-back.ensures.filled
+    c.join.ensures.contents c.fill-front.ensures.address.1 c.and.ensures c.fill-front.ensures.filled c.fill-back.ensures.filled
 
 pub Stretch::fill_both-returns-clause-filled : goal.Stretch::fill_both-returns-clause-filled
 Stretch::fill_both-returns-clause-filled g t c =

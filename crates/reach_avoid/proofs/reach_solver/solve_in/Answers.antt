@@ -4,17 +4,17 @@ use Rattle.reach_avoid.proofs.Plays.{runnable}
 use Rattle.reach_avoid.proofs.Ends.{solved}
 use Rattle.reach_avoid.proofs.reach_solver.solve_in.Goals as goal
 
-pub resolve-requires-clause-board : goal.resolve-requires-clause-board
-resolve-requires-clause-board g c κs within =
+pub solve_by_rule-requires-clause-board : goal.solve_by_rule-requires-clause-board
+solve_by_rule-requires-clause-board g c κs within =
     let game = g.G.Graph.game c.args.g.now in
     let a : IsGraph game = (g.met.G.Graph g.world.𝓛 g.world.𝓜 g.world.𝓡 (here g.world)).lawful c.args.g.now in
     runnable game a c.args.scratch c.requires
 
-pub resolve-requires-clause-slots : goal.resolve-requires-clause-slots
-resolve-requires-clause-slots g c κs within = c.requires.log
+pub solve_by_rule-requires-clause-slots : goal.solve_by_rule-requires-clause-slots
+solve_by_rule-requires-clause-slots g c κs within = c.requires.log
 
 pub returns : goal.returns
 returns g c =
     let game = g.G.Graph.game c.args.g.now in
     let a : IsGraph game = (g.met.G.Graph g.world.𝓛 g.world.𝓜 g.world.𝓡 (here g.world)).lawful c.args.g.now in
-    solved game a c.args.scratch c.requires _ c.resolve.ensures
+    solved game a c.args.scratch c.requires _ c.solve_by_rule.ensures

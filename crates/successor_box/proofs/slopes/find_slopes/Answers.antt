@@ -19,7 +19,7 @@ loop-equation-preserved c =
     let each = equations_count _ _ c.equations-equation-end.ensures.same in
     let below : k < length p.equations = omega (arith, each) in
     record {
-      so_far = ap (map (λ (lane : Vec ℤ). lane.items)) c.in_ok-push.ensures.items ∙ map-append (λ (lane : Vec ℤ). lane.items) c.loop-equation.lanes.items (c.in_ok-deviations_along.field-0 ∷ [])
+      so_far = ap (map (λ (deviations : Vec ℤ). deviations.items)) c.in_ok-push.ensures.items ∙ map-append (λ (deviations : Vec ℤ). deviations.items) c.loop-equation.by_equation.items (c.in_ok-deviations_along.field-0 ∷ [])
           ∙ ap₂ (λ (xs : List (List ℤ)) (x : List ℤ). xs ++ x ∷ []) c.loop-equation.invariant.so_far c.in_ok-deviations_along.ensures.found
           ∙ sym (map_more (deviations_along p) p.equations k (NumExpr (pos 0)) below);
       fits = λ i u lt lu. below_more (λ j. (v : ℕ) → v < vectors_of p.inputs → HasNoOverflowAt p j v) k (λ j before v lv. c.loop-equation.invariant.fits j v before lv) c.in_ok-deviations_along.ensures.fits i lt u lu;

@@ -8,6 +8,6 @@ use Rattle.successor_box.proofs.slopes.find_slopes.Given as goal
 -- the equations so far
 abbrev pub invariant-loop-equation : goal.invariant-loop-equation
 invariant-loop-equation l = record {
-  so_far : map (λ (lane : Vec ℤ). lane.items) l.lanes.items ≡ map (deviations_along l.p) (take l.equation l.p.equations);
+  so_far : map (λ (deviations : Vec ℤ). deviations.items) l.by_equation.items ≡ map (deviations_along l.p) (take l.equation l.p.equations);
   fits : (i u : ℕ) → i < l.equation → u < vectors_of l.p.inputs → HasNoOverflowAt l.p i u;
 }

@@ -4,7 +4,7 @@ use Rattle.run_devices.specs.Devices.{reading}
 use Rattle.synth_run.specs.IsOutcomeFor.{IsRefusalFor}
 use Rattle.synth_run.specs.inside.Causes.{IsStopFor}
 use Rattle.synth_run.specs.inside.Making.{IsMade}
-use Rattle.synth_run.specs.inside.SolvedGames.{HasItsGame}
+use Rattle.synth_run.specs.inside.SolvedAbstractions.{HasItsGame}
 use Rattle.synth_run.specs.inside.Working.{HasItsAnswer, IsStopped}
 use Rattle.synth_run.proofs.Leaving.{to_be_left}
 use Rattle.base.proofs.Results.{passed_on}

@@ -12,7 +12,6 @@ pub returns : goal.returns
 returns c =
     let p = c.args.p.now in
     let rows = c.args.a.now in
-    let words = c.format_of.ensures ∙ ap (λ (goal : GoalKind). format_of goal) c.goal.ensures in
-    let lines = c.counted-lines.ensures ∙ ap (λ (w : RowFormat). concat (count_line (length (run_lines w rows)) ∷ run_lines w rows)) words in
-    let front = c.in_ok-write_plant.ensures.written ∙ ap (λ (x : List ℕ). x ++ text_of p) c.in_ok-front.ensures.items in
-    c.new.ensures ∙ framed_lines (version_line written_version ++ text_of p) _ _ (count_line (length (run_lines (format_of p.goal) rows)) ∷ run_lines (format_of p.goal) rows) front lines
+    let format = c.format_of.ensures ∙ ap (λ (goal : GoalKind). format_of goal) c.goal.ensures in
+    let lines = c.counted-lines.ensures ∙ ap (λ (format : RowFormat). concat (count_line (length (run_lines format rows)) ∷ run_lines format rows)) format in
+    c.new.ensures ∙ framed_lines (version_line written_version ++ text_of p) _ _ (count_line (length (run_lines (format_of p.goal) rows)) ∷ run_lines (format_of p.goal) rows) c.in_ok-header.ensures lines

@@ -1,5 +1,5 @@
 use Rattle.std.proofs.Common.{arith}
-use Rattle.edge_rows.proofs.ReadRows.{count, ordered, is_run, is_row}
+use Rattle.edge_rows.proofs.ReadRows.{count, ordered, is_filled, is_row}
 use Rattle.edge_rows.proofs.rows.Rows.row.Goals as goal
 
 pub index-requires : goal.index-requires
@@ -11,8 +11,8 @@ index-requires-2 c = omega (arith, c.requires, c.self.inside.starts.ok.0, count 
 pub overflow_sub-end : goal.overflow_sub-end
 overflow_sub-end c = ordered c.self.inside c.self.invariant c.args.self.now c.self.view_is c.args.r c.requires _ _ c.index.ensures c.index-2.ensures
 
-pub run-requires : goal.run-requires
-run-requires c = is_run c.self.inside c.self.invariant c.args.self.now c.self.view_is c.args.r c.requires _ _ c.index.ensures c.index-2.ensures
+pub slice-requires : goal.slice-requires
+slice-requires c = is_filled c.self.inside c.self.invariant c.args.self.now c.self.view_is c.args.r c.requires _ _ c.index.ensures c.index-2.ensures
 
 pub returns : goal.returns
-returns c = is_row c.self.inside c.self.invariant c.args.self.now c.self.view_is c.args.r c.requires _ _ c.index.ensures c.index-2.ensures c.run.result.now c.run.ensures
+returns c = is_row c.self.inside c.self.invariant c.args.self.now c.self.view_is c.args.r c.requires _ _ c.index.ensures c.index-2.ensures c.slice.result.now c.slice.ensures

@@ -6,6 +6,6 @@ use Rattle.raw_slots.proofs.list.RawList.as_slice.Goals as goal
 
 pub returns : goal.returns
 returns g c =
-    sym (values-map c.run.result.now)
-    ∙ ap values (sym c.run.ensures ∙ take_all c.len.result c.self.inside.block (omega (arith, c.len.ensures)))
+    sym (values-map c.slice.result.now)
+    ∙ ap values (sym c.slice.ensures ∙ take_all c.len.result c.self.inside.block (omega (arith, c.len.ensures)))
     ∙ c.self.view_is

@@ -1,4 +1,4 @@
--- `slice` shows a run of values that the slots lend. Assumes `Logic`.
+-- `slice` shows values that the slots lend, one after another. Assumes `Logic`.
 use mathlib.Core.Path.{◌≡◌, refl, sym, ap, subst, ◌∙◌}
 use Prim.Native.Nat.{ℕ, ◌+◌, ◌*◌, ◌<◌, ◌^◌}
 use native.Mathlib.Omega.{arith}
@@ -48,7 +48,7 @@ use Rattle.std.specs.Prelude.{Some}
 use Rattle.std.proofs.lemmas.List.{length-map}
 use Rattle.core.proofs.mem.Param.{El, R, args, el_x}
 use Rattle.core.proofs.ptr.Rows.{times_below}
-use Rattle.raw_slots.specs.Slots.{IsRun}
+use Rattle.raw_slots.specs.Slots.{IsFilled}
 use Rattle.raw_slots.specs.inside.Ownership.{slots_lent}
 use Rattle.raw_slots.proofs.Memory.{Ps, Bs, sz, word_had, run_seen}
 use denote.Slice.{ShrSlice, slice_val, elements_shared}
@@ -69,7 +69,7 @@ module _ (E : El) where
   stayed = (stay_dropped (RefOf (0 ∷ []) tt (plain (λ _. Ps E)) (λ _. tt)) yes, (stay_dropped (plain (λ _. Bs E)) no, (stay_dropped (plain (λ _. usize)) no, (stay_dropped (plain (λ _. usize)) no, tt))))
 
   abbrev Asks : (Ps E).Denot → (Bs E).Denot → (usize).Denot → (usize).Denot → Type 0
-  Asks d base from len = (base.ptr ≡ d.at) × IsRun d.contents from len
+  Asks d base from len = (base.ptr ≡ d.at) × IsFilled d.contents from len
 
   abbrev Gives0 : (Ps E).Denot → (Bs E).Denot → (usize).Denot → (usize).Denot → Bor (List (el_x E)) → Type 0
   Gives0 d base from len r = take len (drop_l from d.contents) ≡ map Some r.now

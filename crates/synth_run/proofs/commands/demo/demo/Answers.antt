@@ -13,7 +13,7 @@ is_to_reach : (n : ℕ) → Reach ≡ (demo_plant_of n).goal
 unfolding demo_plant_of
 is_to_reach n = refl
 
--- the game with its reversed edges is the demo plant's as well
+-- the game with its source lists is the demo plant's as well
 pub demo_line-requires-clause-game : goal.demo_line-requires-clause-game
 demo_line-requires-clause-game g c = subst (λ (h : Game). IsGameOf (demo_plant_of c.args.number) h) (sym c.in_ok-solved.ensures.game) c.in_ok-forward.ensures.game
 
@@ -22,7 +22,7 @@ returns-clause-made g c =
     let n = c.args.number in
     let solved = c.in_ok-solved.solved in
     let on = solved_on (demo_plant_of n) Reach solved (is_to_reach n) (subst (λ (h : Game). IsGameOf (demo_plant_of n) h) (sym c.in_ok-solved.ensures.game) c.in_ok-forward.ensures.game) c.in_ok-solved.ensures.solved in
-    λ bytes. record { can_be_written = tt; answer = c.in_ok-line.ensures; leaves = left (demo_plant_of n) solved.board solved.root on }
+    λ bytes. record { can_be_written = tt; answer = c.in_ok-line.ensures; leaves = left (demo_plant_of n) solved.solution.board solved.solution.root on }
 
 pub returns-in_err-forward-clause-memory : goal.returns-in_err-forward-clause-memory
 returns-in_err-forward-clause-memory g c = passed_on c.from_residual.result c.in_err-forward.field-0.0 (λ (stop : Stop). stop ≡ without_memory) c.from_residual.ensures.1 c.in_err-forward.ensures.memory

@@ -16,7 +16,7 @@ returns-clause-made g c =
     let solved = c.in_ok-solved.solved in
     let game = game_of solved.game in
     let abstraction = subst (λ (h : Game). IsGameOf p h) (sym c.in_ok-solved.ensures.game) c.in_ok-plant.ensures.game in
-    let rows = solved.answer in
+    let rows = solved.solution.answer in
     let solution = is_solution p game rows c.goal.result c.goal.ensures abstraction c.in_ok-solved.ensures.solved.solution in
     let fits =
     solution_fits p game rows c.goal.result c.goal.ensures (record { graph = solved.game.boxed.in_memory.graph; cells = abstraction.cells; inputs = abstraction.inputs }) c.in_ok-solved.ensures.solved.solution
@@ -35,7 +35,7 @@ returns-clause-made g c =
           controls = tables_control (table_text written_version p rows) p rows (record { limits = accepted.limits; fitting = fits; version = written_version; text = refl }) solution;
         },
       );
-      leaves = (p, accepted, left p solved.board solved.root (solved_on p c.goal.result solved c.goal.ensures abstraction c.in_ok-solved.ensures.solved));
+      leaves = (p, accepted, left p solved.solution.board solved.solution.root (solved_on p c.goal.result solved c.goal.ensures abstraction c.in_ok-solved.ensures.solved));
     }
 
 pub returns-in_err-plant-clause-refused : goal.returns-in_err-plant-clause-refused

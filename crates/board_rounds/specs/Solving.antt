@@ -1,10 +1,10 @@
--- What a resolved game is, by its rule.
+-- What a solved game is, by its rule.
 use Rattle.std.specs.Prelude.{◌≡◌, ℕ, suc, ◌<◌, ◌≤◌, List, [], length, Option}
 use Rattle.cell_counters.specs.declared.account.Account.{Account}
 use Rattle.cell_counters.specs.BoardModels.{BoardModel}
 use Rattle.game_core.specs.declared.game.Row.{Row}
 use Rattle.game_core.specs.Solution.{row_of}
-use Rattle.board_rounds.specs.declared.resolving.Resolved.{Resolved}
+use Rattle.board_rounds.specs.declared.solving.SolvedGame.{SolvedGame}
 use Rattle.board_rounds.specs.Crew.{IsTalliedBy}
 
 -- each cell has the row that the accounts show
@@ -12,8 +12,8 @@ pub record AreTold (cells : ℕ) (tells : ℕ → Option Row → Type 0) (rows :
   pub one_each : length rows ≡ cells
   pub each : (c : ℕ) → c < cells → tells c (row_of rows c)
 
--- a game was resolved on the board: no cell is on a list, all hands are taken in, and the accounts show the tally and the rows
-pub record IsResolved (cells : ℕ) (holds_before : ℕ → List ℕ → List Account → Type 0) (tells : List Account → ℕ → Option Row → Type 0) (board : BoardModel) (r : Resolved) : Type 0 where
+-- a game was solved on the board: no cell is on a list, all hands are taken in, and the accounts show the tally and the rows
+pub record IsSolvedByRule (cells : ℕ) (holds_before : ℕ → List ℕ → List Account → Type 0) (tells : List Account → ℕ → Option Row → Type 0) (board : BoardModel) (r : SolvedGame) : Type 0 where
   pub on : r.board ≡ board
   pub at : r.root.board ≡ board
   pub settled : r.root.out ≡ 0

@@ -1,14 +1,14 @@
-//! The front of some bytes, and its lines.
+//! What stands after a prefix, and how many lines bytes have.
 
 ghost use Rattle.std.specs.Prelude.{◌≡◌, ℕ, ◌≤◌, List, ◌++◌, length};
 ghost use Rattle.row_reading.specs.Found.{Finds};
 ghost use Rattle.row_reading.specs.Counting.{line_count};
 
-/// What stands after a front of the bytes.
-pub fn after_prefix<'a>(bytes: &'a [u8], front: &[u8]) -> Option<&'a [u8]>
-    ensures { Finds (λ r. r.now) (λ (rest : List ℕ). bytes.now ≡ front.now ++ rest) result }
+/// What stands after a prefix of the bytes.
+pub fn after_prefix<'a>(bytes: &'a [u8], prefix: &[u8]) -> Option<&'a [u8]>
+    ensures { Finds (λ r. r.now) (λ (rest : List ℕ). bytes.now ≡ prefix.now ++ rest) result }
 {
-    bytes.strip_prefix(front)
+    bytes.strip_prefix(prefix)
 }
 
 /// How many lines end in the bytes.

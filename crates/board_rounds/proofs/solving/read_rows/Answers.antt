@@ -3,7 +3,7 @@ use Rattle.cell_counters.specs.BoardModels.{RootModel}
 use Rattle.game_core.specs.declared.game.Row.{Row}
 use Rattle.game_core.specs.Solution.{row_of}
 use Rattle.board_rounds.specs.Rules.{IsAtEnd}
-use Rattle.board_rounds.proofs.resolving.read_rows.Goals as goal
+use Rattle.board_rounds.proofs.solving.read_rows.Goals as goal
 
 pub loop-c-init : goal.loop-c-init
 loop-c-init g c = record { same = refl; one_each = c.requires.answer; so_far = λ k lt. absurd (omega arith) }

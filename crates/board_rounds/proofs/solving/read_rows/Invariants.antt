@@ -1,6 +1,6 @@
 use Rattle.std.proofs.Common.{◌≡◌, ℕ, ◌<◌, length}
 use Rattle.game_core.specs.Solution.{row_of}
-use Rattle.board_rounds.proofs.resolving.read_rows.Given as goal
+use Rattle.board_rounds.proofs.solving.read_rows.Given as goal
 
 -- the rows so far
 abbrev pub invariant-loop-c : goal.invariant-loop-c

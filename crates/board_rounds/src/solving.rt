@@ -1,6 +1,6 @@
-//! A game that is resolved in a scratch, by its rule.
+//! A game that is solved in a scratch, by its rule.
 ghost use Rattle.std.specs.Prelude.{◌≡◌, length};
-ghost use Rattle.board_rounds.specs.Resolving.{AreTold, IsResolved};
+ghost use Rattle.board_rounds.specs.Solving.{AreTold, IsSolvedByRule};
 ghost use Rattle.board_rounds.specs.Rules.{IsAtEnd};
 
 use crate::rule::Rule;
@@ -11,31 +11,31 @@ use game_core::{Answer, Tally};
 use std::alloc::Global;
 use std::thread::Threads;
 
-/// A resolved game: its rows, what was counted, the board on which it was resolved, and the board's root.
+/// A solved game: its rows, what was counted, the board on which it was solved, and the board's root.
 #[derive(Drop)]
-pub struct Resolved {
+pub struct SolvedGame {
     /// For each cell its row, None where it has none.
     pub answer: Answer,
-    /// The cuts, the offers and the rounds that the solution asks for.
+    /// The cuts, the offers and the rounds that the solution requires.
     pub tally: Tally,
     pub board: Board,
     /// All hands are taken in.
     pub root: Root,
 }
 
-/// Resolves a game: does rounds by its rule until a list is empty, then reads the row of each cell.
+/// Solves a game: does rounds by its rule until a list is empty, then reads the row of each cell.
 ///
-/// What memory the rounds ask for they can do without.
-pub fn resolve<R: Threads + Sync, S, L: Rule, T: Gate>(
+/// The rounds request memory, and can do without it.
+pub fn solve_by_rule<R: Threads + Sync, S, L: Rule, T: Gate>(
     rt: &R,
     alloc: Global,
     scratch: Scratch<S>,
     rule: &L,
     gate: &T,
-) -> Resolved
+) -> SolvedGame
     requires board { L.fits rule.now scratch }
     requires slots { scratch.slots ≡ (L.game rule.now).cells }
-    ensures { IsResolved (L.game rule.now).cells (L.holds_before rule.now) (L.tells rule.now) scratch result }
+    ensures { IsSolvedByRule (L.game rule.now).cells (L.holds_before rule.now) (L.tells rule.now) scratch result }
 {
     let Scratch {
         board,
@@ -46,7 +46,7 @@ pub fn resolve<R: Threads + Sync, S, L: Rule, T: Gate>(
     } = scratch;
     rounds.run_all(rt, alloc, &board, rule, workers, gate);
     read_rows(&board, &mut rounds.root, &mut answer, rule);
-    Resolved {
+    SolvedGame {
         answer,
         tally: rounds.tally,
         board,

@@ -4,17 +4,17 @@ use Rattle.cell_counters.specs.declared.account.Account.{Account}
 use Rattle.cell_counters.specs.BoardModels.{BoardModel, RootModel, new_root}
 use Rattle.game_core.specs.declared.game.Row.{Row}
 use Rattle.game_core.specs.declared.tally.Tally.{Tally}
-use Rattle.board_rounds.specs.declared.resolving.Resolved.{Resolved}
+use Rattle.board_rounds.specs.declared.solving.SolvedGame.{SolvedGame}
 use Rattle.board_rounds.specs.declared.rounds.Rounds.{Rounds}
 use Rattle.board_rounds.specs.Crew.{IsTalliedBy}
-use Rattle.board_rounds.specs.Resolving.{AreTold, IsResolved}
+use Rattle.board_rounds.specs.Solving.{AreTold, IsSolvedByRule}
 use Rattle.board_rounds.specs.Rounds.{IsUnused, IsOver}
-use Rattle.board_rounds.proofs.resolving.resolve.Goals as goal
+use Rattle.board_rounds.proofs.solving.solve_by_rule.Goals as goal
 
--- with the rounds over and the rows read the game is resolved
-resolved : (cells : ℕ) (holds_before : ℕ → List ℕ → List Account → Type 0) (tells : List Account → ℕ → Option Row → Type 0) (board seen : BoardModel) (r : Rounds) → board ≡ seen → IsOver board cells r → holds_before r.tally.rounds [] r.root.accounts
-    → (s : Resolved) → AreTold cells (tells r.root.accounts) s.answer → s.tally ≡ r.tally → s.board ≡ board → s.root ≡ r.root → IsResolved cells holds_before tells seen s
-resolved cells holds_before tells board seen r same over stood s told tally on root = record {
+-- with the rounds over and the rows read the game is solved
+solved_game : (cells : ℕ) (holds_before : ℕ → List ℕ → List Account → Type 0) (tells : List Account → ℕ → Option Row → Type 0) (board seen : BoardModel) (r : Rounds) → board ≡ seen → IsOver board cells r → holds_before r.tally.rounds [] r.root.accounts
+    → (s : SolvedGame) → AreTold cells (tells r.root.accounts) s.answer → s.tally ≡ r.tally → s.board ≡ board → s.root ≡ r.root → IsSolvedByRule cells holds_before tells seen s
+solved_game cells holds_before tells board seen r same over stood s told tally on root = record {
   on = on ∙ same;
   at = ap (λ (m : RootModel). m.board) root ∙ (over.at ∙ same);
   settled = ap (λ (m : RootModel). m.out) root ∙ over.settled;
@@ -53,6 +53,6 @@ read_rows-requires-clause-answer g c κs within =
 pub returns : goal.returns
 returns g c =
     let rule = c.args.rule.now in
-    resolved (g.L.Rule.game rule).cells (g.L.Rule.holds_before rule) (g.L.Rule.tells rule) c.scratch.inside.board c.args.scratch
+    solved_game (g.L.Rule.game rule).cells (g.L.Rule.holds_before rule) (g.L.Rule.tells rule) c.scratch.inside.board c.args.scratch
     c.run_all.new.self c.scratch.view_is c.run_all.ensures.over c.run_all.ensures.holds_before
     _ c.read_rows.ensures.rows refl refl c.read_rows.ensures.root
