@@ -3,11 +3,11 @@ use Rattle.std.proofs.Common.{◌<◌, get_or}
 use Rattle.std.proofs.lemmas.List.Elements.{All-from_get_or, Contains-get_or}
 use Rattle.grid_quantiser.specs.Axes.{cells_of}
 use Rattle.grid_quantiser.specs.CellBoxes.{cells_between}
-use Rattle.grid_quantiser.specs.Laws.{BoxesHaveCells, CellsLieBetweenCorners, BoxesAreMovedShapes}
+use Rattle.grid_quantiser.specs.Laws.{BoxesHaveCells, CellsLieBetweenCorners, BoxesAreShiftedShapes}
 use Rattle.grid_quantiser.proofs.BetweenCells.{between_from_contains, between_by_coordinate, rising_between}
 use Rattle.grid_quantiser.proofs.BoxCells.{between_limit, between_below, corners_below, box_ordered}
 use Rattle.grid_quantiser.proofs.BoxShapes.{shape_box}
-use Rattle.grid_quantiser.proofs.BoxNth.{moved_shape}
+use Rattle.grid_quantiser.proofs.BoxNth.{shifted_shape}
 
 pub boxes_have_cells : BoxesHaveCells
 boxes_have_cells axes first last grid box = record {
@@ -22,11 +22,11 @@ cells_lie_between_corners axes first last grid box k d lt =
     let cell = get_or cells k d in
     between_by_coordinate axes first last cell grid.some_state (between_from_contains axes first last cell grid.each box (Contains-get_or cells k d lt))
 
-pub boxes_are_moved_shapes : BoxesAreMovedShapes
-boxes_are_moved_shapes axes first last grid box =
+pub boxes_are_shifted_shapes : BoxesAreShiftedShapes
+boxes_are_shifted_shapes axes first last grid box =
     let below = corners_below axes first last grid.each grid.some_state box in
     record {
       ordered = box_ordered axes first last grid.each below.0 below.1 box;
       shape = shape_box axes first last grid.each box;
-      cells = moved_shape axes first last grid.each below.0 box;
+      cells = shifted_shape axes first last grid.each below.0 box;
     }

@@ -10,14 +10,14 @@ use Rattle.grid_quantiser.specs.declared.axis.Axis.{Axis}
 use Rattle.grid_quantiser.specs.declared.boxes.CellBox.{CellBox}
 use Rattle.grid_quantiser.specs.Axes.{cells_of, AreAxes}
 use Rattle.grid_quantiser.specs.CellBoxes.{IsCellBox, cells_between}
-use Rattle.grid_quantiser.specs.Laws.{IsMovedShape}
+use Rattle.grid_quantiser.specs.Laws.{IsShiftedShape}
 use Rattle.grid_quantiser.proofs.Suffixes.{some_cells}
 use Rattle.successor_box.specs.SuccessorBoxes.{cells_in}
 use Rattle.abstraction_table.specs.inside.Fans.{GoesOnInZeros, IsCounted, AreShapes, KeepsFans, FanIsKnown, AreFansOf}
 use Rattle.abstraction_table.specs.inside.SourceLists.{IsBox}
 use Rattle.abstraction_table.specs.inside.Tallies.{edges_of}
 use Rattle.base.proofs.Counts.{sum_zeros}
-use Rattle.abstraction_table.proofs.BelowBoxes.{boxes_are_moved_shapes}
+use Rattle.abstraction_table.proofs.BelowBoxes.{boxes_are_shifted_shapes}
 use Rattle.abstraction_table.proofs.Tallying.{by_cell}
 
 -- the last corner of a box is a cell
@@ -28,16 +28,16 @@ last_below (a ∷ axes) f l some cells box = by_cell (cells_of axes) 0
     (λ other. let positive : 0 < cells_of axes = omega (arith, other) in (div-lt_iff_lt-mul positive).0 box.1)
 
 -- the distance from the first cell of a box to its last is less than there are cells
-distance_below : (axes : List Axis) (b : CellBox) → AreAxes axes → IsMovedShape axes b.first b.last → b.last - b.first < cells_of axes
+distance_below : (axes : List Axis) (b : CellBox) → AreAxes axes → IsShiftedShape axes b.first b.last → b.last - b.first < cells_of axes
 distance_below axes b grid moved = last_below axes 0 (b.last - b.first) grid.some_state (some_cells axes grid.each) moved.shape
 
 -- a box has as many cells as its shape
-pub as_many : (axes : List Axis) (b : CellBox) → IsMovedShape axes b.first b.last → length (cells_between axes b.first b.last) ≡ length (cells_between axes 0 (b.last - b.first))
+pub as_many : (axes : List Axis) (b : CellBox) → IsShiftedShape axes b.first b.last → length (cells_between axes b.first b.last) ≡ length (cells_between axes 0 (b.last - b.first))
 as_many axes b moved = ap length moved.cells ∙ length-map (cells_between axes 0 (b.last - b.first)) (λ c. b.first + c)
 
 -- a box that is there is its shape, shifted
-pub is_moved : (axes : List Axis) (o : Option CellBox) (b : CellBox) → o ≡ Some b → AreAxes axes → IsBox axes o → IsMovedShape axes b.first b.last
-is_moved axes o b is grid ordered = boxes_are_moved_shapes axes b.first b.last grid (subst (IsBox axes) is ordered)
+pub is_moved : (axes : List Axis) (o : Option CellBox) (b : CellBox) → o ≡ Some b → AreAxes axes → IsBox axes o → IsShiftedShape axes b.first b.last
+is_moved axes o b is grid ordered = boxes_are_shifted_shapes axes b.first b.last grid (subst (IsBox axes) is ordered)
 
 -- ---- counts of 0 after the others
 
@@ -158,7 +158,7 @@ has_fan : (axes : List Axis) (fans : List ℕ) (o : Option CellBox) → AreAxes 
     IfSome o (λ (b : CellBox). IsCounted axes fans (b.last - b.first)) → FanIsKnown axes fans o
 has_fan axes fans None grid ordered counted = tt
 has_fan axes fans (Some b) grid ordered counted =
-    let moved = boxes_are_moved_shapes axes b.first b.last grid ordered in
+    let moved = boxes_are_shifted_shapes axes b.first b.last grid ordered in
     record { ordered = moved.ordered; within = counted_within axes fans (b.last - b.first) counted; some = counted.some; cells = counted.cells ∙ sym (as_many axes b moved) }
 
 pub fans_all : (axes : List Axis) (boxes : List (Option CellBox)) (n : ℕ) (fans : List ℕ) (edges : ℕ) → AreAxes axes → All (IsBox axes) boxes →

@@ -12,7 +12,7 @@ use Rattle.grid_quantiser.specs.Indices.{index_along}
 use Rattle.grid_quantiser.proofs.OwnIndices.{index_along_is}
 use Rattle.plant_record.specs.Description.{Description, axis_of, axes_of}
 use Rattle.plant_record.specs.Plants.{IsPlant}
-use Rattle.successor_box.specs.PairExtents.{index_in, moves_along}
+use Rattle.successor_box.specs.PairExtents.{index_in, shifts_along}
 use Rattle.abstraction_table.specs.declared.digits.Digit.{Digit}
 use Rattle.abstraction_table.specs.declared.terms.TermTable.{TermTable}
 use Rattle.abstraction_table.specs.inside.CellLines.{last_state, line_length, AreInLine, IsInLineOf, StaysAlongLines}
@@ -83,7 +83,7 @@ module _ (p : Description) (plant : IsPlant p) where
   brings_in_row i t first own c d lt held stays row brought = record {
     cell = row.0;
     first = brought.first ∙ same_first c d t.digits.items row.1 stays.digits;
-    moves = brought.moves ∙ same_moves i c d (moves_along p i) lt row.1 (λ moves. stays.moves (subst IsTrue (sym held.moves) moves));
+    moves = brought.moves ∙ same_moves i c d (shifts_along p i) lt row.1 (λ moves. stays.moves (subst IsTrue (sym held.moves) moves));
   }
 
   -- the slot along another axis of a cell further in the row, and that along the last one
@@ -116,7 +116,7 @@ module _ (p : Description) (plant : IsPlant p) where
   moved_in_line i c k n false lt row within = omega arith
 
   -- where a row has one cell, the step is of no account
-  pub brings_in_line : (i : ℕ) (t : TermTable) (c k n first own step own_step : ℕ) → i < length p.states → t.moves ≡ moves_along p i → AreInLine p c n → k < n →
+  pub brings_in_line : (i : ℕ) (t : TermTable) (c k n first own step own_step : ℕ) → i < length p.states → t.moves ≡ shifts_along p i → AreInLine p c n → k < n →
       (1 < n → step ≡ step_of t (last_state p)) → own_step ≡ (if t.moves then (if i == last_state p then 1 else 0) else 0) → Brings p i t first own c → Brings p i t (first + k * step) (own + k * own_step) (c + k)
   brings_in_line i t c k n first own step own_step lt moves row within step_is own_is brought =
       let steps : k * step ≡ k * step_of t (last_state p) =
@@ -126,11 +126,11 @@ module _ (p : Description) (plant : IsPlant p) where
       ]
       in
       let unit : ℕ = if i == last_state p then 1 else 0 in
-      let own_by : own_step ≡ (if moves_along p i then unit else 0) = own_is ∙ ap (λ (b : Bool). if b then unit else 0) moves in
+      let own_by : own_step ≡ (if shifts_along p i then unit else 0) = own_is ∙ ap (λ (b : Bool). if b then unit else 0) moves in
       record {
         cell = omega (arith, row.within, within);
         first = omega (arith, brought.first, steps, first_in_line c k n t.digits.items row within);
-        moves = omega (arith, brought.moves, ap (λ (m : ℕ). k * m) own_by, moved_in_line i c k n (moves_along p i) lt row within);
+        moves = omega (arith, brought.moves, ap (λ (m : ℕ). k * m) own_by, moved_in_line i c k n (shifts_along p i) lt row within);
       }
 
   -- the indices of a cell further in the row

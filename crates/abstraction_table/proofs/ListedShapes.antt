@@ -9,7 +9,7 @@ use Rattle.grid_quantiser.specs.declared.axis.Axis.{Axis}
 use Rattle.grid_quantiser.specs.declared.boxes.CellBox.{CellBox}
 use Rattle.grid_quantiser.specs.Axes.{cells_of, AreAxes}
 use Rattle.grid_quantiser.specs.CellBoxes.{cells_between}
-use Rattle.grid_quantiser.specs.Laws.{IsMovedShape}
+use Rattle.grid_quantiser.specs.Laws.{IsShiftedShape}
 use Rattle.successor_box.specs.SuccessorBoxes.{cells_in}
 use Rattle.abstraction_table.specs.declared.shapes.Segment.{Segment}
 use Rattle.abstraction_table.specs.declared.shapes.SegmentRange.{SegmentRange}
@@ -18,7 +18,7 @@ use Rattle.abstraction_table.specs.inside.Fans.{FanIsKnown, AreFansOf}
 use Rattle.abstraction_table.specs.inside.Shapes.{cells_from, EndsBy, range_at, segments_at, HasSegmentsAt, HasSegmentsOf, EachBoxHasSegments, EachShapeHasSegments, KeepsSegments, ListsSegments}
 use Rattle.abstraction_table.specs.inside.SourceLists.{IsBox}
 use Rattle.abstraction_table.specs.inside.Tallies.{indices_in}
-use Rattle.abstraction_table.proofs.BelowBoxes.{boxes_have_cells, cells_lie_between_corners, boxes_are_moved_shapes}
+use Rattle.abstraction_table.proofs.BelowBoxes.{boxes_have_cells, cells_lie_between_corners, boxes_are_shifted_shapes}
 use Rattle.abstraction_table.proofs.Tallying.{by_cell}
 use Rattle.abstraction_table.proofs.BandIndices.{indices-append, segment_inside}
 use Rattle.abstraction_table.proofs.Segments.{cells-append, one_segment_more, segments_end}
@@ -34,7 +34,7 @@ moved_cells first (r ∷ segments) =
     ∙ ap (λ xs. range_with_len (first + r.start) r.len ++ xs) (moved_cells first segments)
 
 -- the segments of the shape of a box are its own
-pub box_segments : (axes : List Axis) (s : Shapes) (b : CellBox) → IsMovedShape axes b.first b.last → HasSegmentsAt axes s (b.last - b.first) → HasSegmentsOf axes s b
+pub box_segments : (axes : List Axis) (s : Shapes) (b : CellBox) → IsShiftedShape axes b.first b.last → HasSegmentsAt axes s (b.last - b.first) → HasSegmentsOf axes s b
 box_segments axes s b moved h = record {
   ordered = moved.ordered;
   listed = h.listed;
@@ -136,7 +136,7 @@ shapes_past axes fans n s below none h = record {
 
 segments_found : (axes : List Axis) (s : Shapes) (fans : List ℕ) (o : Option CellBox) → AreAxes axes → IsBox axes o → EachShapeHasSegments axes s fans → FanIsKnown axes fans o → IfSome o (HasSegmentsOf axes s)
 segments_found axes s fans None grid ordered has known = tt
-segments_found axes s fans (Some b) grid ordered has known = box_segments axes s b (boxes_are_moved_shapes axes b.first b.last grid ordered) (has (b.last - b.first) known.some)
+segments_found axes s fans (Some b) grid ordered has known = box_segments axes s b (boxes_are_shifted_shapes axes b.first b.last grid ordered) (has (b.last - b.first) known.some)
 
 -- where the segments of all shapes that are counted are listed, each box has its own
 pub have_segments : (axes : List Axis) (s : Shapes) (boxes : List (Option CellBox)) (fans : List ℕ) → AreAxes axes → All (IsBox axes) boxes → EachShapeHasSegments axes s fans → AreFansOf axes boxes fans → EachBoxHasSegments axes s boxes

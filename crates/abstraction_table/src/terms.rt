@@ -4,7 +4,7 @@ ghost use Rattle.std.specs.List.{All};
 ghost use Rattle.grid_quantiser.specs.Axes.{no_axis};
 ghost use Rattle.plant_record.specs.Description.{axes_of, vectors_of};
 ghost use Rattle.plant_record.specs.Limits.{IsWithinLimits};
-ghost use Rattle.successor_box.specs.PairExtents.{moves_along};
+ghost use Rattle.successor_box.specs.PairExtents.{shifts_along};
 ghost use Rattle.successor_box.specs.declared.indices_limit.TheConstants.{INDICES_LIMIT};
 ghost use Rattle.abstraction_table.specs.inside.CellLines.{StaysAlongLines};
 ghost use Rattle.abstraction_table.specs.inside.ExtentTables.{IsRelativeExtent, IsExtentTableOf};
@@ -281,7 +281,7 @@ fn are_zero(numbers: &[u32]) -> bool
 fn own_indices_along(p: &Plant, state: u32, moves: bool) -> u32
     requires plant { IsWithinLimits p.now }
     requires state { state < length p.now.equations }
-    requires moves { moves ≡ moves_along p.now state }
+    requires moves { moves ≡ shifts_along p.now state }
     ensures { result ≡ own_count p.now state }
 {
     if moves { p.grid().count(state) } else { 1 }

@@ -91,7 +91,7 @@ impl Board {
     /// A board whose counters begin as `starts` and whose minima begin as `least`. Its log has no slots.
     pub fn new(alloc: Global, starts: &[u64], least: &[u64]) -> Result<(Board, Root), NoMemory>
         requires some { 0 < length starts.now + length least.now }
-        requires capacity { length starts.now + length least.now < 2 ^ 32 }
+        requires fits { length starts.now + length least.now < 2 ^ 32 }
         ensures starts { IfOk result (λ made. made.0.starts ≡ starts.now) }
         ensures least { IfOk result (λ made. made.0.least ≡ least.now) }
         ensures slots { IfOk result (λ made. made.0.slots ≡ 0) }
@@ -108,7 +108,7 @@ impl Board {
         slots: u32,
     ) -> Result<(Board, Root), NoMemory>
         requires some { 0 < length starts.now + length least.now + slots }
-        requires capacity { length starts.now + length least.now + slots < 2 ^ 32 }
+        requires fits { length starts.now + length least.now + slots < 2 ^ 32 }
         ensures starts { IfOk result (λ made. made.0.starts ≡ starts.now) }
         ensures least { IfOk result (λ made. made.0.least ≡ least.now) }
         ensures slots { IfOk result (λ made. made.0.slots ≡ slots) }
@@ -131,7 +131,7 @@ impl Board {
     ) -> Result<(Board, Root), NoMemory>
         requires log { EndsInZeros words.now (1 + slots) }
         requires some { 0 < length (numbers_before_log words.now slots) + slots }
-        requires capacity { length (numbers_before_log words.now slots) + slots < 2 ^ 32 }
+        requires fits { length (numbers_before_log words.now slots) + slots < 2 ^ 32 }
         requires counters { counters ≤ length (numbers_before_log words.now slots) }
         ensures starts { IfOk result (λ made. made.0.starts ≡ take counters (numbers_before_log words.now slots)) }
         ensures least { IfOk result (λ made. made.0.least ≡ drop counters (numbers_before_log words.now slots)) }
@@ -158,7 +158,7 @@ impl Board {
     /// A new hand.
     pub fn hand(&self, root: &mut Root) -> Hand
         requires root { root.old.board ≡ self.now }
-        requires capacity { root.old.out < WORKERS_LIMIT }
+        requires few { root.old.out < WORKERS_LIMIT }
         ensures hand { result ≡ fresh_hand self.now }
         ensures root { root.new ≡ with_hand_out root.old }
     {

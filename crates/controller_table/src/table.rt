@@ -50,7 +50,7 @@ impl Table {
         requires fit { RowsFit plant answer }
         ensures { result ≡ record { version = version; plant = plant; rows = answer } }
     {
-        let rows = answer.rows();
+        let rows = answer.row_count();
         Table {
             version,
             plant,

@@ -26,7 +26,7 @@ pub fn demo_line<G: Graph>(
     push_part(&mut text, b" cells ", game.cells())?;
     push_part(&mut text, b" pairs ", game.cells() * game.inputs())?;
     push_part(&mut text, b" edges ", count_edges(game))?;
-    push_part(&mut text, b" won ", answer.rows())?;
+    push_part(&mut text, b" won ", answer.row_count())?;
     push_part(&mut text, b" rank ", greatest_rank(answer))?;
     text.extend_from_slice(b"\n")?;
     Ok(text)

@@ -4,10 +4,10 @@ use Rattle.std.specs.Prelude.{ℤ, pos, ◌-ℤ◌, ◌≤ℤ◌, ◌<ℤ◌, Is
 use Rattle.std.specs.Int.{int_min, int_max}
 use Rattle.fixed_expr.specs.Curves.{value_along, value_from}
 use Rattle.fixed_expr.specs.Expression.{Expression}
-use Rattle.fixed_expr.specs.Moves.{shifts_with}
+use Rattle.fixed_expr.specs.Shifts.{shifts_with}
 use Rattle.fixed_expr.specs.Value.{value_of}
 use Rattle.fixed_expr.specs.inside.Alike.{AreSameIn, AreSameBut}
-use Rattle.fixed_expr.proofs.MovingValues as moves
+use Rattle.fixed_expr.proofs.ShiftedValues as shifts
 use Rattle.fixed_expr.proofs.Pieces as pieces
 use Rattle.fixed_expr.proofs.Values as values
 pub use Rattle.fixed_expr.proofs.Narrowness.{narrow_in_range}
@@ -21,8 +21,8 @@ pub values_depend_on_variables : (e : Expression) (xs ys : List ℤ) → AreSame
 values_depend_on_variables e xs ys same = values.agree xs ys e same
 
 -- an expression that shifts with a variable has one value less that variable, wherever the other variables are the same
-pub values_move_with_variables : (e : Expression) (k : ℕ) (xs ys : List ℤ) → IsTrue (shifts_with e k) → AreSameBut k e xs ys → value_of e xs -ℤ slice_index_or xs k (pos 0) ≡ value_of e ys -ℤ slice_index_or ys k (pos 0)
-values_move_with_variables e k xs ys is same = moves.moves k xs ys e is same
+pub values_shift_with_variables : (e : Expression) (k : ℕ) (xs ys : List ℤ) → IsTrue (shifts_with e k) → AreSameBut k e xs ys → value_of e xs -ℤ slice_index_or xs k (pos 0) ≡ value_of e ys -ℤ slice_index_or ys k (pos 0)
+values_shift_with_variables e k xs ys is same = shifts.shifts k xs ys e is same
 
 -- ---- curves: along a piece, at its ends, before it and after it
 

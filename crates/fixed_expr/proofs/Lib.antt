@@ -4,7 +4,7 @@ mod Listing
 mod Pool
 pub mod Narrowness
 pub mod Values
-pub mod MovingValues
+pub mod ShiftedValues
 pub mod Pieces
 pub mod PointsPassed
 pub mod Laws

@@ -7,5 +7,5 @@ pub mod NarrowValues
 pub mod Lanes
 pub mod LaneEval
 pub mod Mentions
-pub mod Moves
+pub mod Shifts
 pub mod inside

@@ -12,7 +12,7 @@ mod fixed_value;
 mod lane_eval;
 pub mod lanes;
 mod mentions;
-mod moves;
+mod shifts;
 pub mod narrow;
 mod number_stack;
 mod operation;

@@ -44,7 +44,7 @@ impl Answer {
     }
 
     /// How many cells have a row.
-    pub fn rows(&self) -> u32
+    pub fn row_count(&self) -> u32
         ensures { result ≡ count_by is_some self.now }
     {
         let mut count = 0;

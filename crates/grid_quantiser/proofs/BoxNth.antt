@@ -66,8 +66,8 @@ between_nth (a ∷ axes) f l i each low box within =
     ∙ omega (arith, rest, add-mul (f / n) (i / m) n, div-add-mod' f n))
 
 -- a box is its shape, shifted
-pub moved_shape : (axes : List Axis) (f l : ℕ) → All IsAxis axes → f < cells_of axes → IsCellBox axes f l → cells_between axes f l ≡ map (λ c. f + c) (cells_between axes 0 (l - f))
-moved_shape axes f l each below box =
+pub shifted_shape : (axes : List Axis) (f l : ℕ) → All IsAxis axes → f < cells_of axes → IsCellBox axes f l → cells_between axes f l ≡ map (λ c. f + c) (cells_between axes 0 (l - f))
+shifted_shape axes f l each below box =
     let shape : List ℕ = cells_between axes 0 (l - f) in
     let is_box : IsCellBox axes 0 (l - f) = shape_box axes f l each box in
     let some : 0 < cells_of axes = omega (arith, below) in

@@ -5,7 +5,7 @@ pub mod Ranging
 pub mod Corners
 pub mod Depending
 pub mod Nesting
-pub mod MovingSpans
+pub mod ShiftedSpans
 pub mod IntervalColumns
 pub mod AreaColumns
 pub mod Nodes

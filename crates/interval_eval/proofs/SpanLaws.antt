@@ -2,14 +2,14 @@
 use Rattle.std.proofs.Common.{◌≡◌, ℕ, List, length, All}
 use Rattle.std.specs.Prelude.{ℤ, pos, ◌-ℤ◌, IsTrue}
 use Rattle.fixed_expr.specs.Expression.{Expression}
-use Rattle.fixed_expr.specs.Moves.{shifts_with}
+use Rattle.fixed_expr.specs.Shifts.{shifts_with}
 use Rattle.fixed_expr.specs.Value.{IsWellFormed, StaysInRange}
 use Rattle.fixed_expr.specs.inside.Alike.{AreSameIn}
 use Rattle.interval_eval.specs.declared.interval.Interval.{Interval}
 use Rattle.interval_eval.specs.Span.{IsInterval, AreIn, span_of, SpanStaysInRange}
 use Rattle.interval_eval.specs.NestedAreas.{ArePartsOf}
 use Rattle.interval_eval.specs.inside.Nested.{range_at, AreSameRangesBut}
-use Rattle.interval_eval.proofs.MovingSpans as moving
+use Rattle.interval_eval.proofs.ShiftedSpans as shifted_spans
 use Rattle.interval_eval.proofs.Nesting as nesting
 use Rattle.interval_eval.proofs.Ranging as ranging
 use Rattle.interval_eval.proofs.Depending as depending
@@ -29,7 +29,7 @@ pub nested_spans_stay_in_range : (e : Expression) (area wider : List Interval) �
 nested_spans_stay_in_range e area wider formed each parts stays = nesting.stays area wider each parts e formed stays
 
 -- the span of an expression that shifts with a variable shifts, at each end, by just what the variable's range shifts by
-pub spans_move_with_variables : (e : Expression) (k : ℕ) (area other : List Interval) → IsTrue (shifts_with e k) → AreSameRangesBut k e area other →
+pub spans_shift_with_variables : (e : Expression) (k : ℕ) (area other : List Interval) → IsTrue (shifts_with e k) → AreSameRangesBut k e area other →
     ((span_of e area).lo -ℤ (range_at area k).lo ≡ (span_of e other).lo -ℤ (range_at other k).lo)
     × ((span_of e area).hi -ℤ (range_at area k).hi ≡ (span_of e other).hi -ℤ (range_at other k).hi)
-spans_move_with_variables e k area other is same = moving.moves k area other e is same
+spans_shift_with_variables e k area other is same = shifted_spans.shifts k area other e is same

@@ -13,10 +13,10 @@ use Rattle.base.proofs.Lists.{same_last}
 
 -- ---- a table more
 
-pub has_capacity : (readers : Option Published) (count : ℕ) (table : Option TableModel) → Fits readers count table → count < 8 → IfSome readers (λ p. length p.list + 1 < 2 ^ 32)
-has_capacity None count table fits few = tt
-has_capacity (Some p) count None fits few = absurd fits
-has_capacity (Some p) count (Some t) fits few = omega (arith, fits.0, few)
+pub fits_once_more : (readers : Option Published) (count : ℕ) (table : Option TableModel) → Fits readers count table → count < 8 → IfSome readers (λ p. length p.list + 1 < 2 ^ 32)
+fits_once_more None count table fits few = tt
+fits_once_more (Some p) count None fits few = absurd fits
+fits_once_more (Some p) count (Some t) fits few = omega (arith, fits.0, few)
 
 pub fits_more : (before after : Option Published) (opened : Option ℕ) (count : ℕ) (table : Option TableModel) (t : TableModel) → Fits before count table → IfSome opened (λ _. count ≡ 0) → GoOnWith before opened t after → Fits after (count + 1) (Some t)
 fits_more before None opened count table t fits first on = tt

@@ -112,7 +112,7 @@ fn publish<R: Wait>(
     rt: &R,
     table: Table,
 ) -> Result<(), LiveFault>
-    requires capacity { length publisher.old.list + 1 < 2 ^ 32 }
+    requires fits { length publisher.old.list + 1 < 2 ^ 32 }
     requires step { All (InStep publisher.old) readers.old }
     ensures published { OnOk result (publisher.new ≡ with_table publisher.old table) }
     ensures told { OnOk result (All (InStep publisher.new) readers.new) }

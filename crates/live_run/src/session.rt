@@ -145,7 +145,7 @@ fn bring_into_force<R: Wait>(
     readers: Option<Readers>,
     next: NextTable<'_, R>,
 ) -> (Option<Readers>, Result<(), NoMemory>)
-    requires capacity { IfSome readers (λ p. length p.list + 1 < 2 ^ 32) }
+    requires fits { IfSome readers (λ p. length p.list + 1 < 2 ^ 32) }
     requires opened { IfSome next.opened AreWorkers }
     ensures with_table { GoOnWith readers next.entry.opened next.entry.table result.0 }
     ensures refused { OnErr result.1 (result.0 ≡ None) }

@@ -99,7 +99,7 @@ impl History {
     /// Adds a table to the whole list, which is this prefix. None where the list is longer.
     pub(crate) fn add(&self, prefix: &Prefix, table: &Table) -> Option<Prefix>
         requires opening { prefix.now.opening ≡ self.now }
-        requires capacity { length prefix.now.list + 1 < 2 ^ 32 }
+        requires fits { length prefix.now.list + 1 < 2 ^ 32 }
         ensures { IfSome result (λ p. p ≡ with_table prefix.now table.now) }
     {
         let mut seen = prefix.seen.again();

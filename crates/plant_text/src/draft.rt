@@ -131,7 +131,7 @@ impl Draft {
         })
     }
 
-    /// Whether a statement has its position after the lines so far.
+    /// Whether a statement may stand after the lines so far.
     fn fits(&self, statement: &Statement) -> bool
         requires { KeepsRules (partial_of self.now) }
         ensures { IsTrue result ↔ FitsAfter (partial_of self.now) (statement_of statement.now) }

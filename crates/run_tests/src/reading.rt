@@ -40,7 +40,7 @@ fn has_stay_rows(alloc: Global) -> bool {
     let Ok(stay) = read_stay(alloc, STAY) else {
         return false;
     };
-    let rows = stay.rows();
+    let rows = stay.answer();
     rows.cells() == 5
         && rows.row(0) == Some(Row { rank: 4, input: 2 })
         && rows.row(4) == Some(Row { rank: 0, input: 1 })
@@ -62,7 +62,7 @@ fn has_patrol_rows(alloc: Global) -> bool {
     if patrol.turns() != 2 {
         return false;
     }
-    let rows = patrol.rows().turn(1);
+    let rows = patrol.turns().turn(1);
     rows.cells() == 5
         && rows.row(4) == Some(Row { rank: 2, input: 0 })
         && matches!(

@@ -8,12 +8,12 @@ use Rattle.std.proofs.lemmas.List.{length-map, get_or-take, length-take-le}
 use Rattle.fixed_expr.specs.Expression.{Expression}
 use Rattle.fixed_expr.specs.Mentions.{mentions}
 use Rattle.fixed_expr.specs.inside.Alike.{AreSameIn, AreSameBut}
-use Rattle.fixed_expr.proofs.Laws.{values_depend_on_variables, values_move_with_variables}
+use Rattle.fixed_expr.proofs.Laws.{values_depend_on_variables, values_shift_with_variables}
 use Rattle.fixed_expr.specs.Value.{value_of}
 use Rattle.interval_eval.specs.declared.interval.Interval.{Interval}
 use Rattle.interval_eval.specs.Span.{span_of}
 use Rattle.interval_eval.specs.inside.Nested.{AreSameRangesBut}
-use Rattle.interval_eval.proofs.SpanLaws.{spans_depend_on_variables, spans_move_with_variables}
+use Rattle.interval_eval.proofs.SpanLaws.{spans_depend_on_variables, spans_shift_with_variables}
 use Rattle.growth_bound.proofs.Laws.{deviations_depend_on_variables}
 use Rattle.grid_quantiser.specs.declared.axis.Axis.{Axis}
 use Rattle.grid_quantiser.specs.declared.extents.Extent.{Extent}
@@ -31,8 +31,8 @@ use Rattle.plant_record.proofs.lemmas.ValueIndices.{inputs_rest}
 use Rattle.plant_record.specs.Soundness.{IsSound}
 use Rattle.plant_record.specs.Steps.{equation_at}
 use Rattle.successor_box.specs.SuccessorBoxes.{noise_centre, area_of, radii_of, deviation_at, central_values, cell_area_of, growth_of, next_interval_of, low_corner, high_corner}
-use Rattle.successor_box.specs.PairExtents.{index_in, moves_along, shifted_by, IsExtentBeforeAt, depends_on, AreAlikeIn}
-use Rattle.successor_box.specs.inside.Area.{no_range, offsets_of, moved_to}
+use Rattle.successor_box.specs.PairExtents.{index_in, shifts_along, shifted_by, IsExtentBeforeAt, depends_on, AreAlikeIn}
+use Rattle.successor_box.specs.inside.Area.{no_range, offsets_of, shifted_to}
 use Rattle.successor_box.proofs.Below.{centres_depend_on_their_indices}
 use Rattle.successor_box.proofs.CellOffsets.{cell_range, same_constants, same_offsets, same_cell_range}
 use Rattle.successor_box.proofs.CellValues.{vector_count}
@@ -146,12 +146,12 @@ module _ (p : Description) (c u d v k : ℕ) where
 -- ---- one extent
 
 -- a variable that stands in the equation, and isn't a state that shifts the extent
-depends : (p : Description) (i k : ℕ) → mentions (equation_at p i) k ≡ true → (moves_along p i ≡ true → k ≡ i → ⊥) → depends_on p i k ≡ true
-depends p i k stands other = and_from (mentions (equation_at p i) k) (not (moves_along p i && eqb k i)) stands (not_from_false (moves_along p i && eqb k i) (apart (cases_Bool (moves_along p i))))
+depends : (p : Description) (i k : ℕ) → mentions (equation_at p i) k ≡ true → (shifts_along p i ≡ true → k ≡ i → ⊥) → depends_on p i k ≡ true
+depends p i k stands other = and_from (mentions (equation_at p i) k) (not (shifts_along p i && eqb k i)) stands (not_from_false (shifts_along p i && eqb k i) (apart (cases_Bool (shifts_along p i))))
   where
-    apart : (moves_along p i ≡ true) ⊎ (moves_along p i ≡ false) → (moves_along p i && eqb k i) ≡ false
-    apart (inl moves) = and_right (moves_along p i) (eqb k i) (ne_eqb k i (other moves))
-    apart (inr fixed) = and_left (moves_along p i) (eqb k i) fixed
+    apart : (shifts_along p i ≡ true) ⊎ (shifts_along p i ≡ false) → (shifts_along p i && eqb k i) ≡ false
+    apart (inl moves) = and_right (shifts_along p i) (eqb k i) (ne_eqb k i (other moves))
+    apart (inr fixed) = and_left (shifts_along p i) (eqb k i) fixed
 
 module _ (p : Description) (i c u d v : ℕ) (sound : IsSound p) (lt : i < length p.equations)
     (cell : c < cells_of (axes_of p)) (input : u < vectors_of p.inputs) (other_cell : d < cells_of (axes_of p)) (other_input : v < vectors_of p.inputs) (alike : AreAlikeIn p i c u d v) where
@@ -164,7 +164,7 @@ module _ (p : Description) (i c u d v : ℕ) (sound : IsSound p) (lt : i < lengt
   state_lt : i < length p.states
   state_lt = omega (arith, lt, sound.one_each)
 
-  same : (k : ℕ) → mentions e k ≡ true → (moves_along p i ≡ true → k ≡ i → ⊥) → get_or (central_values p d v) k (pos 0) ≡ get_or (central_values p c u) k (pos 0)
+  same : (k : ℕ) → mentions e k ≡ true → (shifts_along p i ≡ true → k ≡ i → ⊥) → get_or (central_values p d v) k (pos 0) ≡ get_or (central_values p c u) k (pos 0)
   same k stands other = same_value p c u d v k sound cell input other_cell other_input (λ here. alike k here (depends p i k stands other))
 
   same_deviation : deviation_at p v e ≡ deviation_at p u e
@@ -184,41 +184,41 @@ module _ (p : Description) (i c u d v : ℕ) (sound : IsSound p) (lt : i < lengt
   abbrev IsSameBefore : ℤ → ℤ → Type 0
   IsSameBefore there here = there -ℤ shift d ≡ here -ℤ shift c
 
-  moved_here : moves_along p i ≡ true → (b : ℕ) → shifted_by p i b ≡ index_along (axes_of p) i b
-  moved_here moves b = cond-true (moves_along p i) (index_along (axes_of p) i b) 0 moves
+  shifted_here : shifts_along p i ≡ true → (b : ℕ) → shifted_by p i b ≡ index_along (axes_of p) i b
+  shifted_here moves b = cond-true (shifts_along p i) (index_along (axes_of p) i b) 0 moves
 
-  fixed_here : moves_along p i ≡ false → (b : ℕ) → shifted_by p i b ≡ 0
-  fixed_here fixed b = cond-false (moves_along p i) (index_along (axes_of p) i b) 0 fixed
+  fixed_here : shifts_along p i ≡ false → (b : ℕ) → shifted_by p i b ≡ 0
+  fixed_here fixed b = cond-false (shifts_along p i) (index_along (axes_of p) i b) 0 fixed
 
   -- the value at the centre
-  same_centre : (moves_along p i ≡ true) ⊎ (moves_along p i ≡ false) → IsSameBefore (value_of e (central_values p d v)) (value_of e (central_values p c u))
+  same_centre : (shifts_along p i ≡ true) ⊎ (shifts_along p i ≡ false) → IsSameBefore (value_of e (central_values p d v)) (value_of e (central_values p c u))
   same_centre (inl moves) =
       let but : AreSameBut i e (central_values p d v) (central_values p c u) = λ k other stands. same k stands (λ m is. other is) in
-      let apart = values_move_with_variables e i (central_values p d v) (central_values p c u) moves but in
-      rw (moved_here moves c, moved_here moves d) (omega (arith, ints, apart, own_value c u cell, own_value d v other_cell))
+      let apart = values_shift_with_variables e i (central_values p d v) (central_values p c u) moves but in
+      rw (shifted_here moves c, shifted_here moves d) (omega (arith, ints, apart, own_value c u cell, own_value d v other_cell))
   same_centre (inr fixed) =
-      let value = values_depend_on_variables e (central_values p d v) (central_values p c u) (λ k stands. same k stands (λ m is. both_ways (moves_along p i) fixed m)) in
+      let value = values_depend_on_variables e (central_values p d v) (central_values p c u) (λ k stands. same k stands (λ m is. both_ways (shifts_along p i) fixed m)) in
       rw (fixed_here fixed c, fixed_here fixed d) (ap (λ (x : ℤ). x -ℤ (axis.width *ℤ pos 0)) value)
 
   -- the span over the cell
   abbrev span : ℕ → ℕ → Interval
   span b w = span_of e (cell_area_of p b w)
 
-  own_range : (b w : ℕ) → b < cells_of (axes_of p) → get_or (cell_area_of p b w) i no_range ≡ moved_to (middle_of axis (index_along (axes_of p) i b)) (get_or (offsets_of p u) i no_range)
+  own_range : (b w : ℕ) → b < cells_of (axes_of p) → get_or (cell_area_of p b w) i no_range ≡ shifted_to (middle_of axis (index_along (axes_of p) i b)) (get_or (offsets_of p u) i no_range)
   own_range b w within =
       cell_range p b w i (omega (arith, state_lt))
-      ∙ ap₂ (λ (x : ℤ) (os : List Interval). moved_to x (get_or os i no_range)) (own_value b w within) (same_offsets p u w)
+      ∙ ap₂ (λ (x : ℤ) (os : List Interval). shifted_to x (get_or os i no_range)) (own_value b w within) (same_offsets p u w)
 
-  same_span : (moves_along p i ≡ true) ⊎ (moves_along p i ≡ false) → IsSameBefore (span d v).lo (span c u).lo × IsSameBefore (span d v).hi (span c u).hi
+  same_span : (shifts_along p i ≡ true) ⊎ (shifts_along p i ≡ false) → IsSameBefore (span d v).lo (span c u).lo × IsSameBefore (span d v).hi (span c u).hi
   same_span (inl moves) =
       let but : AreSameRangesBut i e (cell_area_of p d v) (cell_area_of p c u) = λ k other stands. same_cell_range p c u d v k (same k stands (λ m is. other is)) in
-      let apart = spans_move_with_variables e i (cell_area_of p d v) (cell_area_of p c u) moves but in
+      let apart = spans_shift_with_variables e i (cell_area_of p d v) (cell_area_of p c u) moves but in
       let here = own_range c u cell in
       let there = own_range d v other_cell in
-      rw (moved_here moves c, moved_here moves d)
+      rw (shifted_here moves c, shifted_here moves d)
       (omega (arith, ints, apart.0, ap (λ (r : Interval). r.lo) here, ap (λ (r : Interval). r.lo) there), omega (arith, ints, apart.1, ap (λ (r : Interval). r.hi) here, ap (λ (r : Interval). r.hi) there))
   same_span (inr fixed) =
-      let is = spans_depend_on_variables e (cell_area_of p d v) (cell_area_of p c u) (λ k stands. same_cell_range p c u d v k (same k stands (λ m is. both_ways (moves_along p i) fixed m))) in
+      let is = spans_depend_on_variables e (cell_area_of p d v) (cell_area_of p c u) (λ k stands. same_cell_range p c u d v k (same k stands (λ m is. both_ways (shifts_along p i) fixed m))) in
       rw (fixed_here fixed c, fixed_here fixed d) (ap (λ (s : Interval). s.lo -ℤ (axis.width *ℤ pos 0)) is, ap (λ (s : Interval). s.hi -ℤ (axis.width *ℤ pos 0)) is)
 
   -- where the equation leads
@@ -230,13 +230,13 @@ module _ (p : Description) (i c u d v : ℕ) (sound : IsSound p) (lt : i < lengt
 
   same_growth : IsSameBefore (growth_of p d v e).lo (growth_of p c u e).lo × IsSameBefore (growth_of p d v e).hi (growth_of p c u e).hi
   same_growth =
-      let value = same_centre (cases_Bool (moves_along p i)) in
+      let value = same_centre (cases_Bool (shifts_along p i)) in
       (omega (arith, ints, value, same_deviation), omega (arith, ints, value, same_deviation))
 
   same_next_interval : (version : PlantVersion) → IsSameBefore (next_interval_of version p d v e).lo (next_interval_of version p c u e).lo × IsSameBefore (next_interval_of version p d v e).hi (next_interval_of version p c u e).hi
   same_next_interval One = same_growth
   same_next_interval Two =
-      let s = same_span (cases_Bool (moves_along p i)) in
+      let s = same_span (cases_Bool (shifts_along p i)) in
       (greater_before _ _ _ _ same_growth.0 s.0, lesser_before _ _ _ _ same_growth.1 s.1)
 
   pub alike_extent : (extent : Option Extent) → IsExtentBeforeAt p d v i (shifted_by p i d) extent → IsExtentBeforeAt p c u i (shifted_by p i c) extent

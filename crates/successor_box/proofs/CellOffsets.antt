@@ -13,40 +13,40 @@ use Rattle.plant_record.specs.declared.variables.StateVariable.{StateVariable}
 use Rattle.plant_record.specs.declared.variables.NoiseVariable.{NoiseVariable}
 use Rattle.plant_record.specs.Description.{Description, axis_of, axes_of, vector_of}
 use Rattle.successor_box.specs.SuccessorBoxes.{noise_centre, ranges_between, cell_area_of, central_values}
-use Rattle.successor_box.specs.inside.Area.{no_range, variables_of, offsets_of, moved_to}
+use Rattle.successor_box.specs.inside.Area.{no_range, variables_of, offsets_of, shifted_to}
 use Rattle.successor_box.proofs.CellValues.{vector_count}
 use Rattle.successor_box.proofs.Centres.{centre_count}
 use Rattle.successor_box.proofs.Ranges.{in_first, in_second, in_third, noise_told}
 
 -- ---- intervals shifted by numbers, one for each
 
-pub moved_all : List ℤ → List Interval → List Interval
-moved_all [] os = []
-moved_all (x ∷ xs) [] = []
-moved_all (x ∷ xs) (o ∷ os) = moved_to x o ∷ moved_all xs os
+pub shifted_all : List ℤ → List Interval → List Interval
+shifted_all [] os = []
+shifted_all (x ∷ xs) [] = []
+shifted_all (x ∷ xs) (o ∷ os) = shifted_to x o ∷ shifted_all xs os
 
-moved_append : (xs ys : List ℤ) (os ps : List Interval) → length xs ≡ length os → moved_all (xs ++ ys) (os ++ ps) ≡ moved_all xs os ++ moved_all ys ps
-unfolding moved_all
-moved_append [] ys [] ps long = refl
-moved_append [] ys (o ∷ os) ps long = absurd (omega (arith, long))
-moved_append (x ∷ xs) ys [] ps long = absurd (omega (arith, long))
-moved_append (x ∷ xs) ys (o ∷ os) ps long = ap (λ (is : List Interval). moved_to x o ∷ is) (moved_append xs ys os ps (omega (arith, long)))
+shifted_append : (xs ys : List ℤ) (os ps : List Interval) → length xs ≡ length os → shifted_all (xs ++ ys) (os ++ ps) ≡ shifted_all xs os ++ shifted_all ys ps
+unfolding shifted_all
+shifted_append [] ys [] ps long = refl
+shifted_append [] ys (o ∷ os) ps long = absurd (omega (arith, long))
+shifted_append (x ∷ xs) ys [] ps long = absurd (omega (arith, long))
+shifted_append (x ∷ xs) ys (o ∷ os) ps long = ap (λ (is : List Interval). shifted_to x o ∷ is) (shifted_append xs ys os ps (omega (arith, long)))
 
-moved_at : (xs : List ℤ) (os : List Interval) (k : ℕ) → k < length xs → k < length os → get_or (moved_all xs os) k no_range ≡ moved_to (get_or xs k (pos 0)) (get_or os k no_range)
-unfolding moved_all
-moved_at [] os k first second = absurd (omega (arith, first))
-moved_at (x ∷ xs) [] k first second = absurd (omega (arith, second))
-moved_at (x ∷ xs) (o ∷ os) zero first second = refl
-moved_at (x ∷ xs) (o ∷ os) (suc k) first second = moved_at xs os k (omega (arith, first)) (omega (arith, second))
+shifted_at : (xs : List ℤ) (os : List Interval) (k : ℕ) → k < length xs → k < length os → get_or (shifted_all xs os) k no_range ≡ shifted_to (get_or xs k (pos 0)) (get_or os k no_range)
+unfolding shifted_all
+shifted_at [] os k first second = absurd (omega (arith, first))
+shifted_at (x ∷ xs) [] k first second = absurd (omega (arith, second))
+shifted_at (x ∷ xs) (o ∷ os) zero first second = refl
+shifted_at (x ∷ xs) (o ∷ os) (suc k) first second = shifted_at xs os k (omega (arith, first)) (omega (arith, second))
 
-same_moved : (xs ys : List ℤ) (os : List Interval) (k : ℕ) → length xs ≡ length ys → get_or xs k (pos 0) ≡ get_or ys k (pos 0) → get_or (moved_all xs os) k no_range ≡ get_or (moved_all ys os) k no_range
-unfolding moved_all
-same_moved [] [] os k long same = refl
-same_moved [] (y ∷ ys) os k long same = absurd (omega (arith, long))
-same_moved (x ∷ xs) [] os k long same = absurd (omega (arith, long))
-same_moved (x ∷ xs) (y ∷ ys) [] k long same = refl
-same_moved (x ∷ xs) (y ∷ ys) (o ∷ os) zero long same = ap (λ (z : ℤ). moved_to z o) same
-same_moved (x ∷ xs) (y ∷ ys) (o ∷ os) (suc k) long same = same_moved xs ys os k (omega (arith, long)) same
+same_shifted : (xs ys : List ℤ) (os : List Interval) (k : ℕ) → length xs ≡ length ys → get_or xs k (pos 0) ≡ get_or ys k (pos 0) → get_or (shifted_all xs os) k no_range ≡ get_or (shifted_all ys os) k no_range
+unfolding shifted_all
+same_shifted [] [] os k long same = refl
+same_shifted [] (y ∷ ys) os k long same = absurd (omega (arith, long))
+same_shifted (x ∷ xs) [] os k long same = absurd (omega (arith, long))
+same_shifted (x ∷ xs) (y ∷ ys) [] k long same = refl
+same_shifted (x ∷ xs) (y ∷ ys) (o ∷ os) zero long same = ap (λ (z : ℤ). shifted_to z o) same
+same_shifted (x ∷ xs) (y ∷ ys) (o ∷ os) (suc k) long same = same_shifted xs ys os k (omega (arith, long)) same
 
 -- ---- states, inputs and noises
 
@@ -59,30 +59,30 @@ noise_offset w = record { lo = w.low -ℤ noise_centre w; hi = w.high -ℤ noise
 between : (x y : ℤ) (i : Interval) → i.lo ≡ x → i.hi ≡ y → ◌≡◌ {A = Interval} i (record { lo = x; hi = y })
 between x y i low high = ap₂ (λ (l h : ℤ). record { lo = l; hi = h }) low high
 
-states_moved : (states : List StateVariable) (c : ℕ) → moved_all (take (length states) (centre_of (map axis_of states) c)) (map axis_offset (map axis_of states)) ≡ ranges_between (low_of (map axis_of states) c) (high_of (map axis_of states) c)
-unfolding moved_all
-states_moved [] c = refl
-states_moved (s ∷ states) c =
+states_shifted : (states : List StateVariable) (c : ℕ) → shifted_all (take (length states) (centre_of (map axis_of states) c)) (map axis_offset (map axis_of states)) ≡ ranges_between (low_of (map axis_of states) c) (high_of (map axis_of states) c)
+unfolding shifted_all
+states_shifted [] c = refl
+states_shifted (s ∷ states) c =
     let axes = map axis_of states in
     ap₂ (λ (i : Interval) (is : List Interval). i ∷ is)
     (one ((axis_of s).lo +ℤ ((axis_of s).width *ℤ pos (c / cells_of axes))) (radius_of (axis_of s)) (axis_of s).width)
-    (states_moved states (c % cells_of axes))
+    (states_shifted states (c % cells_of axes))
   where
-    one : (x r w : ℤ) → moved_to (x +ℤ r) (record { lo = neg_ℤ r; hi = (w -ℤ pos 1) -ℤ r }) ≡ record { lo = x; hi = x +ℤ (w -ℤ pos 1) }
-    one x r w = between x (x +ℤ (w -ℤ pos 1)) (moved_to (x +ℤ r) (record { lo = neg_ℤ r; hi = (w -ℤ pos 1) -ℤ r })) (omega (arith, ints)) (omega (arith, ints))
+    one : (x r w : ℤ) → shifted_to (x +ℤ r) (record { lo = neg_ℤ r; hi = (w -ℤ pos 1) -ℤ r }) ≡ record { lo = x; hi = x +ℤ (w -ℤ pos 1) }
+    one x r w = between x (x +ℤ (w -ℤ pos 1)) (shifted_to (x +ℤ r) (record { lo = neg_ℤ r; hi = (w -ℤ pos 1) -ℤ r })) (omega (arith, ints)) (omega (arith, ints))
 
-inputs_moved : (vs : List ℤ) → moved_all vs (map (λ (_ : ℤ). no_range) vs) ≡ map (λ v. record { lo = v; hi = v }) vs
-unfolding moved_all
-inputs_moved [] = refl
-inputs_moved (v ∷ vs) = ap₂ (λ (i : Interval) (is : List Interval). i ∷ is) (between v v (moved_to v no_range) (omega (arith, ints)) (omega (arith, ints))) (inputs_moved vs)
+inputs_shifted : (vs : List ℤ) → shifted_all vs (map (λ (_ : ℤ). no_range) vs) ≡ map (λ v. record { lo = v; hi = v }) vs
+unfolding shifted_all
+inputs_shifted [] = refl
+inputs_shifted (v ∷ vs) = ap₂ (λ (i : Interval) (is : List Interval). i ∷ is) (between v v (shifted_to v no_range) (omega (arith, ints)) (omega (arith, ints))) (inputs_shifted vs)
 
-noises_moved : (noises : List NoiseVariable) → moved_all (take (length noises) (map noise_centre noises)) (map noise_offset noises) ≡ map (λ (w : NoiseVariable). record { lo = w.low; hi = w.high }) noises
-unfolding moved_all
-noises_moved [] = refl
-noises_moved (w ∷ noises) = ap₂ (λ (i : Interval) (is : List Interval). i ∷ is) (one (noise_centre w) w.low w.high) (noises_moved noises)
+noises_shifted : (noises : List NoiseVariable) → shifted_all (take (length noises) (map noise_centre noises)) (map noise_offset noises) ≡ map (λ (w : NoiseVariable). record { lo = w.low; hi = w.high }) noises
+unfolding shifted_all
+noises_shifted [] = refl
+noises_shifted (w ∷ noises) = ap₂ (λ (i : Interval) (is : List Interval). i ∷ is) (one (noise_centre w) w.low w.high) (noises_shifted noises)
   where
-    one : (m low high : ℤ) → moved_to m (record { lo = low -ℤ m; hi = high -ℤ m }) ≡ record { lo = low; hi = high }
-    one m low high = between low high (moved_to m (record { lo = low -ℤ m; hi = high -ℤ m })) (omega (arith, ints)) (omega (arith, ints))
+    one : (m low high : ℤ) → shifted_to m (record { lo = low -ℤ m; hi = high -ℤ m }) ≡ record { lo = low; hi = high }
+    one m low high = between low high (shifted_to m (record { lo = low -ℤ m; hi = high -ℤ m })) (omega (arith, ints)) (omega (arith, ints))
 
 -- ---- all variables
 
@@ -113,27 +113,27 @@ module _ (p : Description) (c u : ℕ) where
   pub offset_count : length (offsets_of p u) ≡ variables_of p
   offset_count = omega (arith, length-append (map axis_offset (axes_of p) ++ input_offsets) (map noise_offset p.noises), length-append (map axis_offset (axes_of p)) input_offsets, states_offset, inputs_offset, length-map p.noises noise_offset)
 
-  pub cell_area_is : cell_area_of p c u ≡ moved_all (central_values p c u) (offsets_of p u)
+  pub cell_area_is : cell_area_of p c u ≡ shifted_all (central_values p c u) (offsets_of p u)
   cell_area_is =
       let front : length (centre ++ vector_of p.inputs u) ≡ length (map axis_offset (axes_of p) ++ input_offsets) =
       omega (arith, length-append centre (vector_of p.inputs u), length-append (map axis_offset (axes_of p)) input_offsets, centre_long, vector_count p.inputs u, states_offset, inputs_offset) in
-      sym (moved_append (centre ++ vector_of p.inputs u) noise_middles (map axis_offset (axes_of p) ++ input_offsets) (map noise_offset p.noises) front
+      sym (shifted_append (centre ++ vector_of p.inputs u) noise_middles (map axis_offset (axes_of p) ++ input_offsets) (map noise_offset p.noises) front
       ∙ ap₂ (λ (is js : List Interval). is ++ js)
-      (moved_append centre (vector_of p.inputs u) (map axis_offset (axes_of p)) input_offsets (omega (arith, centre_long, states_offset))
-      ∙ ap₂ (λ (is js : List Interval). is ++ js) (states_moved p.states c) (inputs_moved (vector_of p.inputs u)))
-      (noises_moved p.noises))
+      (shifted_append centre (vector_of p.inputs u) (map axis_offset (axes_of p)) input_offsets (omega (arith, centre_long, states_offset))
+      ∙ ap₂ (λ (is js : List Interval). is ++ js) (states_shifted p.states c) (inputs_shifted (vector_of p.inputs u)))
+      (noises_shifted p.noises))
 
-  pub cell_range : (k : ℕ) → k < variables_of p → get_or (cell_area_of p c u) k no_range ≡ moved_to (get_or (central_values p c u) k (pos 0)) (get_or (offsets_of p u) k no_range)
-  cell_range k lt = ap (λ (area : List Interval). get_or area k no_range) cell_area_is ∙ moved_at (central_values p c u) (offsets_of p u) k (omega (arith, lt, central_count)) (omega (arith, lt, offset_count))
+  pub cell_range : (k : ℕ) → k < variables_of p → get_or (cell_area_of p c u) k no_range ≡ shifted_to (get_or (central_values p c u) k (pos 0)) (get_or (offsets_of p u) k no_range)
+  cell_range k lt = ap (λ (area : List Interval). get_or area k no_range) cell_area_is ∙ shifted_at (central_values p c u) (offsets_of p u) k (omega (arith, lt, central_count)) (omega (arith, lt, offset_count))
 
-moved_count : (xs : List ℤ) (os : List Interval) (n : ℕ) → length xs ≡ n → length os ≡ n → length (moved_all xs os) ≡ n
-unfolding moved_all
-moved_count [] os n first second = first
-moved_count (x ∷ xs) [] n first second = absurd (omega (arith, first, second))
-moved_count (x ∷ xs) (o ∷ os) n first second = omega (arith, first, second, moved_count xs os (length xs) refl (omega (arith, first, second)))
+shifted_count : (xs : List ℤ) (os : List Interval) (n : ℕ) → length xs ≡ n → length os ≡ n → length (shifted_all xs os) ≡ n
+unfolding shifted_all
+shifted_count [] os n first second = first
+shifted_count (x ∷ xs) [] n first second = absurd (omega (arith, first, second))
+shifted_count (x ∷ xs) (o ∷ os) n first second = omega (arith, first, second, shifted_count xs os (length xs) refl (omega (arith, first, second)))
 
 pub cell_area_long : (p : Description) (c u : ℕ) → length (cell_area_of p c u) ≡ variables_of p
-cell_area_long p c u = ap length (cell_area_is p c u) ∙ moved_count (central_values p c u) (offsets_of p u) (variables_of p) (central_count p c u) (offset_count p c u)
+cell_area_long p c u = ap length (cell_area_is p c u) ∙ shifted_count (central_values p c u) (offsets_of p u) (variables_of p) (central_count p c u) (offset_count p c u)
 
 -- inputs have no offset
 pub same_constants : {X : Type 0} (x : X) (ys zs : List ℤ) → length ys ≡ length zs → map (λ (_ : ℤ). x) ys ≡ map (λ (_ : ℤ). x) zs
@@ -149,8 +149,8 @@ same_offsets p u v =
 
 pub same_cell_range : (p : Description) (c u d v k : ℕ) → get_or (central_values p d v) k (pos 0) ≡ get_or (central_values p c u) k (pos 0) → get_or (cell_area_of p d v) k no_range ≡ get_or (cell_area_of p c u) k no_range
 same_cell_range p c u d v k same =
-    ap (λ (area : List Interval). get_or area k no_range) (cell_area_is p d v ∙ ap (λ (os : List Interval). moved_all (central_values p d v) os) (same_offsets p u v))
-    ∙ same_moved (central_values p d v) (central_values p c u) (offsets_of p u) k (central_count p d v ∙ sym (central_count p c u)) same
+    ap (λ (area : List Interval). get_or area k no_range) (cell_area_is p d v ∙ ap (λ (os : List Interval). shifted_all (central_values p d v) os) (same_offsets p u v))
+    ∙ same_shifted (central_values p d v) (central_values p c u) (offsets_of p u) k (central_count p d v ∙ sym (central_count p c u)) same
     ∙ sym (ap (λ (area : List Interval). get_or area k no_range) (cell_area_is p c u))
 
 -- ---- the offset of one variable

@@ -28,7 +28,7 @@ use Rattle.plant_record.specs.Steps.{equation_at}
 use Rattle.plant_record.specs.Variables.{IsStateVariable, IsNoiseVariable}
 use Rattle.successor_box.specs.SuccessorBoxes.{area_of, cell_area_of, central_values}
 use Rattle.successor_box.specs.Deviations.{HasNoOverflow}
-use Rattle.successor_box.specs.inside.Area.{no_range, variables_of, offsets_of, moved_to}
+use Rattle.successor_box.specs.inside.Area.{no_range, variables_of, offsets_of, shifted_to}
 use Rattle.successor_box.specs.inside.Lines.{no_column, HoldsInLanes, AreValuesUnder, value_at}
 use Rattle.successor_box.proofs.CellAreas.{cell_area_count, cell_intervals, cell_parts, cell_central_in}
 use Rattle.successor_box.proofs.CellOffsets.{cell_area_long, cell_range}
@@ -66,16 +66,16 @@ held_at (i ∷ area) (x ∷ values) (suc k) d inside lt = held_at area values k 
 
 -- The range of a variable over a cell, from its value at the centre: all has room in 64 bits.
 pub record IsNarrowRange (x : ℤ) (offset range : Interval) : Type 0 where
-  pub is : range ≡ moved_to x offset
+  pub is : range ≡ shifted_to x offset
   pub low_offset : FitsSigned w64 offset.lo
   pub high_offset : FitsSigned w64 offset.hi
   pub low : IsNarrow (x +ℤ offset.lo)
   pub high : IsNarrow (x +ℤ offset.hi)
 
-narrow_range : (x : ℤ) (offset range : Interval) → range ≡ moved_to x offset → HasShortEnds range → IsIn range x → IsNarrowRange x offset range
+narrow_range : (x : ℤ) (offset range : Interval) → range ≡ shifted_to x offset → HasShortEnds range → IsIn range x → IsNarrowRange x offset range
 narrow_range x offset range is short inside =
-    let ends : HasShortEnds (moved_to x offset) = subst HasShortEnds is short in
-    let held : IsIn (moved_to x offset) x = subst (λ (r : Interval). IsIn r x) is inside in
+    let ends : HasShortEnds (shifted_to x offset) = subst HasShortEnds is short in
+    let held : IsIn (shifted_to x offset) x = subst (λ (r : Interval). IsIn r x) is inside in
     record {
       is = is;
       low_offset = omega (arith, ints, ends.0, ends.1, held.0, held.1);

@@ -39,8 +39,8 @@ ends_ordered p c u i sound lt = by _ _ (next_interval_of p.version p c u (equati
     by x y i low high order = omega (arith, ints, low, high, order)
 
 -- an extent that isn't shifted
-pub unmoved : (a : Axis) (low high : ℤ) (extent : Option Extent) → IsExtentOf (extended_axis a) low high extent → IsExtentBefore a 0 low high extent
-unmoved a low high extent is =
+pub unshifted : (a : Axis) (low high : ℤ) (extent : Option Extent) → IsExtentOf (extended_axis a) low high extent → IsExtentBefore a 0 low high extent
+unshifted a low high extent is =
     let same : (x : ℤ) → x ≡ x -ℤ (a.width *ℤ pos 0) = λ x. omega (arith, ints) in
     subst₂ (λ (x y : ℤ). IsExtentOf (extended_axis a) x y extent) (same low) (same high) is
 
@@ -50,7 +50,7 @@ pub extent_of_next : (p : Description) (c u i : ℕ) (next_interval : Interval) 
 extent_of_next p c u i next_interval extent lt is found =
     let low : next_interval.lo ≡ get_or (low_corner p c u) i (pos 0) = ap (λ (r : Interval). r.lo) is ∙ sym (low_is p c u i lt) in
     let high : next_interval.hi ≡ get_or (high_corner p c u) i (pos 0) = ap (λ (r : Interval). r.hi) is ∙ sym (high_is p c u i lt) in
-    subst₂ (λ (low high : ℤ). IsExtentBefore (get_or (axes_of p) i no_axis) 0 low high extent) low high (unmoved (get_or (axes_of p) i no_axis) next_interval.lo next_interval.hi extent found)
+    subst₂ (λ (low high : ℤ). IsExtentBefore (get_or (axes_of p) i no_axis) 0 low high extent) low high (unshifted (get_or (axes_of p) i no_axis) next_interval.lo next_interval.hi extent found)
 
 -- the same in version 1, around the value at the centre
 pub extent_of_growth : (p : Description) (c u i : ℕ) (value deviation : ℤ) (extent : Option Extent) → i < length p.equations → p.version ≡ One

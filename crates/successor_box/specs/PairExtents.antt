@@ -1,7 +1,7 @@
 -- The successor box of a pair, state by state.
 use Rattle.std.specs.Prelude.{◌≡◌, ℕ, ◌+◌, ◌-◌, ◌<◌, pos, Bool, not, ◌&&◌, ◌==◌, List, take, length, slice_index, slice_index_or, Option, IsTrue, if◌then◌else◌, nat_lt}
 use Rattle.fixed_expr.specs.Mentions.{mentions}
-use Rattle.fixed_expr.specs.Moves.{shifts_with}
+use Rattle.fixed_expr.specs.Shifts.{shifts_with}
 use Rattle.grid_quantiser.specs.declared.boxes.CellBox.{CellBox}
 use Rattle.grid_quantiser.specs.declared.extents.Extent.{Extent}
 use Rattle.grid_quantiser.specs.Axes.{no_axis}
@@ -26,12 +26,12 @@ abbrev pub index_in : Description → ℕ → ℕ → ℕ → ℕ
 index_in p c u k = if nat_lt k (length p.states) then index_along (axes_of p) k c else value_index p.inputs (k - length p.states) u
 
 -- the extents along an axis shift with the cell's own index there: the state's equation shifts with the state
-abbrev pub moves_along : Description → ℕ → Bool
-moves_along p i = shifts_with (equation_at p i) i
+abbrev pub shifts_along : Description → ℕ → Bool
+shifts_along p i = shifts_with (equation_at p i) i
 
 -- how many indices a cell shifts an extent
 abbrev pub shifted_by : Description → ℕ → ℕ → ℕ
-shifted_by p i c = if moves_along p i then index_along (axes_of p) i c else 0
+shifted_by p i c = if shifts_along p i then index_along (axes_of p) i c else 0
 
 -- the extent of the successor box along an axis, were the box so many indices before, on the extended axis
 abbrev pub IsExtentBeforeAt : Description → ℕ → ℕ → ℕ → ℕ → Option Extent → Type 0
@@ -44,7 +44,7 @@ AreInputIndices p indices u = (k : ℕ) → k < length p.inputs → slice_index 
 
 -- an extent depends on a variable that stands in the state's equation, but for the state itself where the extent shifts with it
 abbrev pub depends_on : Description → ℕ → ℕ → Bool
-depends_on p i k = mentions (equation_at p i) k && not (moves_along p i && k == i)
+depends_on p i k = mentions (equation_at p i) k && not (shifts_along p i && k == i)
 
 -- two pairs have the same indices in the states and the input variables on which an extent depends
 abbrev pub AreAlikeIn : Description → ℕ → ℕ → ℕ → ℕ → ℕ → Type 0

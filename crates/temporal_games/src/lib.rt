@@ -2,7 +2,7 @@
 //!
 //! `stay` brings a plant into its targets and keeps it there, `patrol` visits them in turn for ever, by the solvers of the
 //! reach and the keep game under other marks. The text of a solution, by the writers of `temporal_texts`, keeps what the
-//! game promises. Stands on `reach_avoid`, `safety_game`, `plant_game` and `temporal_texts`.
+//! game promises.
 #![tactic(auto)]
 
 mod arrivals;

@@ -54,7 +54,7 @@ impl PatrolTable {
     }
 
     /// The rows of all turns.
-    pub fn rows(&self) -> &PatrolRows
+    pub fn turns(&self) -> &PatrolRows
         ensures rows { result.now ≡ self.now.rows }
         ensures fit { PatrolRowsFit self.now.plant result.now }
     {

@@ -49,7 +49,7 @@ impl StayTable {
     }
 
     /// The rows of all cells.
-    pub fn rows(&self) -> &Answer
+    pub fn answer(&self) -> &Answer
         ensures rows { result.now ≡ self.now.rows }
         ensures fit { StayRowsFit self.now.plant result.now }
     {

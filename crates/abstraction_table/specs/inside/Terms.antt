@@ -6,7 +6,7 @@ use Rattle.grid_quantiser.specs.declared.extents.Extent.{Extent}
 use Rattle.grid_quantiser.specs.Axes.{no_axis, cells_of}
 use Rattle.plant_record.specs.Description.{Description, axes_of, vectors_of}
 use Rattle.successor_box.specs.AdditiveInputs.{AreInputIncrements}
-use Rattle.successor_box.specs.PairExtents.{index_in, moves_along, shifted_by, IsExtentAt, IsExtentBeforeAt, IsBoxAlong}
+use Rattle.successor_box.specs.PairExtents.{index_in, shifts_along, shifted_by, IsExtentAt, IsExtentBeforeAt, IsBoxAlong}
 use Rattle.abstraction_table.specs.declared.digits.Digit.{Digit}
 use Rattle.abstraction_table.specs.declared.terms.Terms.{Terms}
 use Rattle.abstraction_table.specs.declared.terms.Terms.TheVariants.{Listed, Moved}
@@ -24,7 +24,7 @@ stride_of p i = cells_of (drop (i + 1) (axes_of p))
 
 -- how many indices along an axis its extents move by: one where they don't
 abbrev pub own_count : Description → ℕ → ℕ
-own_count p i = if moves_along p i then (slice_index_or (axes_of p) i no_axis).count else 1
+own_count p i = if shifts_along p i then (slice_index_or (axes_of p) i no_axis).count else 1
 
 -- what a pair's extent along an axis adds to its box
 abbrev pub IsTermAt : Description → ℕ → ℕ → ℕ → Option CellBox → Type 0
@@ -77,7 +77,7 @@ HasTermAt p c u i (Moved extents) slot = IsExtentBeforeAt p c u i (shifted_by p 
 pub record IsTermTableOf (p : Description) (i : ℕ) (t : TermTable) : Type 0 where
   pub digits : All (λ (d : Digit). d.variable < length p.states + length p.inputs) t.digits.items
   pub few : count_of t.terms ≤ PAIRS_LIMIT
-  pub moves : t.moves ≡ moves_along p i
+  pub moves : t.moves ≡ shifts_along p i
   pub free : IsTrue t.free → All (λ n. n ≡ 0) t.inputs.items
   pub stride : t.stride ≡ stride_of p i
   pub inputs : length t.inputs.items ≡ vectors_of p.inputs

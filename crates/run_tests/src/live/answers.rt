@@ -28,7 +28,7 @@ fn listen<R: Wait>(
     second: Table,
 ) -> Result<Heard, LiveFault>
     requires opening { reader.old.opening ≡ publisher.old.opening }
-    requires capacity { length publisher.old.list < 100 }
+    requires fits { length publisher.old.list < 100 }
 {
     let at_first = reader.choice(&state(1))?;
     publisher.publish(rt, second)?;

@@ -39,8 +39,8 @@ offsets_of p u =
     ++ map (λ (w : NoiseVariable). record { lo = w.low -ℤ noise_centre w; hi = w.high -ℤ noise_centre w }) p.noises
 
 -- an interval shifted by a number
-abbrev pub moved_to : ℤ → Interval → Interval
-moved_to x o = record { lo = x +ℤ o.lo; hi = x +ℤ o.hi }
+abbrev pub shifted_to : ℤ → Interval → Interval
+shifted_to x o = record { lo = x +ℤ o.lo; hi = x +ℤ o.hi }
 
 -- the front of the array is the radii, under each input vector
 abbrev pub AreRadii : Description → List ℤ → Type 0

@@ -15,8 +15,8 @@ loop-worker-init c = record {
 pub hand-requires-clause-root : goal.hand-requires-clause-root
 hand-requires-clause-root c = ap (λ (r : RootModel). r.board) c.loop-worker.invariant.same ∙ c.requires.root
 
-pub hand-requires-clause-capacity : goal.hand-requires-clause-capacity
-hand-requires-clause-capacity c = let e = ap (λ (r : RootModel). r.out) c.loop-worker.invariant.same in omega arith
+pub hand-requires-clause-few : goal.hand-requires-clause-few
+hand-requires-clause-few c = let e = ap (λ (r : RootModel). r.out) c.loop-worker.invariant.same in omega arith
 
 pub loop-worker-preserved : goal.loop-worker-preserved
 loop-worker-preserved c =

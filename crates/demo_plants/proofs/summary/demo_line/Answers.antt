@@ -30,10 +30,10 @@ returns g c = record {
   solution = record { game = g.G.Graph.game c.args.game.now; abstraction = c.requires.game; solution = goal_is c.args.n (g.G.Graph.game c.args.game.now) c.args.answer.now c.requires.solved };
   counted = games_count_their_edges (demo_plant_of c.args.n) (g.G.Graph.game c.args.game.now) c.requires.game;
   line =
-      let pushed : c.extend_from_slice.new.self.items ≡ line_with c.args.n c.cells.result (c.cells-2.result * c.inputs.result) c.count_edges.result c.rows.result c.greatest_rank.result =
+      let pushed : c.extend_from_slice.new.self.items ≡ line_with c.args.n c.cells.result (c.cells-2.result * c.inputs.result) c.count_edges.result c.row_count.result c.greatest_rank.result =
       rw (c.in_ok-extend_from_slice.ensures.items, c.in_ok-push_part-6.ensures, c.in_ok-push_part-5.ensures, c.in_ok-push_part-4.ensures, c.in_ok-push_part-3.ensures, c.in_ok-push_part-2.ensures, c.in_ok-push_part.ensures, c.new-text.ensures.items)
       refl in
       let cells = c.cells.ensures ∙ c.requires.game.cells in
       let pairs = products (c.cells-2.ensures ∙ c.requires.game.cells) (c.inputs.ensures ∙ c.requires.game.inputs) in
-      pushed ∙ with_numbers c.args.n cells pairs c.count_edges.ensures c.rows.ensures c.greatest_rank.ensures;
+      pushed ∙ with_numbers c.args.n cells pairs c.count_edges.ensures c.row_count.ensures c.greatest_rank.ensures;
 }

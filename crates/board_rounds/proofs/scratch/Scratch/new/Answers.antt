@@ -12,8 +12,8 @@ use Rattle.board_rounds.proofs.scratch.Scratch.new.Goals as goal
 numbers_first : (g : Game) (number : ℕ → ℕ) (words : List ℕ) (cells : ℕ) → words ≡ first_words g number → cells ≡ g.cells → numbers_before_log words cells ≡ first_numbers g number
 numbers_first g number words cells all same = ap₂ (λ (l : List ℕ) (n : ℕ). numbers_before_log l n) all same ∙ numbers_back (first_numbers g number) g.cells
 
-pub of_words-requires-clause-capacity : goal.of_words-requires-clause-capacity
-of_words-requires-clause-capacity g c =
+pub of_words-requires-clause-fits : goal.of_words-requires-clause-fits
+of_words-requires-clause-fits g c =
     let game = g.G.Forward.game c.args.g.now in
     let number = g.S.Start.number game in
     let a : IsGraph game = (g.met.G.Forward g.world.𝓛 g.world.𝓜 g.world.𝓡 (here g.world)).lawful c.args.g.now in

@@ -23,7 +23,7 @@ of_words-requires c =
     let all : words ≡ numbers ++ replicate (1 + slots) 0 = words_split words slots c.requires.log ∙ ap (λ l. l ++ replicate (1 + slots) 0) (sym same) in
     let tail = length numbers in
     let sized : IsSized b c.args.counters tail slots (tail + 1 + slots) =
-    record { split = refl; within = omega (arith, ap length same, c.requires.counters); both = refl; log = refl; all = refl; few = omega (arith, ap length same, c.requires.capacity) } in
+    record { split = refl; within = omega (arith, ap length same, c.requires.counters); both = refl; log = refl; all = refl; few = omega (arith, ap length same, c.requires.fits) } in
     let small : All (λ n. n < 2 ^ 64) numbers = small_front numbers (replicate (1 + slots) 0)
     (subst (All (λ n. n < 2 ^ 64)) all (All-from_get_or (λ n. n < 2 ^ 64) words 0 (λ i lt. omega (arith, c.type_inv.words i)))) in
     subst (λ l. Keeps (setup_of b) (opening {S = Unit {0}} l [] (root_of b))) (sym all) (begins b c.args.counters tail slots (tail + 1 + slots) sized small)

@@ -5,19 +5,19 @@ use Rattle.std.proofs.lemmas.Int.{ints}
 use Rattle.std.proofs.lemmas.Bool.{or_left, or_right, or_cases, and_parts, not-true, eqb-true, false≢true}
 use Rattle.fixed_expr.specs.Expression.{Expression, NumExpr, VarExpr, NegExpr, AddExpr, SubExpr, MulExpr, DivExpr, MinExpr, MaxExpr, AbsExpr, LutExpr}
 use Rattle.fixed_expr.specs.Mentions.{mentions}
-use Rattle.fixed_expr.specs.Moves.{shifts_with}
+use Rattle.fixed_expr.specs.Shifts.{shifts_with}
 use Rattle.interval_eval.specs.declared.interval.Interval.{Interval}
 use Rattle.interval_eval.specs.Span.{span_of}
 use Rattle.interval_eval.specs.inside.Nested.{range_at, AreSameRangesBut}
 use Rattle.interval_eval.proofs.Depending.{agree}
 
 -- two intervals shifted from two others by one distance at each end
-abbrev AreMoved : Interval → Interval → Interval → Interval → Type 0
-AreMoved s i t j = (s.lo -ℤ i.lo ≡ t.lo -ℤ j.lo) × (s.hi -ℤ i.hi ≡ t.hi -ℤ j.hi)
+abbrev AreShifted : Interval → Interval → Interval → Interval → Type 0
+AreShifted s i t j = (s.lo -ℤ i.lo ≡ t.lo -ℤ j.lo) × (s.hi -ℤ i.hi ≡ t.hi -ℤ j.hi)
 
 module _ (k : ℕ) (area other : List Interval) where
-  abbrev Moves : Expression → Type 0
-  Moves e = shifts_with e k ≡ true → AreSameRangesBut k e area other → AreMoved (span_of e area) (range_at area k) (span_of e other) (range_at other k)
+  abbrev Shifts : Expression → Type 0
+  Shifts e = shifts_with e k ≡ true → AreSameRangesBut k e area other → AreShifted (span_of e area) (range_at area k) (span_of e other) (range_at other k)
 
   -- a part that doesn't mention the variable has one span
   stays : (e : Expression) → mentions e k ≡ false → AreSameRangesBut k e area other → span_of e area ≡ span_of e other
@@ -36,35 +36,35 @@ module _ (k : ℕ) (area other : List Interval) where
     right : AreSameRangesBut k b area other
     right i apart here = same i apart (or_right (mentions a i) (mentions b i) here)
 
-  pub moves : (e : Expression) → Moves e
-  moves (NumExpr c) is same = absurd (false≢true is)
-  moves (VarExpr j) is same =
+  pub shifts : (e : Expression) → Shifts e
+  shifts (NumExpr c) is same = absurd (false≢true is)
+  shifts (VarExpr j) is same =
       let here : j ≡ k = eqb-true j k is in
       let one : range_at area j ≡ range_at area k = ap (range_at area) here in
       let two : range_at other j ≡ range_at other k = ap (range_at other) here in
       (omega (arith, ints, ap (λ (i : Interval). i.lo) one, ap (λ (i : Interval). i.lo) two), omega (arith, ints, ap (λ (i : Interval). i.hi) one, ap (λ (i : Interval). i.hi) two))
-  moves (AddExpr a b) is same =
+  shifts (AddExpr a b) is same =
       elim (or_cases (shifts_with a k && not (mentions b k)) (not (mentions a k) && shifts_with b k) is) [
         | inl first ↦
             let parts = and_parts (shifts_with a k) (not (mentions b k)) first in
-            let moved = moves a parts.0 (left a b same) in
+            let shifted = shifts a parts.0 (left a b same) in
             let rest = stays b (not-true (mentions b k) parts.1) (right a b same) in
-            (omega (arith, ints, moved.0, lows b rest), omega (arith, ints, moved.1, highs b rest))
+            (omega (arith, ints, shifted.0, lows b rest), omega (arith, ints, shifted.1, highs b rest))
         | inr second ↦
             let parts = and_parts (not (mentions a k)) (shifts_with b k) second in
             let rest = stays a (not-true (mentions a k) parts.0) (left a b same) in
-            let moved = moves b parts.1 (right a b same) in
-            (omega (arith, ints, moved.0, lows a rest), omega (arith, ints, moved.1, highs a rest))
+            let shifted = shifts b parts.1 (right a b same) in
+            (omega (arith, ints, shifted.0, lows a rest), omega (arith, ints, shifted.1, highs a rest))
       ]
-  moves (SubExpr a b) is same =
+  shifts (SubExpr a b) is same =
       let parts = and_parts (shifts_with a k) (not (mentions b k)) is in
-      let moved = moves a parts.0 (left a b same) in
+      let shifted = shifts a parts.0 (left a b same) in
       let rest = stays b (not-true (mentions b k) parts.1) (right a b same) in
-      (omega (arith, ints, moved.0, highs b rest), omega (arith, ints, moved.1, lows b rest))
-  moves (NegExpr a) is same = absurd (false≢true is)
-  moves (MulExpr a b) is same = absurd (false≢true is)
-  moves (DivExpr a c) is same = absurd (false≢true is)
-  moves (MinExpr a b) is same = absurd (false≢true is)
-  moves (MaxExpr a b) is same = absurd (false≢true is)
-  moves (AbsExpr a) is same = absurd (false≢true is)
-  moves (LutExpr a points) is same = absurd (false≢true is)
+      (omega (arith, ints, shifted.0, highs b rest), omega (arith, ints, shifted.1, lows b rest))
+  shifts (NegExpr a) is same = absurd (false≢true is)
+  shifts (MulExpr a b) is same = absurd (false≢true is)
+  shifts (DivExpr a c) is same = absurd (false≢true is)
+  shifts (MinExpr a b) is same = absurd (false≢true is)
+  shifts (MaxExpr a b) is same = absurd (false≢true is)
+  shifts (AbsExpr a) is same = absurd (false≢true is)
+  shifts (LutExpr a points) is same = absurd (false≢true is)

@@ -1,6 +1,6 @@
 ghost use Rattle.std.specs.Prelude.{◌≡◌};
 ghost use Rattle.fixed_expr.specs.Expression.{expression_of};
-ghost use Rattle.fixed_expr.specs.Moves.{shifts_with};
+ghost use Rattle.fixed_expr.specs.Shifts.{shifts_with};
 
 use crate::expr::Expr;
 

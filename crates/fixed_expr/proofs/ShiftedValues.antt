@@ -6,7 +6,7 @@ use Rattle.std.proofs.lemmas.Bool.{or_left, or_right, or_cases, and_parts, not-t
 use Rattle.fixed_expr.specs.Expression.{Expression, NumExpr, VarExpr, NegExpr, AddExpr, SubExpr, MulExpr, DivExpr, MinExpr, MaxExpr, AbsExpr, LutExpr}
 use Rattle.fixed_expr.specs.Value.{value_of}
 use Rattle.fixed_expr.specs.Mentions.{mentions}
-use Rattle.fixed_expr.specs.Moves.{shifts_with}
+use Rattle.fixed_expr.specs.Shifts.{shifts_with}
 use Rattle.fixed_expr.specs.inside.Alike.{AreSameBut}
 use Rattle.fixed_expr.proofs.Values.{agree}
 
@@ -14,8 +14,8 @@ module _ (k : ℕ) (xs ys : List ℤ) where
   abbrev at : List ℤ → ℤ
   at zs = slice_index_or zs k (pos 0)
 
-  abbrev Moves : Expression → Type 0
-  Moves e = shifts_with e k ≡ true → AreSameBut k e xs ys → value_of e xs -ℤ at xs ≡ value_of e ys -ℤ at ys
+  abbrev Shifts : Expression → Type 0
+  Shifts e = shifts_with e k ≡ true → AreSameBut k e xs ys → value_of e xs -ℤ at xs ≡ value_of e ys -ℤ at ys
 
   -- a part that doesn't mention the variable has one value
   stays : (e : Expression) → mentions e k ≡ false → AreSameBut k e xs ys → value_of e xs ≡ value_of e ys
@@ -28,25 +28,25 @@ module _ (k : ℕ) (xs ys : List ℤ) where
     right : AreSameBut k b xs ys
     right i other here = same i other (or_right (mentions a i) (mentions b i) here)
 
-  pub moves : (e : Expression) → Moves e
-  moves (NumExpr c) is same = absurd (false≢true is)
-  moves (VarExpr j) is same = let here : j ≡ k = eqb-true j k is in omega (arith, ints, ap (λ (i : ℕ). slice_index_or xs i (pos 0)) here, ap (λ (i : ℕ). slice_index_or ys i (pos 0)) here)
-  moves (AddExpr a b) is same =
+  pub shifts : (e : Expression) → Shifts e
+  shifts (NumExpr c) is same = absurd (false≢true is)
+  shifts (VarExpr j) is same = let here : j ≡ k = eqb-true j k is in omega (arith, ints, ap (λ (i : ℕ). slice_index_or xs i (pos 0)) here, ap (λ (i : ℕ). slice_index_or ys i (pos 0)) here)
+  shifts (AddExpr a b) is same =
       elim (or_cases (shifts_with a k && not (mentions b k)) (not (mentions a k) && shifts_with b k) is) [
         | inl first ↦
             let parts = and_parts (shifts_with a k) (not (mentions b k)) first in
-            omega (arith, ints, moves a parts.0 (left a b same), stays b (not-true (mentions b k) parts.1) (right a b same))
+            omega (arith, ints, shifts a parts.0 (left a b same), stays b (not-true (mentions b k) parts.1) (right a b same))
         | inr second ↦
             let parts = and_parts (not (mentions a k)) (shifts_with b k) second in
-            omega (arith, ints, stays a (not-true (mentions a k) parts.0) (left a b same), moves b parts.1 (right a b same))
+            omega (arith, ints, stays a (not-true (mentions a k) parts.0) (left a b same), shifts b parts.1 (right a b same))
       ]
-  moves (SubExpr a b) is same =
+  shifts (SubExpr a b) is same =
       let parts = and_parts (shifts_with a k) (not (mentions b k)) is in
-      omega (arith, ints, moves a parts.0 (left a b same), stays b (not-true (mentions b k) parts.1) (right a b same))
-  moves (NegExpr a) is same = absurd (false≢true is)
-  moves (MulExpr a b) is same = absurd (false≢true is)
-  moves (DivExpr a c) is same = absurd (false≢true is)
-  moves (MinExpr a b) is same = absurd (false≢true is)
-  moves (MaxExpr a b) is same = absurd (false≢true is)
-  moves (AbsExpr a) is same = absurd (false≢true is)
-  moves (LutExpr a points) is same = absurd (false≢true is)
+      omega (arith, ints, shifts a parts.0 (left a b same), stays b (not-true (mentions b k) parts.1) (right a b same))
+  shifts (NegExpr a) is same = absurd (false≢true is)
+  shifts (MulExpr a b) is same = absurd (false≢true is)
+  shifts (DivExpr a c) is same = absurd (false≢true is)
+  shifts (MinExpr a b) is same = absurd (false≢true is)
+  shifts (MaxExpr a b) is same = absurd (false≢true is)
+  shifts (AbsExpr a) is same = absurd (false≢true is)
+  shifts (LutExpr a points) is same = absurd (false≢true is)
