@@ -19,7 +19,7 @@ parsed_number word n r parses lt is = ap result_ok (parse-decimal 64 n word r lt
 
 -- ---- numbers have one spelling
 
--- the words spell these numbers alone
+-- the arguments spell these numbers alone
 pub one_spelling : (xs ys : List ℤ) → All IsLiteral xs → All IsLiteral ys → map signed_decimal xs ≡ map signed_decimal ys → xs ≡ ys
 one_spelling [] [] h k e = refl
 one_spelling [] (y ∷ ys) h k e = cc
@@ -32,12 +32,12 @@ one_spelling (x ∷ xs) (y ∷ ys) h k e =
 pub as_many : (arguments : List (List ℕ)) (numbers : List ℤ) → Spell arguments numbers → length numbers ≡ length arguments
 as_many arguments numbers s = sym (ap length s.spelled ∙ length-map numbers signed_decimal)
 
--- ---- words that are read one by one
+-- ---- arguments that are read one by one
 
 abbrev pub now : Bor (List ℕ) → List ℕ
 now word = word.now
 
--- a word that spells no number is in no such words
+-- an argument that spells no number is among no such arguments
 pub no_spelling : (arguments : List (Bor (List ℕ))) (i : ℕ) (d : Bor (List ℕ)) → i < length arguments → ((z : ℤ) → IsLiteral z → (get_or arguments i d).now ≡ signed_decimal z → ⊥) → (numbers : List ℤ) → Spell (map now arguments) numbers → ⊥
 no_spelling arguments i d lt none numbers s =
     let count : i < length numbers = omega (arith, lt, as_many (map now arguments) numbers s, length-map arguments now) in

@@ -1,4 +1,4 @@
--- The words of a command line.
+-- The arguments of a command line.
 use Rattle.std.proofs.Common.{◌≡◌, ℕ, ◌^◌, ◌<◌, ◌≤◌, List, [], ◌∷◌, length, Option, Some, None, refl, ap, sym, ◌∙◌, arith}
 use Rattle.std.specs.Prelude.{codes, ℤ, sum_by, IfNone}
 use Rattle.std.specs.Fmt.{decimal, signed_decimal}
@@ -11,7 +11,7 @@ use Rattle.base.specs.Workers.{AreWorkers}
 use Rattle.command_line.specs.inside.ArgumentSpelling.{Spell}
 use Rattle.command_line.proofs.Spellings.{one_spelling}
 
--- ---- words are of one command
+-- ---- arguments are of one command
 
 second : {a b c d : List ℕ} → (a ∷ b ∷ []) ≡ (c ∷ d ∷ []) → b ≡ d
 second e = cc
@@ -34,7 +34,7 @@ one_or_two e = cc
 check_or_upgrade : (codes "check" ∷ []) ≡ (codes "upgrade" ∷ []) → ⊥
 check_or_upgrade e = let lengths : 5 ≡ 7 = ap (λ (arguments : List (List ℕ)). sum_by length arguments) e in omega (arith, lengths)
 
--- the words of a command of two words: a command and a number of workers
+-- the arguments of a command with two: a command and a number of workers
 abbrev IsOfTwo : List (List ℕ) → List ℕ → ℕ → Type 0
 IsOfTwo arguments name workers = (arguments ≡ name ∷ decimal workers ∷ []) × AreWorkers workers
 
@@ -45,7 +45,7 @@ same_workers arguments name m n h k = decimal_injective m n (omega (arith, h.1.1
 other_name : (arguments : List (List ℕ)) (a b : List ℕ) (m n : ℕ) → (length a ≡ length b → ⊥) → IsOfTwo arguments a m → IsOfTwo arguments b n → ⊥
 other_name arguments a b m n unlike h k = unlike (ap length (first (sym h.0 ∙ k.0)))
 
--- two words are not one, nor three, nor those of `sim`
+-- two arguments are not one, nor three, nor those of `sim`
 not_one : (arguments : List (List ℕ)) (name other : List ℕ) (m : ℕ) → IsOfTwo arguments name m → arguments ≡ other ∷ [] → ⊥
 not_one arguments name other m h k = one_or_two (sym k ∙ h.0)
 
@@ -55,7 +55,7 @@ not_three arguments name m number workers h k = two_or_three (sym h.0 ∙ k.0)
 after : {a b c d e f : List ℕ} {rest others : List (List ℕ)} → (a ∷ b ∷ c ∷ rest) ≡ (d ∷ e ∷ f ∷ others) → (b ≡ e) × (c ≡ f) × (rest ≡ others)
 after e = (cc, cc, cc)
 
--- `sim` has four words at least
+-- `sim` has four arguments at least
 not_sim : (arguments : List (List ℕ)) (samples seed : ℕ) (start : List ℤ) → length arguments ≤ 3 → IsOfCommand arguments (Sim samples seed start) → ⊥
 not_sim arguments samples seed start few h = let some = h.3.some in omega (arith, few, ap length h.0, length-map start signed_decimal, some)
 
@@ -122,12 +122,12 @@ one_command arguments (Sim samples seed start) (Patrol m) h k = absurd (not_sim 
 pub not_zero : (word : List ℕ) → word ≡ decimal 0 → (n : ℕ) → 1 ≤ n → n ≤ 500 → word ≡ decimal n → ⊥
 not_zero word zero n some few is = let same : n ≡ 0 = decimal_injective n 0 (omega (arith, few)) (omega arith) (sym is ∙ zero) in omega (arith, same, some)
 
--- ---- the commands of two words
+-- ---- the commands with two arguments
 
 pub is_of_two : (name workers spelling : List ℕ) (n : ℕ) → name ≡ spelling → AreWorkers n → workers ≡ decimal n → IsOfTwo (name ∷ workers ∷ []) spelling n
 is_of_two name workers spelling n c few w = (rw (c, w) refl, few)
 
--- no command of two words, by each command
+-- no command with two arguments, by each command
 pub no_command : (name workers : List ℕ) → ((n : ℕ) → AreWorkers n → workers ≡ decimal n → (name ≡ codes "synth" → ⊥) × (name ≡ codes "stay" → ⊥) × (name ≡ codes "patrol" → ⊥)) → (f : Command) → IsOfCommand (name ∷ workers ∷ []) f → ⊥
 no_command name workers other (Synth n) h = (other n h.1 (second h.0)).0 (first h.0)
 no_command name workers other (Stay n) h = (other n h.1 (second h.0)).1 (first h.0)
@@ -137,12 +137,12 @@ no_command name workers other Upgrade h = one_or_two (sym h)
 no_command name workers other (Sim samples seed start) h = not_sim (name ∷ workers ∷ []) samples seed start (omega arith) h
 no_command name workers other (Demo n w) h = two_or_three h.0
 
--- ---- the commands of three words
+-- ---- the commands with three arguments
 
 pub is_demo_command : (name number workers : List ℕ) (n w : ℕ) → name ≡ codes "demo" → IsDemoNumber n → number ≡ decimal n → AreWorkers w → workers ≡ decimal w → IsOfCommand (name ∷ number ∷ workers ∷ []) (Demo n w)
 is_demo_command name number workers n w c bounds d few e = (rw (c, d, e) refl, bounds, few)
 
--- a command of three words is `demo`, with the number of a demo plant and a number of workers
+-- a command with three arguments is `demo`, with the number of a demo plant and a number of workers
 pub no_demo_command : (name number workers : List ℕ) → (name ≡ codes "demo" → (n : ℕ) → IsDemoNumber n → number ≡ decimal n → (w : ℕ) → AreWorkers w → workers ≡ decimal w → ⊥) → (f : Command) → IsOfCommand (name ∷ number ∷ workers ∷ []) f → ⊥
 no_demo_command name number workers other (Synth n) h = two_or_three (sym h.0)
 no_demo_command name number workers other (Stay n) h = two_or_three (sym h.0)
@@ -152,9 +152,9 @@ no_demo_command name number workers other Upgrade h = one_or_three (sym h)
 no_demo_command name number workers other (Demo n w) h = let same = third h.0 in other same.0 n h.1 same.1 w h.2 same.2
 no_demo_command name number workers other (Sim samples seed start) h = not_sim (name ∷ number ∷ workers ∷ []) samples seed start (omega arith) h
 
--- ---- the commands of four words and more
+-- ---- the commands with four arguments and more
 
--- a command of four words or more is `sim`
+-- a command with four arguments or more is `sim`
 pub no_sim_command : (name samples seed : List ℕ) (numbers : List (List ℕ)) → 1 ≤ length numbers → ((m s : ℕ) (start : List ℤ) → name ≡ codes "sim" → samples ≡ decimal m → m ≤ 1000000 → seed ≡ decimal s → s < 2 ^ 64 → Spell numbers start → ⊥)
     → (f : Command) → IsOfCommand (name ∷ samples ∷ seed ∷ numbers) f → ⊥
 no_sim_command name samples seed numbers some other (Synth n) h = omega (arith, some, ap length h.0)
@@ -168,7 +168,7 @@ no_sim_command name samples seed numbers some other (Sim m s start) h =
     let first : name ≡ codes "sim" = cc (h.0) in
     other m s start first same.0 h.1 same.1 h.2 (record { spelled = same.2; each = h.3.each })
 
--- ---- words that are passed on
+-- ---- arguments that are passed on
 
 pub where_none : {A : Type 0} (r : Option A) (P : Type 0) → P → IfNone r P
 where_none (Some x) P h = tt

@@ -19,11 +19,11 @@ pub record AreStateNumbers (numbers : List ℤ) : Type 0 where
 abbrev pub IsDemoNumber : ℕ → Type 0
 IsDemoNumber n = (1 ≤ n) × (n ≤ DEMO_LIMIT)
 
--- the words of a command line, as the bytes of each
+-- the arguments of a command line, as the bytes of each
 abbrev pub as_words : List (Bor (List ℕ)) → List (List ℕ)
 as_words arguments = map (λ (word : Bor (List ℕ)). word.now) arguments
 
--- the words are of a command
+-- the arguments are of a command
 abbrev pub IsOfCommand : List (List ℕ) → Command → Type 0
 IsOfCommand arguments (Synth workers) = (arguments ≡ codes "synth" ∷ decimal workers ∷ []) × AreWorkers workers
 IsOfCommand arguments Check = arguments ≡ codes "check" ∷ []
@@ -34,6 +34,6 @@ IsOfCommand arguments (Demo number workers) = (arguments ≡ codes "demo" ∷ de
 IsOfCommand arguments (Stay workers) = (arguments ≡ codes "stay" ∷ decimal workers ∷ []) × AreWorkers workers
 IsOfCommand arguments (Patrol workers) = (arguments ≡ codes "patrol" ∷ decimal workers ∷ []) × AreWorkers workers
 
--- the words are of no command
+-- the arguments are of no command
 abbrev pub AreOfNoCommand : List (List ℕ) → Type 0
 AreOfNoCommand arguments = (command : Command) → IsOfCommand arguments command → ⊥

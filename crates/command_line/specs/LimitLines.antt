@@ -3,7 +3,7 @@ use Rattle.std.specs.Prelude.{ℕ, List, codes}
 use Rattle.plant_record.specs.declared.limit_kind.LimitKind.{LimitKind}
 use Rattle.plant_record.specs.declared.limit_kind.LimitKind.TheVariants.{PlantText, TableText, Vectors, Cells, Pairs, Edges}
 
--- the words by which a report names a limit
+-- the text by which a report names a limit
 abbrev pub limit_line : LimitKind → List ℕ
 limit_line PlantText = codes "plant text"
 limit_line TableText = codes "table text"

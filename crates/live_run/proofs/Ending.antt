@@ -66,6 +66,7 @@ ends_without_memory source out within stood untouched = record {
   read = λ _ some. absurd (some refl);
   never_past = within;
   refused = λ refusal e. absurd (let clash : Failed Memory ≡ Refused refusal = e in cc);
+  can_refuse = λ refusal e. absurd (let clash : Failed Memory ≡ Refused refusal = e in cc);
   shown = shown_without_memory source out stood untouched;
 }
 
@@ -78,6 +79,7 @@ ends_unread reads.Device source out h untouched = record {
   read = λ other _. absurd (other refl);
   never_past = h.never_past;
   refused = λ refusal e. absurd (let clash : Failed Read ≡ Refused refusal = e in cc);
+  can_refuse = λ refusal e. absurd (let clash : Failed Read ≡ Refused refusal = e in cc);
   shown = shown_unread source out (h.failed refl) (λ is_sound. h.sound is_sound refl) untouched;
 }
 ends_unread reads.Memory source out h untouched = ends_without_memory source out h.never_past (h.stood (λ e. cc)) untouched
@@ -91,6 +93,7 @@ ends_refused fault refusal source read out same is h untouched = record {
   read = λ _ _. to_the_limit source.before source.after read is.up_to;
   never_past = is.never_past;
   refused = λ _ _. (fault, sym same, of_whole (λ script. IsScriptRefusedFor script fault) source.before source.after read is.up_to (refuses_whole fault) h);
+  can_refuse = λ _ _. (read, fault, sym same, h);
   shown = shown_refused refusal source out is.no_fault untouched;
 }
 
@@ -114,6 +117,7 @@ ends_done text source read out is answers whole = record {
   read = λ _ _. to_the_limit source.before source.after read is.up_to;
   never_past = is.never_past;
   refused = λ refusal e. absurd (let clash : Done ≡ Refused refusal = e in cc);
+  can_refuse = λ refusal e. absurd (let clash : Done ≡ Refused refusal = e in cc);
   shown = shown_done source out text is.no_fault whole;
 }
 
@@ -125,6 +129,7 @@ ends_cut_off text source read out is answers part = record {
   read = λ _ _. to_the_limit source.before source.after read is.up_to;
   never_past = is.never_past;
   refused = λ refusal e. absurd (let clash : Failed Write ≡ Refused refusal = e in cc);
+  can_refuse = λ refusal e. absurd (let clash : Failed Write ≡ Refused refusal = e in cc);
   shown = shown_cut_off source out text is.no_fault part;
 }
 

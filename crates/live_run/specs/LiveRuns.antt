@@ -17,7 +17,7 @@ use Rattle.live_script.specs.ScriptRefusals.{IsScriptRefusedFor}
 use Rattle.live_run.specs.LiveCauses.{of_script}
 use Rattle.base.specs.declared.limits.TheConstants.{SCRIPT_LIMIT}
 
--- the words are `live` and how many readers answer
+-- the arguments are `live` and how many readers answer
 abbrev pub IsLiveCommand : List (List ℕ) → ℕ → Type 0
 IsLiveCommand arguments readers = (arguments ≡ codes "live" ∷ decimal readers ∷ []) × AreWorkers readers
 
@@ -39,20 +39,21 @@ pub record IsLiveEnd (outcome : Outcome) (source : Reading) (out : Writing) : Ty
   -- what was written
   pub answered : outcome ≡ Done → IfSome source.before (λ script. IsAnswered script out)
   pub cut_off : outcome ≡ Failed Write → IfSome source.before (λ script. IsCutOff script out)
-  -- what was read, and that a refusal is the script's
+  -- what was read, and that a refusal is the script's, or that of some script where the source doesn't tell its bytes
   pub read : outcome ≢ Failed Read → outcome ≢ Failed Memory → IfSome source.before (λ script. source.after ≡ Some (drop most_read script))
   pub never_past : TakesAtMost source.before source.after most_read
   pub refused : (refusal : Refusal) → outcome ≡ Refused refusal → (fault : ScriptFault) × (outcome ≡ of_script fault) × IfSome source.before (λ script. IsScriptRefusedFor script fault)
+  pub can_refuse : (refusal : Refusal) → outcome ≡ Refused refusal → (script : List ℕ) × (fault : ScriptFault) × (outcome ≡ of_script fault) × IsScriptRefusedFor script fault
   -- what its devices show
   pub shown : IsShownBy outcome source out
 
--- What a run of some words gives: what their command does, or `usage` where they are of no command.
+-- What a run with some arguments gives: what their command does, or `usage` where they are of no command.
 pub record Gives (arguments : List (List ℕ)) (outcome : Outcome) (source : Reading) (out : Writing) : Type 0 where
   pub usage : (outcome ≡ Usage) ↔ ((readers : ℕ) → IsLiveCommand arguments readers → ⊥)
   pub unused : outcome ≡ Usage → AreUnused source out
   pub of_command : (readers : ℕ) → IsLiveCommand arguments readers → IsLiveEnd outcome source out
 
--- A run of some words ends with a status: that of an outcome whose line is reported.
+-- A run with some arguments ends with a status: that of an outcome whose line is reported.
 pub record IsLiveRun (arguments : List (List ℕ)) (status : ℕ) (source : Reading) (out err : Writing) : Type 0 where
   pub outcome : Outcome
   pub status_is : status ≡ status_of outcome

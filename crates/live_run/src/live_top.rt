@@ -27,13 +27,21 @@ pub fn run_live<R: Wait, S: Source, O: Sink, E: Sink>(
     err: &mut E,
 ) -> u8
     // The headline: status 0 means that the answers were written whole, each by the table published last before its question.
-    ensures answered { (readers : ℕ) → IsLiveCommand (as_words arguments.now) readers → result ≡ 0 → IfSome (S.left source.old) (λ script. IsAnswered script (writing O.got O.faults O.capacity out.old out.new)) }
+    ensures answered { let written = writing O.got O.faults O.capacity out.old out.new in
+        (readers : ℕ) → IsLiveCommand (as_words arguments.now) readers → result ≡ 0
+        → IfSome (S.left source.old) (λ script. IsAnswered script written) }
 
-    // Every status: what was read, written and reported, and which fault or refusal it tells.
-    ensures gives { IsLiveRun (as_words arguments.now) result (reading S.left S.faults S.is_sound source.old source.new) (writing O.got O.faults O.capacity out.old out.new) (writing E.got E.faults E.capacity err.old err.new) }
+    // Every status: what was read, written and reported, and which fault or refusal it means.
+    ensures gives { let read = reading S.left S.faults S.is_sound source.old source.new in
+        let written = writing O.got O.faults O.capacity out.old out.new in
+        let reported = writing E.got E.faults E.capacity err.old err.new in
+        IsLiveRun (as_words arguments.now) result read written reported }
 
     // Where no device fails, only want of memory keeps a script from its answers, or from the refusal that it has.
-    ensures complete { (readers : ℕ) → IsLiveCommand (as_words arguments.now) readers → (Rose (S.faults source.old) (S.faults source.new) → ⊥) → (Rose (O.faults out.old) (O.faults out.new) → ⊥) → IfSome (S.left source.old) (IsCompleteAnswer result) }
+    ensures complete { (readers : ℕ) → IsLiveCommand (as_words arguments.now) readers
+        → (Rose (S.faults source.old) (S.faults source.new) → ⊥)
+        → (Rose (O.faults out.old) (O.faults out.new) → ⊥)
+        → IfSome (S.left source.old) (IsCompleteAnswer result) }
 {
     let outcome = outcome_of(rt, alloc, arguments, source, out);
     outcome.report(err);

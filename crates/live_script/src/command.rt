@@ -6,6 +6,6 @@ use controller_table::Table;
 pub enum ScriptCommand {
     /// Bring this table into force.
     Publish(Table),
-    /// Tell what the table in force chooses.
+    /// Answer what the current table chooses.
     Ask(StateNumbers),
 }

@@ -2,7 +2,7 @@
 
 use grid_quantiser::Point;
 
-/// A box of states: the least and the greatest number of each. Places past the states are 0.
+/// A box of states: the least and the greatest number of each. What stands past the states is 0.
 #[derive(Clone, Copy, PartialEq, Eq)]
 pub struct StateBox {
     pub low: Point,

@@ -1,4 +1,4 @@
--- What a run of a command gives for its words.
+-- What a run of a command gives for its arguments.
 use Rattle.std.proofs.Common.{◌≡◌, ℕ, List, Option, subst}
 use Rattle.cell_counters.specs.BoardModels.{BoardModel, RootModel}
 use Rattle.command_line.specs.declared.command.Command.{Command}
@@ -9,7 +9,7 @@ use Rattle.command_line.specs.Command.{IsOfCommand}
 use Rattle.synth_run.specs.RunClauses.{CanEnd, IsRunOf, Gives}
 use Rattle.command_line.proofs.Laws.{one_command}
 
--- words are of one command, and not of none
+--  arguments are of one command, and not of none
 pub gives_by_command : (arguments : List (List ℕ)) (command : Command) (outcome : Outcome) (source : Reading) (out : Writing) (played : Option (BoardModel × RootModel)) → IsOfCommand arguments command → IsRunOf command outcome source out played → Gives arguments outcome source out played
 gives_by_command arguments command outcome source out played of_command run = record {
   usage = (λ e. absurd (not_usage e), λ none. absurd (none command of_command));

@@ -1,7 +1,6 @@
 pub mod Below
 pub mod Completeness
 pub mod Outcomes
-pub mod CommandEnds
 pub mod Ending
 pub mod Giving
 pub mod Leaving

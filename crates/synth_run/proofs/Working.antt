@@ -20,7 +20,6 @@ use Rattle.synth_run.specs.IsOutcomeFor.{IsAnswerable, IsRefusalFor}
 use Rattle.synth_run.specs.Headline.{IsAnswer}
 use Rattle.synth_run.specs.inside.Causes.{of_read, IsStopFor}
 use Rattle.synth_run.specs.inside.Making.{IsReadFor}
-use Rattle.synth_run.proofs.CommandEnds.{can_refuse}
 use Rattle.synth_run.proofs.Limits.{of_front, passes_on, read_to_the_limit}
 use Rattle.base.proofs.Options.{IfSome-weaker}
 
@@ -52,7 +51,7 @@ worked_out command source read text whole fits answer = record {
 -- what was read is refused so, or there was no memory
 pub stopped : (command : Command) (source : Reading) (read : List ℕ) (stop : Stop) → IsReadFor command read source → IsStopFor (IsRefusalFor command read) stop → IsStopped command source stop
 stopped command source read (Refused refusal) whole h = record {
-  can_end = can_refuse command read refusal h;
+  can_end = (read, h);
   not_write = λ e. cc;
   cause = λ r e. of_front (λ bytes. IsRefusalFor command bytes r) (most_read command) (bytes_for command source.before) read whole.front ((passes_on tables_are_short command).refusals r) (subst (λ (s : Refusal). IsRefusalFor command read s) (cc) h);
   read = λ _ _. whole.read;

@@ -1,10 +1,8 @@
--- What a run of some words gives.
+-- What a run gives, by its arguments.
 use Rattle.std.specs.Prelude.{◌≡◌, ◌≢◌, ◌⊎◌, ◌↔◌, ℕ, List, drop, Option, Some, None, IfSome}
 use Rattle.cell_counters.specs.BoardModels.{BoardModel, RootModel}
 use Rattle.command_line.specs.declared.command.Command.{Command}
-use Rattle.command_line.specs.declared.command.Command.TheVariants.{Synth, Check, Upgrade, Sim, Demo, Stay, Patrol}
 use Rattle.command_line.specs.declared.outcome.Refusal.{Refusal}
-use Rattle.command_line.specs.declared.outcome.Refusal.TheVariants.{Malformed, Overflow, Limit, TooManyTurns, ScriptTooLong, TooManyTables, Invalid, NoRow}
 use Rattle.command_line.specs.declared.outcome.Failure.{Failure}
 use Rattle.command_line.specs.declared.outcome.Failure.TheVariants.{Read, Write, Memory}
 use Rattle.command_line.specs.declared.outcome.Outcome.{Outcome}
@@ -14,7 +12,7 @@ use Rattle.command_line.specs.Command.{IsOfCommand, AreOfNoCommand}
 use Rattle.command_line.specs.Statuses.{status_of}
 use Rattle.command_line.specs.Ends.{IsShownBy, IsReported}
 use Rattle.synth_run.specs.Sources.{Reads, bytes_for, most_read, LeavesAlone}
-use Rattle.synth_run.specs.IsOutcomeFor.{IsOutcomeFor}
+use Rattle.synth_run.specs.IsOutcomeFor.{IsRefusalFor, IsOutcomeFor}
 use Rattle.synth_run.specs.Headline.{IsAnswer}
 use Rattle.synth_run.specs.Played.{IsPlayed, LeavesAGame, SolvesNothing}
 
@@ -30,27 +28,9 @@ IsCutOff command bytes out = (text : List ℕ) × IsAnswer command bytes text ×
 abbrev pub IsRead : Command → Reading → Type 0
 IsRead command source = IfSome source.before (λ bytes. source.after ≡ Some (drop (most_read command) bytes))
 
--- a refusal that every command which reads a text may give
-abbrev pub IsCommonRefusal : Refusal → Type 0
-IsCommonRefusal (Malformed line) = Unit {0}
-IsCommonRefusal (Overflow equation input) = Unit {0}
-IsCommonRefusal (Limit what) = Unit {0}
-IsCommonRefusal TooManyTurns = ⊥
-IsCommonRefusal ScriptTooLong = ⊥
-IsCommonRefusal TooManyTables = ⊥
-IsCommonRefusal (Invalid cell) = ⊥
-IsCommonRefusal NoRow = ⊥
-
--- how a command can refuse a text, whatever the text is: `check` alone tells of a row, `sim` alone of a start, and `patrol`
--- alone of turns; nothing refuses `demo`
+-- how a command can refuse a text that is not known: as it has to refuse some text
 abbrev pub CanRefuse : Command → Refusal → Type 0
-CanRefuse (Synth workers) refusal = IsCommonRefusal refusal
-CanRefuse Check refusal = ((cell : ℕ) × (refusal ≡ Invalid cell)) ⊎ IsCommonRefusal refusal
-CanRefuse Upgrade refusal = IsCommonRefusal refusal
-CanRefuse (Sim samples seed start) refusal = (refusal ≡ NoRow) ⊎ IsCommonRefusal refusal
-CanRefuse (Demo number workers) refusal = ⊥
-CanRefuse (Stay workers) refusal = IsCommonRefusal refusal
-CanRefuse (Patrol workers) refusal = (refusal ≡ TooManyTurns) ⊎ IsCommonRefusal refusal
+CanRefuse command refusal = (bytes : List ℕ) × IsRefusalFor command bytes refusal
 
 -- how a command can fail: a read of it only if it makes one
 abbrev pub CanFail : Command → Failure → Type 0
@@ -58,14 +38,14 @@ CanFail command Read = Reads command
 CanFail command Write = Unit {0}
 CanFail command Memory = Unit {0}
 
--- how a command can end whose words are right, whatever its source tells
+-- how a command can end whose arguments are right, whatever its source tells
 abbrev pub CanEnd : Command → Outcome → Type 0
 CanEnd command Done = Unit {0}
 CanEnd command Usage = ⊥
 CanEnd command (Refused refusal) = CanRefuse command refusal
 CanEnd command (Failed failure) = CanFail command failure
 
--- the text alone decides that the run ends so, and not the words, a device or want of memory
+-- the text alone decides that the run ends so, and not the arguments, a device or want of memory
 abbrev pub IsTheTexts : Outcome → Type 0
 IsTheTexts Done = Unit {0}
 IsTheTexts Usage = ⊥
@@ -91,14 +71,14 @@ pub record IsRunOf (command : Command) (outcome : Outcome) (source : Reading) (o
   -- what its devices show
   pub shown : IsShownBy outcome source out
 
--- What a run of some words gives: what their command does, or `usage` where they are of no command.
+-- What a run with some arguments gives: what their command does, or `usage` where they are of no command.
 pub record Gives (arguments : List (List ℕ)) (outcome : Outcome) (source : Reading) (out : Writing) (played : Option (BoardModel × RootModel)) : Type 0 where
   pub usage : (outcome ≡ Usage) ↔ AreOfNoCommand arguments
   pub unused : outcome ≡ Usage → AreUnused source out
   pub unplayed : outcome ≡ Usage → played ≡ None
   pub of_command : (command : Command) → IsOfCommand arguments command → IsRunOf command outcome source out played
 
--- A run of some words ends with a status: that of an outcome whose line is reported.
+-- A run with some arguments ends with a status: that of an outcome whose line is reported.
 pub record IsRun (arguments : List (List ℕ)) (status : ℕ) (source : Reading) (out err : Writing) (played : Option (BoardModel × RootModel)) : Type 0 where
   pub outcome : Outcome
   pub status_is : status ≡ status_of outcome

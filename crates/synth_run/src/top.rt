@@ -48,13 +48,21 @@ pub fn run<R: Threads + Sync, S: Source, O: Sink, E: Sink, G: Gate>(
     played: &mut Option<(Board, Root)>,
 ) -> u8
     // The headline: status 0 means that the answer was written whole, that of `synth` being the plant's one table.
-    ensures solved { (command : Command) → IsOfCommand (as_words arguments.now) command → result ≡ 0 → IfSome (bytes_for command (S.left source.old)) (λ bytes. IsAnswered command bytes (writing O.got O.faults O.capacity out.old out.new)) }
+    ensures solved { let written = writing O.got O.faults O.capacity out.old out.new in
+        (command : Command) → IsOfCommand (as_words arguments.now) command → result ≡ 0
+        → IfSome (bytes_for command (S.left source.old)) (λ bytes. IsAnswered command bytes written) }
 
-    // Every status: what was read, written and reported, which fault or refusal it tells, and what is left of the game.
-    ensures gives { IsRun (as_words arguments.now) result (reading S.left S.faults S.is_sound source.old source.new) (writing O.got O.faults O.capacity out.old out.new) (writing E.got E.faults E.capacity err.old err.new) played.new }
+    // Every status: what was read, written and reported, which fault or refusal it means, and what is left of the game.
+    ensures gives { let read = reading S.left S.faults S.is_sound source.old source.new in
+        let written = writing O.got O.faults O.capacity out.old out.new in
+        let reported = writing E.got E.faults E.capacity err.old err.new in
+        IsRun (as_words arguments.now) result read written reported played.new }
 
     // Where no device fails, only want of memory keeps a text from what it demands.
-    ensures complete { (command : Command) → IsOfCommand (as_words arguments.now) command → NoReadFailed command (S.faults source.old) (S.faults source.new) → (Rose (O.faults out.old) (O.faults out.new) → ⊥) → IfSome (bytes_for command (S.left source.old)) (IsCompleteAnswer command result) }
+    ensures complete { (command : Command) → IsOfCommand (as_words arguments.now) command
+        → NoReadFailed command (S.faults source.old) (S.faults source.new)
+        → (Rose (O.faults out.old) (O.faults out.new) → ⊥)
+        → IfSome (bytes_for command (S.left source.old)) (IsCompleteAnswer command result) }
 {
     let (outcome, solved) = outcome_of(rt, alloc, arguments, source, out, gate);
     *played = solved;
