@@ -41,7 +41,7 @@ impl<S> Model for Scratch<S> {
 impl<S: Start> Scratch<S> {
     /// Takes 8 bytes for a pair, on the board, and 32 for a cell: 16 on the board, 4 on the list and 12 in the answer.
     /// While the board is made it takes 16 for a pair and 32 for a cell, half of it for the list of the board's words, which is
-    /// given back. What leads to a cell isn't asked for, so that can be found afterwards.
+    /// given back. It needs no source lists, so these can be filled afterwards.
     pub fn new<R: Threads + Sync, G: Forward + Sync>(
         rt: &R,
         alloc: Global,

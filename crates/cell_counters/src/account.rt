@@ -10,7 +10,7 @@ pub struct Cut {
     pub left: u64,
 }
 
-/// A value offered on a minimum, and whether it was the first there.
+/// A value offered to a minimum, and whether it was the first there.
 pub struct Offer {
     pub word: u32,
     pub value: u64,

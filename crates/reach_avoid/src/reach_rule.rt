@@ -1,4 +1,4 @@
-//! The rule of a reach game: the cut that leaves nothing of a pair makes an offer to the pair's cell, and the cell's word has its row.
+//! The rule of a reach game: the cut that leaves nothing of a pair makes an offer to the pair's cell, and the cell's minimum determines its row.
 ghost use Rattle.std.specs.Prelude.{◌≡◌, ◌^◌, ◌<◌, ◌≤◌, Some};
 ghost use Rattle.game_core.specs.declared.game.Row.{Row};
 ghost use Rattle.game_core.specs.Game.{IsGraph, pairs_of};

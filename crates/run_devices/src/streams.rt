@@ -84,7 +84,7 @@ impl<W: Write> Sink for WriterSink<W> {
 
     ghost faults = { λ s. s.1 };
 
-    /// A writer that takes nothing of a piece would be asked for ever: that is a failed call.
+    /// A writer that takes nothing of a piece would be called for ever: that is a failed call.
     fn write(&mut self, piece: &[u8]) -> Result<usize, Failed> {
         match self.writer.write(piece) {
             Ok(n) if n > 0 || piece.is_empty() => Ok(n),

@@ -28,7 +28,7 @@ pub fn keep<R: Threads + Sync, G: Graph + Sync, T: Gate>(
     Ok(keep_in(rt, alloc, g, scratch, gate))
 }
 
-/// The same in a scratch that was made for the graph. What memory its rounds ask for they can do without.
+/// The same in a scratch that was made for the graph. Its rounds request memory, and can do without it.
 pub fn keep_in<R: Threads + Sync, G: Graph + Sync, T: Gate>(
     rt: &R,
     alloc: Global,
