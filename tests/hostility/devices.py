@@ -11,7 +11,7 @@ import termios
 import time
 
 from . import oracle
-from .program import CHECK, DEMO, FORMS, LIVE, PATROL, PLANT, SECONDS, SIM, STAY, SYNTH, TABLE, UPGRADE, WORKERS, Form, differs
+from .program import CHECK, DEMO, FORMS, LIVE, PATROL, PLANT, SECONDS, SIM, STAY, SYNTH, UPGRADE, WORKERS, Form, differs
 
 MALFORMED = Form("synth 1", PLANT[:-4], oracle.synth)
 USAGE = Form("synth", PLANT, lambda _: oracle.ended(2, line=b"usage\n"))

@@ -11,7 +11,7 @@ import tempfile
 from gaffcurrant_plant.expression import walk
 from gaffcurrant_plant.reader import read_plant
 
-from .oracle import TABLE_LIMIT, row_text
+from .oracle import row_text
 from .program import CART, CHECK, LIVE, SYNTH, TABLE, WORKERS
 
 FEW = 8

@@ -1,14 +1,8 @@
 /* Opens a table, and prints the bytes that malloc has given for it. */
-#include <malloc.h>
 #include <stdio.h>
 #include <stdlib.h>
 #include "gaffcurrant.h"
-
-static size_t given(void)
-{
-    struct mallinfo2 now = mallinfo2();
-    return now.uordblks + now.hblkhd;
-}
+#include "given.h"
 
 int main(int count, char **words)
 {

@@ -1,11 +1,11 @@
 /* Beside control.c, by a table of tools/header (table.h) and its text: prints whether both answer the same, milliseconds to open, bytes held, and
    nanoseconds a step of the library, of its call for many states at once, and of control.c. */
-#include <malloc.h>
 #include <stdio.h>
 #include <stdlib.h>
 #include <string.h>
 #include <time.h>
 #include "gaffcurrant.h"
+#include "given.h"
 #include "control.c"
 
 enum { MANY = 4096, ROUNDS = 500 };
@@ -25,12 +25,6 @@ static double seconds(void)
     struct timespec now;
     clock_gettime(CLOCK_MONOTONIC, &now);
     return (double)now.tv_sec + (double)now.tv_nsec * 1e-9;
-}
-
-static size_t given(void)
-{
-    struct mallinfo2 now = mallinfo2();
-    return now.uordblks + now.hblkhd;
 }
 
 int main(int count, char **words)

@@ -8,7 +8,7 @@ import shutil
 import tempfile
 from pathlib import Path
 
-from gaffcurrant_plant.reader import Refused, read_plant
+from gaffcurrant_plant.reader import Refused
 from gaffcurrant_plant.solving import simulate
 from gaffcurrant_plant.table import read_text, text_of_patrol, text_of_stay
 from hostility import games, oracle

@@ -24,7 +24,7 @@ class Block:
 
     def comment(self):
         lines = [f"(* {WHAT[self.text.kind]} of Gaffcurrant, made by tools/header --st."] + [f"   {line}" for line in about(self.text, self.checksum)]
-        lines.append("   No compiler of IEC 61131-3 was at hand: such blocks were read and run by a parser of Gaffcurrant's tests only. Try this one before you rely on it.")
+        lines.append("   Tested by a parser and interpreter of Gaffcurrant's own, not by a compiler of IEC 61131-3. Try this block before you rely on it.")
         lines.append("   STATUS 1: apply INPUTS; 0: the state is in the target, nothing has to be applied; -1: there is no row, so nothing is promised.")
         if self.with_ranks:
             lines.append("   FALLS is FALSE where the rank hasn't fallen as promised since the call before: a disturbance outside of its range, or a sensor.")
