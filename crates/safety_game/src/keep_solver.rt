@@ -4,8 +4,8 @@ ghost use Rattle.base.specs.Workers.{AreWorkers};
 ghost use Rattle.safety_game.specs.KeepBoards.{IsBoardOf};
 ghost use Rattle.safety_game.specs.Kept.{IsKeepSolved};
 
-use crate::keep_rule::Keep;
 use crate::Kept;
+use crate::keep_rule::Keep;
 use crate::scratch::Scratch;
 use board_rounds::solve_by_rule;
 use frontier_pool::Gate;
