@@ -62,7 +62,7 @@ fn has_patrol_rows(alloc: Global) -> bool {
     if patrol.turns() != 2 {
         return false;
     }
-    let rows = patrol.turns().turn(1);
+    let rows = patrol.answers().turn(1);
     rows.cells() == 5
         && rows.row(4) == Some(Row { rank: 2, input: 0 })
         && matches!(

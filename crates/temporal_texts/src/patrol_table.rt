@@ -54,7 +54,7 @@ impl PatrolTable {
     }
 
     /// The rows of all turns.
-    pub fn turns(&self) -> &PatrolRows
+    pub fn answers(&self) -> &PatrolRows
         ensures rows { result.now ≡ self.now.rows }
         ensures fit { PatrolRowsFit self.now.plant result.now }
     {
