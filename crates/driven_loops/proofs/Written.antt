@@ -1,5 +1,5 @@
 -- Loops of the answers of texts that were written: each is a followed loop, of which more is known.
-use Rattle.std.proofs.Common.{inl, inr, ◌≡◌, ℕ, zero, suc, ◌+◌, ◌≤◌, List, [], ◌∷◌, length, map, take, refl, subst, arith}
+use Rattle.std.proofs.Common.{inl, inr, ◌≡◌, ℕ, zero, suc, ◌+◌, ◌≤◌, List, [], ◌∷◌, length, map, take, refl, sym, subst, arith}
 use Rattle.std.specs.List.{Any}
 use Rattle.std.proofs.lemmas.List.{length-map}
 use Rattle.text_control.specs.Texts.{TextModel}
@@ -50,9 +50,10 @@ written_stay_texts_settle p bytes text t spells given read =
 
 -- a sample that ends a turn is one of the loop's
 ends_turn : (t : TextModel) (n : ℕ) (samples : List LoopSample) → Any (FollowedEndsTurn t) (take n (seen t samples)) → Any (EndsTurn t) (take n samples)
-ends_turn t n [] (i, s, lt, at, is) = absurd (omega (arith, lt))
+ends_turn t zero [] (i, f, lt, at, is) = absurd (omega (arith, lt))
+ends_turn t (suc n) [] (i, f, lt, at, is) = absurd (omega (arith, lt))
 ends_turn t zero (s ∷ samples) (i, f, lt, at, is) = absurd (omega (arith, lt))
-ends_turn t (suc n) (s ∷ samples) (zero, f, lt, at, is) = (0, s, omega arith, refl, subst (FollowedEndsTurn t) at is)
+ends_turn t (suc n) (s ∷ samples) (zero, f, lt, at, is) = (0, s, omega arith, refl, subst (FollowedEndsTurn t) (sym at) is)
 ends_turn t (suc n) (s ∷ samples) (suc i, f, lt, at, is) =
     let rest = ends_turn t n samples (i, f, omega (arith, lt), at, is) in
     (suc rest.0, rest.1, omega (arith, rest.2), rest.3, rest.4)
