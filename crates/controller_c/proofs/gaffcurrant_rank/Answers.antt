@@ -5,7 +5,7 @@ use Rattle.text_control.specs.Texts.{TextModel}
 use Rattle.controller_c.specs.Exports.{IsRanked}
 use Rattle.controller_c.proofs.gaffcurrant_rank.Goals as goal
 
-pub returns-clause-rank : goal.returns-in-Some-clause-rank
+pub returns-clause-rank : goal.returns-clause-rank
 returns-clause-rank c =
     let x = c.args.state.now in
     let rank = c.copy_rank-status.new.rank in
