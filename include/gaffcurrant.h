@@ -5,6 +5,17 @@
    input vector that the text applies at the state. Each answer below is proved in both directions, but for want of
    memory, which is never excluded. This header is written by hand, and nothing proves that it fits the library.
 
+   A text isn't judged. One whose inputs or ranks were changed opens where it is still a text, and then its promise may
+   fail. `gaffcurrant check` judges a table; no command judges a stay text or a patrol text. Open what `synth`, `stay` or
+   `patrol` wrote, byte for byte: then every loop that applies the values answered with 1 comes to its targets, stays or
+   goes on as the goal says (proved, crates/driven_loops), as long as the plant keeps to its equations and its noises to
+   their ranges, which gaffcurrant_follows tells sample by sample.
+
+   When a loop has come. By a table with `goal reach` go on while the answer is 1, and end at the answer 0, which comes
+   within as many samples as the first rank. The first state in a target isn't the end: where its cell isn't wholly in the
+   target, the answer there is still 1. By a table with `goal keep`, a stay text and a patrol text the answer 0 doesn't
+   come, and the loop goes on.
+
    Units. A state is one whole number for each state variable of the text's plant, in the order of its `state` lines:
    floor(measured value / unit). An input is one whole number for each `input` line: the value to apply is the number times
    the unit. Every number of a text is below 10^18 in size; a state may be any number of 64 bits.
@@ -15,7 +26,15 @@
    - a controller begins as {0}, is changed by these calls alone, and isn't used through a copy;
    - one thread at a time uses a controller. Where another thread goes on, a lock, a thread's start or its join orders the
      two. Several controllers are independent;
-   - malloc, realloc and free are those of one allocator. Only gaffcurrant_open and gaffcurrant_close call them. */
+   - malloc, realloc and free are those of one allocator. Only gaffcurrant_open and gaffcurrant_close call them (tested);
+   - no signal handler and no interrupt of the thread calls for a controller while a call for it runs: it would find it
+     closed. No longjmp leaves a call: the controller would stay closed, and its memory would be lost;
+   - a thread that calls gaffcurrant_open has GAFFCURRANT_STACK bytes of stack left. The other calls need less.
+
+   Memory. An open text takes 8 bytes for each stretch of cells with one row or with none, and 4 for every 64 cells, for
+   each turn; and 16 for each state and input vector. While a text is opened, 12 bytes a cell and turn more.
+
+   Platforms: x86-64 with Linux, whose pointers and size_t have 64 bits. */
 #ifndef GAFFCURRANT_H
 #define GAFFCURRANT_H
 
@@ -29,18 +48,31 @@ extern "C" {
 #include <stdint.h>
 #endif
 
+/* The version of this header: two digits for each number. gaffcurrant_version() is that of the library. */
+#define GAFFCURRANT_VERSION 11400
+
+/* Bytes of stack that gaffcurrant_open takes at most (measured over the deepest texts that the limits allow). Threads of some
+   C libraries have less. */
+#define GAFFCURRANT_STACK (320 * 1024)
+
 /* What the calls answer. */
 #define GAFFCURRANT_OPEN 0         /* gaffcurrant_open: the text is open */
 #define GAFFCURRANT_MALFORMED 1    /* gaffcurrant_open: the bytes are none of the three texts */
 #define GAFFCURRANT_LIMIT 2        /* gaffcurrant_open: a text past a limit */
 #define GAFFCURRANT_NO_MEMORY 3    /* gaffcurrant_open: malloc had none */
+#define GAFFCURRANT_DONE 0         /* the call did what it was asked for */
 #define GAFFCURRANT_APPLY 1        /* the inputs are to be applied */
 #define GAFFCURRANT_ARRIVED 0      /* the state has come to the targets: nothing has to be applied */
+#define GAFFCURRANT_RANKED 1       /* gaffcurrant_rank: the state has a row, of the rank that is told */
 #define GAFFCURRANT_NO_ROW (-1)    /* the text promises nothing at the state */
-#define GAFFCURRANT_WRONG_SIZE (-2)/* not as many numbers as the text has states and inputs */
+#define GAFFCURRANT_WRONG_SIZE (-2)/* not as many numbers as the text has states and inputs, or no such turn */
 #define GAFFCURRANT_CLOSED (-3)    /* the controller holds no text */
 #define GAFFCURRANT_NEXT_TURN 1    /* gaffcurrant_visit: the next turn of a patrol has begun */
 #define GAFFCURRANT_SAME_TURN 0    /* gaffcurrant_visit: the turn is as before */
+#define GAFFCURRANT_FOLLOWED 1     /* gaffcurrant_follows: the next state lies in its box */
+#define GAFFCURRANT_NOT_FOLLOWED 0 /* gaffcurrant_follows: it doesn't, or the box leaves the ranges */
+#define GAFFCURRANT_NO_INPUT (-1)  /* gaffcurrant_follows: the state is outside the ranges, or the inputs are no input vector */
+#define GAFFCURRANT_OVERFLOW (-4)  /* gaffcurrant_follows: a number of the plant leaves the range */
 
 /* A controller: it holds a text, or none. Begin with `struct gaffcurrant controller = {0};` (C++: {}). Its members are the
    library's own. One that is open owns memory until gaffcurrant_close. */
@@ -92,14 +124,30 @@ int32_t gaffcurrant_begin_turn(struct gaffcurrant *controller, uint32_t turn);
    0: told. -3: closed, and both are 0. */
 int32_t gaffcurrant_sizes(struct gaffcurrant *controller, uint32_t *states, uint32_t *inputs);
 
-/* The rank at a state: how many samples suffice to the targets, of a patrol to the target of the turn that is due. With
-   `goal keep` every row has rank 0.
+/* The rank at a state: the number that its cell's row has for the turn that is due. In a text that was written by `synth`,
+   `stay` or `patrol` so many samples suffice to the targets, of a patrol to the target of the turn. With `goal keep` every
+   row has rank 0.
 
    1: told. -1: the state has no row. -2: states isn't the number of the plant's states. -3: closed. At every answer but 1
    *rank is 0. */
 int32_t gaffcurrant_rank(struct gaffcurrant *controller, const int64_t *state, size_t states, uint32_t *rank);
 
-/* Frees the text. A controller that holds none stays as it is, so it may be closed twice; it may be opened again. */
+/* Whether the plant kept to its equations: whether the next state is one to which they may lead from any state of the same
+   cell, where these inputs are applied and the noises are in their ranges. A plant that obeys its equations is always
+   followed (proved), so there is no false alarm. And the promise of a text that was written for the plant holds of every
+   loop whose samples are followed, whatever moved the plant (proved). It takes no memory.
+
+   1: the next state lies in the successor box of the state's cell. 0: it doesn't, or the box leaves the ranges. -1: the
+   state is outside the plant's ranges, or the inputs aren't one of its input vectors. -2: states or next_states
+   isn't the number of the plant's states, or inputs isn't that of its input variables. -3: closed. -4: a number
+   of the plant leaves the range, which `check` refuses too: no box is told. */
+int32_t gaffcurrant_follows(struct gaffcurrant *controller, const int64_t *state, size_t states, const int64_t *input, size_t inputs,
+                            const int64_t *next, size_t next_states);
+
+/* The version of the library: GAFFCURRANT_VERSION where it is that of this header. */
+uint32_t gaffcurrant_version(void);
+
+/* Frees the text (tested; no proved clause says so). A controller that holds none stays as it is, so it may be closed twice; it may be opened again. */
 void gaffcurrant_close(struct gaffcurrant *controller);
 
 #ifdef __cplusplus

@@ -28,6 +28,8 @@ static void expect_closed(struct gaffcurrant *c)
     expect("closed: visit", -3, gaffcurrant_visit(c, state, 2, &turn));
     expect("closed: turn", 0, turn);
     expect("closed: begin_turn", -3, gaffcurrant_begin_turn(c, 0));
+    expect("closed: follows", -3, gaffcurrant_follows(c, state, 2, input, 1, state, 2));
+    expect("closed: follows with no arrays", -3, gaffcurrant_follows(c, NULL, 0, NULL, 0, NULL, 0));
     expect("closed: input", 77, input[0]);
     expect("closed: replies", 77, replies[0]);
     expect("closed: states", 0, states);
@@ -66,6 +68,10 @@ static void expect_open(struct gaffcurrant *c)
     expect("visit of a wrong size", -2, gaffcurrant_visit(c, state, 3, &turn));
     expect("visit of no array", -2, gaffcurrant_visit(c, NULL, 0, &turn));
     expect("wrong sizes: input", 77, input[0]);
+    expect("follows of no arrays", -2, gaffcurrant_follows(c, NULL, 0, NULL, 0, NULL, 0));
+    expect("follows of one next state too few", -2, gaffcurrant_follows(c, state, 2, input, 1, state, 1));
+    expect("follows of no input vector", -1, gaffcurrant_follows(c, state, 2, input, 1, state, 2));
+    expect("follows outside", -1, gaffcurrant_follows(c, far, 2, input, 1, state, 2));
     expect("control outside", -1, gaffcurrant_control(c, far, 2, input, 1));
     expect("rank outside", -1, gaffcurrant_rank(c, far, 2, &rank));
     expect("outside: input", 77, input[0]);
@@ -73,6 +79,7 @@ static void expect_open(struct gaffcurrant *c)
     expect("control", 1, gaffcurrant_control(c, state, 2, input, 1));
     expect("input", -20, input[0]);
     expect("the next input", 77, input[1]);
+    expect("follows to far outside", 0, gaffcurrant_follows(c, state, 2, input, 1, far, 2));
     state[0] = 450, state[1] = 0, input[0] = 77;
     expect("visit in the target", 0, gaffcurrant_visit(c, state, 2, &turn));
     expect("the turn of a table", 0, turn);

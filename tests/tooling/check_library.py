@@ -1,7 +1,9 @@
 """The C library: over the examples' texts its answers are those of the text's rows, of `sim` and of control.c, by both compilers' libraries, and by Python;
-its memory is constant, its wrong uses are answered as include/gaffcurrant.h tells, and sanitizers and valgrind find nothing."""
+its memory is constant, its wrong uses are answered as include/gaffcurrant.h tells, and sanitizers and valgrind find nothing. Which next states follow is
+that of the module's boxes; the stack of the deepest texts, the calls of malloc, the version and the statuses are those that the header tells."""
 
 import os
+import random
 import re
 import shutil
 import subprocess
@@ -18,7 +20,12 @@ from .check_readers import c_answers, expected, random_states
 from .check_temporal import DAMAGED, PATROL, STAY
 
 # The calls of the library, which alone the shared object shows.
-CALLS = ["begin_turn", "close", "control", "control_each", "open", "rank", "sizes", "visit"]
+CALLS = ["begin_turn", "close", "control", "control_each", "follows", "open", "rank", "sizes", "version", "visit"]
+# Those that take no controller.
+OF_THE_LIBRARY = ["version"]
+# A status of the header, and one of the library.
+OF_HEADER = re.compile(r"^#define GAFFCURRANT_(\w+) \(?(-?\d+)\)?\s*/\*", re.M)
+OF_LIBRARY = re.compile(r"^pub const (\w+): i32 = (-?\d+);", re.M)
 STRICT = ["-std=c99", "-pedantic", "-Wall", "-Wextra", "-Werror"]
 SANITIZERS = ["-g", "-O1", "-fsanitize=address,undefined", "-fno-sanitize-recover=all"]
 
@@ -39,6 +46,9 @@ def check(report):
             (room / f"{name}.table").write_bytes(text)
         check_object(report, libraries["llvm"])
         check_headers(report, room, libraries["llvm"])
+        check_statuses(report)
+        check_version(report, room, libraries)
+        check_stack(report, room, libraries)
         programs = {backend: compiled(report, room, f"answer_{backend}", "answer.c", library) for backend, library in libraries.items()}
         programs["the sanitizers"] = compiled(report, room, "answer_sane", "answer.c", libraries["llvm"], SANITIZERS)
         held = compiled(report, room, "held", "held.c", libraries["llvm"], ["-O2", "-D_GNU_SOURCE"])
@@ -46,6 +56,7 @@ def check(report):
             check_memory(report, room, name, text, held)
         with ThreadPoolExecutor(os.cpu_count() or 1) as pool:
             list(pool.map(lambda name: check_table(report, room, name, tables[name], programs, libraries["llvm"]), tables))
+        check_following(report, room, tables, libraries)
         check_turns(report, room, libraries)
         check_uses(report, room, libraries)
         check_python(report, room, libraries["llvm"], tables["cart"])
@@ -88,7 +99,142 @@ def check_headers(report, room, library):
         program = compiled(report, room, f"header_{standard}", "header.cpp", library, compiler=("g++", f"-std={standard}", *STRICT[1:]))
         report.expect(f"library: the header in {standard}", 0, ran(program)[0])
     text = (report.top / "include/gaffcurrant.h").read_text()
-    report.expect("library: the calls of the header", [], [name for name in CALLS if f" gaffcurrant_{name}(struct gaffcurrant *controller" not in text])
+    report.expect("library: the calls of the header", [], [name for name in CALLS if f" gaffcurrant_{name}({taken_by(name)}" not in text])
+
+
+def taken_by(name):
+    """How the words of a call begin."""
+    return "void)" if name in OF_THE_LIBRARY else "struct gaffcurrant *controller"
+
+
+def check_statuses(report):
+    """The header names each status of the library, by its number, and no other."""
+    header, library = ((report.top / path).read_text() for path in ("include/gaffcurrant.h", "crates/text_control/src/statuses.rt"))
+    report.expect("library: the statuses of the header", sorted(OF_LIBRARY.findall(library)), sorted(OF_HEADER.findall(header)))
+
+
+def check_version(report, room, libraries):
+    """The version of the header and of both compilers' libraries is that of the launcher."""
+    said = subprocess.run([report.top / "gaffcurrant", "--version"], capture_output=True, check=False).stdout.decode().split()[1]
+    first, second, third = map(int, said.split("."))
+    for backend, library in libraries.items():
+        program = compiled(report, room, f"version_{backend}", "version.c", library)
+        report.expect(f"library: the version of the header and of the library by {backend}", (0, f"{first}{second:02}{third:02}\n" * 2, ""), ran(program))
+
+
+# Places nested as deep as calls of the reader may be, in plants of one state and one input; whether they are canonical texts, which open.
+DEEP = {
+    "brackets": (False, "(" * 64 + "x" + ")" * 64), "signs": (False, "-" * 320 + "x"), "sums": (True, "x" + " + 0" * 126), "products": (True, "x" + " * 1" * 63),
+    "minimums": (True, "min(" * 60 + "x" + ", 0)" * 60), "minimums on their right": (True, "min(0, " * 60 + "x" + ")" * 60),
+    "absolute values": (True, "abs(" * 60 + "x" + ")" * 60), "tables": (True, "lut(" * 60 + "x" + ", 0:0, 14:14)" * 60),
+    "sums before brackets": (False, "0 + " * 255 + "(" * 64 + "x" + ")" * 64), "products before brackets": (False, "1 * " * 255 + "(" * 64 + "x" + ")" * 64),
+    "sums before minimums": (False, "0 + " * 255 + "min(0, " * 64 + "x" + ")" * 64), "signs before brackets": (False, "-" * 255 + "(" * 64 + "x" + ")" * 64),
+    "signs in brackets": (False, "(----" * 64 + "x" + ")" * 64), "sums in brackets": (False, "(0 + 0 + 0 + 0 + " * 63 + "x" + ")" * 63),
+    "products in minimums": (False, "min(0, 1 * 1 * 1 * 1 * " * 63 + "x" + ")" * 63), "sums of products in minimums": (False, "min(0, 0 + 0 + 1 * 1 * " * 63 + "x" + ")" * 63),
+    "sums of products in tables": (False, "lut(0 + 0 + 1 * 1 * " * 63 + "x" + ", 0:0, 14:14)" * 63),
+}
+
+
+def deep_text(place):
+    return f"table 2\nplant 2\nstate x 0 14 3\ninput u -3 3\nnext x = {place}\ntarget 12 14\ngoal reach\nend\nrows 0\nend\n"
+
+
+def check_stack(report, room, libraries):
+    """A thread with the stack that the header tells opens each of the deepest texts, and a text of many variables, by both compilers' libraries."""
+    told = int(re.search(r"#define GAFFCURRANT_STACK \((\d+) \* 1024\)", (report.top / "include/gaffcurrant.h").read_text()).group(1))
+    for name in ("tools/library", "examples/device/README.md"):
+        report.holds(f"library: the stack in {name}", f"{told} KiB" in (report.top / name).read_text(), f"not {told} KiB")
+    for backend, library in libraries.items():
+        program = compiled(report, room, f"stack_{backend}", "stack.c", library, ["-O2", "-D_GNU_SOURCE", "-pthread"])
+        most = 0
+        for name, (opens, place) in DEEP.items():
+            text = room / "deep.text"
+            text.write_text(deep_text(place))
+            status, said, _ = ran(program, text, told)
+            answer, used = (said.split() + ["none", "0"])[:2]
+            most = max(most, int(used))
+            report.expect(f"library: {name} nested deep, opened by {backend} in {told} KiB", (0, "0" if opens else "1"), (status, answer))
+        print(f"library: opening takes {most} KiB of {told} KiB of stack at most, by {backend}")
+
+
+def check_following(report, room, tables, libraries):
+    """Which next states follow is told by the boxes of the module: corners of boxes, one past them, states outside, values that are no vector; and every step of
+    the plant follows. The same by Python, and only gaffcurrant_open and gaffcurrant_close ask for memory."""
+    programs = {backend: compiled(report, room, f"follows_{backend}", "follows.c", library) for backend, library in libraries.items()}
+    programs["the sanitizers"] = compiled(report, room, "follows_sane", "follows.c", libraries["llvm"], SANITIZERS)
+    counting = compiled(report, room, "allocates", "allocates.c", libraries["llvm"], ["-O2", "-Wl,--wrap=malloc,--wrap=calloc,--wrap=realloc,--wrap=free"])
+    for name, text in tables.items():
+        plant, path = read_table(text).plant, room / f"{name}.table"
+        samples, wanted = followed_samples(plant)
+        for backend, program in programs.items():
+            report.expect(f"library: which states follow in {name} by {backend}", (0, wanted, ""), split(ran(program, path, data=lines_of([sum(map(list, one), []) for one in samples]))))
+        for shared in (str(libraries["llvm"] / "libgaffcurrant.so"), ""):
+            with Controller(text, shared) as controller:
+                told = [answer_of(controller.follows, *one) for one in samples[:300]]
+                report.expect(f"library: which states follow in {name} by Python, {'the shared object' if shared else 'the module'}",
+                              [{"1": True, "0": False}.get(one, "NoRow") for one in wanted[:300]], told)
+        report.expect(f"library: calls of malloc for {name}", (0, "by open and close alone\n", ""), ran(counting, path))
+    check_overflow(report, room, programs, libraries)
+
+
+def followed_samples(plant):
+    """Samples of a state, values and a next state, and the answers by the boxes of the module."""
+    chance, samples, wanted = random.Random(7), [], []
+    for state in random_states(plant)[:150]:
+        cell, vector = plant.cell_of(state), chance.randrange(plant.vectors)
+        values = list(plant.vector(vector))
+        strange = [[value + 10 ** 15 for value in values]] if values else []
+        for given, after in [(values, state), *((one, state) for one in strange)]:
+            add_sample(plant, samples, wanted, state, given, after)
+        if cell is None:
+            continue
+        noise = [chance.randint(low, high) for _, low, high in plant.noises]
+        after = plant.step(state, values, noise)
+        low, high = plant.box(cell, vector)
+        if not plant.leaves(low, high):
+            samples.append((state, values, after))
+            wanted.append("1")
+            for corner in corners_about(plant, low, high):
+                add_sample(plant, samples, wanted, state, values, corner)
+    return samples, wanted
+
+
+def corners_about(plant, low, high):
+    """The least and the greatest points of a box of cells, and one past each of them in each state."""
+    sides = plant.sides(low, high)
+    ends = [(first + begin * width, first + (end + 1) * width - 1) for (begin, end), (_, first, _, width) in zip(sides, plant.states)]
+    least, greatest = [one for one, _ in ends], [one for _, one in ends]
+    return [least, greatest, *([*least[:i], least[i] - 1, *least[i + 1:]] for i in range(len(ends))), *([*greatest[:i], greatest[i] + 1, *greatest[i + 1:]] for i in range(len(ends)))]
+
+
+def add_sample(plant, samples, wanted, state, values, after):
+    samples.append((state, values, after))
+    wanted.append(str(followed(plant, state, values, after)))
+
+
+def followed(plant, state, values, after):
+    """The answer by the cells that meet the box of the state's cell."""
+    vectors = [k for k in range(plant.vectors) if list(plant.vector(k)) == list(values)]
+    if plant.cell_of(state) is None or not vectors:
+        return NO_ROW
+    return int(plant.cell_of(after) in plant.successors(plant.cell_of(state), vectors[0]))
+
+
+# The square of the cube of a place leaves the range of 127 bits; the text has no row, so that it opens.
+OVERFLOWING = "table 2\nplant 1\nstate x 0 99999999999999 1000000000\ninput u -3 3\nnext x = x * x * x * x * x * x * x * x * x * x + u\ntarget 12 1000000013\ngoal reach\nend\nrows 0\nend\n"
+
+
+def check_overflow(report, room, programs, libraries):
+    """A plant that overflows opens, and no next state is told; by Python it is refused."""
+    path = room / "overflow.table"
+    path.write_text(OVERFLOWING)
+    report.expect("library: `check` refuses a plant that overflows", 4, report.run(("check",), OVERFLOWING.encode())[0])
+    lines = lines_of([[0, -3, 0], [0, 5, 0], [-1, -3, 0]])
+    for backend, program in programs.items():
+        report.expect(f"library: a plant that overflows by {backend}", (0, ["-4", "-1", "-1"], ""), split(ran(program, path, data=lines)))
+    for shared in (str(libraries["llvm"] / "libgaffcurrant.so"), ""):
+        with Controller(OVERFLOWING, shared) as controller:
+            report.expect("library: a plant that overflows by Python", ["Refused", "NoRow"], [answer_of(controller.follows, [0], [-3], [0]), answer_of(controller.follows, [0], [5], [0])])
 
 
 def lines_of(states):
@@ -127,12 +273,13 @@ def check_table(report, room, name, text, programs, library):
 
 
 def check_memory(report, room, name, text, held):
-    """A table that is open takes 8 bytes for each stretch of cells with one row or with none, and 4 for every 64 cells; the plant takes 2 to 33 thousand."""
+    """A table that is open takes 8 bytes for each stretch of cells with one row or with none, and 4 for every 64 cells; 16 for each state and input vector;
+    the plant takes 2 to 33 thousand."""
     table = read_table(text)
     cells = table.plant.cells
     rows = [table.rows.get(cell) for cell in range(cells)]
     stretches = sum(k == 0 or row != rows[k - 1] for k, row in enumerate(rows))
-    taken = int(ran(held, room / f"{name}.table")[1] or 0) - 8 * stretches - 4 * (cells // 64 + 2)
+    taken = int(ran(held, room / f"{name}.table")[1] or 0) - 8 * stretches - 4 * (cells // 64 + 2) - 16 * len(table.plant.states) * table.plant.vectors
     report.holds(f"library: {name}: memory beside the rows", 0 < taken < 40000, f"{taken} bytes")
 
 

@@ -14,7 +14,8 @@ from .table import NoRow, Table, read_text, whole_of
 HERE = Path(__file__).resolve().parent
 
 # The replies of include/gaffcurrant.h.
-APPLY, ARRIVED, NO_ROW, WRONG_SIZE, CLOSED = 1, 0, -1, -2, -3
+APPLY, ARRIVED, NO_ROW, WRONG_SIZE, CLOSED, OVERFLOW = 1, 0, -1, -2, -3, -4
+FOLLOWED = 1
 FAULTS = {1: "malformed: line {}", 2: "limit", 3: "no memory"}
 
 # A state past 64 bits is outside every plant's ranges, as these are.
@@ -42,7 +43,7 @@ def library_at(path: str) -> ctypes.CDLL:
     number, size = ctypes.POINTER(ctypes.c_uint32), ctypes.c_size_t
     for name, words in (("open", [ctypes.c_char_p, size, number]), ("control", [numbers, size, numbers, size]), ("sizes", [number, number]),
                         ("control_each", [numbers, size, numbers, size, replies, size]), ("rank", [numbers, size, number]),
-                        ("visit", [numbers, size, number]), ("begin_turn", [ctypes.c_uint32]), ("close", [])):
+                        ("visit", [numbers, size, number]), ("begin_turn", [ctypes.c_uint32]), ("follows", [numbers, size] * 3), ("close", [])):
         call = getattr(library, f"gaffcurrant_{name}")
         call.argtypes, call.restype = [held, *words], None if name == "close" else ctypes.c_int32
     return library
@@ -94,6 +95,13 @@ class Library:
             raise ValueError("the controller is closed" if status == CLOSED else f"there is no turn {turn}")
         self.turn = turn
 
+    def follows(self, state: Sequence[int], values: Sequence[int], after: Sequence[int]) -> int:
+        arrays = [(ctypes.c_int64 * len(numbers))(*numbers) for numbers in (state, values, after)]
+        reply = self.calls.gaffcurrant_follows(self.held, *(part for array in arrays for part in (array, len(array))))
+        if reply in (WRONG_SIZE, CLOSED):
+            raise ValueError("the controller is closed" if reply == CLOSED else f"a state has {self.states} numbers, and there are {self.inputs} inputs")
+        return reply
+
     def close(self) -> None:
         self.calls.gaffcurrant_close(self.held)
 
@@ -134,6 +142,19 @@ class Rows:
         if not 0 <= turn < (len(text.turns) if text.kind == "patrol" else 1):
             raise ValueError(f"there is no turn {turn}")
         self.turn = turn
+
+    def follows(self, state: Sequence[int], values: Sequence[int], after: Sequence[int]) -> int:
+        plant = self.opened().plant
+        if len(values) != len(plant.inputs):
+            raise ValueError(f"there are {len(plant.inputs)} inputs")
+        cell, there, vectors = plant.cell_of(state), plant.cell_of(after), [k for k in range(plant.vectors) if tuple(plant.vector(k)) == tuple(values)]
+        if cell is None or not vectors:
+            return NO_ROW
+        plant.check_overflow(Refused)
+        low, high = plant.box(cell, vectors[0])
+        if there is None or plant.leaves(low, high):
+            return 0
+        return int(all(first <= place <= last for (first, last), place in zip(plant.sides(low, high), plant.places_of(there))))
 
     def due(self) -> Any:
         """The rows of the turn that is due."""
@@ -183,6 +204,18 @@ class Controller:
         if rank is None:
             raise NoRow(f"{whole} has no row")
         return rank
+
+    def follows(self, state: Iterable[Any], values: Iterable[Any], after: Iterable[Any]) -> bool:
+        """Whether the next state is one to which the plant's equations may lead from the state's cell under these values of the inputs: a plant that obeys
+        its equations is always followed. Raises NoRow where the state is outside the ranges or the values are no input vector, Refused where a number of
+        the plant leaves the range."""
+        whole, inputs = self.whole(state), [whole_of(value) for value in values]
+        reply = self._rows.follows(whole, inputs, self.whole(after))
+        if reply == NO_ROW:
+            raise NoRow(f"{whole} is outside the ranges, or {inputs} is no input vector")
+        if reply == OVERFLOW:
+            raise Refused("overflow", "a number of the plant leaves the range")
+        return reply == FOLLOWED
 
     @property
     def turn(self) -> int:

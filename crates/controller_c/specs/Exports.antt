@@ -6,6 +6,7 @@ use Rattle.text_control.specs.Texts.{TextModel, IsReadFrom, IsTextRefusedFor}
 use Rattle.text_control.specs.Control.{EncodesReply, IsRank, IsUnranked}
 use Rattle.text_control.specs.Each.{IsReplyEach}
 use Rattle.text_control.specs.Visits.{with_turn, EncodesVisit}
+use Rattle.text_control.specs.Followed.{EncodesFollow}
 
 -- the status for a fault of a text
 abbrev pub fault_number : TextFault → ℤ
@@ -67,3 +68,8 @@ IsRanked (Some t) x rank status =
     ((status ≡ pos 1) × IsRank t x rank)
     ⊎ ((status ≡ negsuc 0) × (rank ≡ 0) × IsUnranked t x)
     ⊎ ((status ≡ negsuc 1) × (rank ≡ 0) × (length x ≡ length t.plant.states → ⊥))
+
+-- whether the next state lies in its box, where these values are applied at the state
+abbrev pub IsFollowed : Option TextModel → List ℤ → List ℤ → List ℤ → ℤ → Type 0
+IsFollowed None x values y status = status ≡ negsuc 2
+IsFollowed (Some t) x values y status = EncodesFollow t.plant (record { state = x; values = values; next = y }) status

@@ -6,7 +6,7 @@
 #![tactic(auto)]
 
 ghost use Rattle.std.specs.Prelude.{◌≡◌, None};
-ghost use Rattle.controller_c.specs.Exports.{IsOpened, IsReplied, AreReplied, IsVisited, IsBegun, HasSizes, IsRanked};
+ghost use Rattle.controller_c.specs.Exports.{IsOpened, IsReplied, AreReplied, IsVisited, IsBegun, HasSizes, IsRanked, IsFollowed};
 
 mod controller;
 mod held;
@@ -19,7 +19,11 @@ use crate::rank::copy_rank;
 pub use controller::Controller;
 pub use held::Held;
 use std::alloc::Global;
-use text_control::{begin_turn, control, control_each, visit};
+use text_control::statuses::{CLOSED, DONE, OPEN, WRONG_SIZE};
+use text_control::{begin_turn, control, control_each, follows, visit};
+
+/// The version of the library, 1.14.0: two digits for each number.
+pub const VERSION: u32 = 11_400;
 
 /// Reads the table, the stay text or the patrol text that the bytes are. 0: it is open. Else the controller is closed: 1,
 /// the line is the first that doesn't fit; 2, a limit is exceeded; 3, there was no memory.
@@ -37,7 +41,7 @@ pub extern "C" fn gaffcurrant_open(
         Ok(text) => {
             controller.put(text);
             *line = 0;
-            0
+            OPEN
         }
         Err(fault) => {
             *line = fault_at(fault);
@@ -58,14 +62,12 @@ pub extern "C" fn gaffcurrant_control(
     ensures kept { controller.new.held.text ≡ controller.old.held.text }
     ensures reply { IsReplied controller.old.held.text state.now input.old input.new result }
 {
-    match controller.take(alloc) {
-        Some(text) => {
-            let reply = control(&text, state, input);
-            controller.put(text);
-            reply.number()
-        }
-        None => -3,
-    }
+    let Some(text) = controller.take(alloc) else {
+        return CLOSED;
+    };
+    let reply = control(&text, state, input);
+    controller.put(text);
+    reply.number()
 }
 
 /// Puts what is to be applied at each of many states into its inputs, and what `gaffcurrant_control` answers
@@ -81,14 +83,12 @@ pub extern "C" fn gaffcurrant_control_each(
     ensures kept { controller.new.held.text ≡ controller.old.held.text }
     ensures told { AreReplied controller.old.held.text states.now inputs.old inputs.new replies.old replies.new result }
 {
-    match controller.take(alloc) {
-        Some(text) => {
-            let told = control_each(&text, states, inputs, replies);
-            controller.put(text);
-            if told { 0 } else { -2 }
-        }
-        None => -3,
-    }
+    let Some(text) = controller.take(alloc) else {
+        return CLOSED;
+    };
+    let told = control_each(&text, states, inputs, replies);
+    controller.put(text);
+    if told { DONE } else { WRONG_SIZE }
 }
 
 /// Begins the next turn of a patrol where the state is an arrival, and tells the turn that is then due. 1: it has begun. 0:
@@ -102,18 +102,14 @@ pub extern "C" fn gaffcurrant_visit(
 ) -> i32
     ensures { IsVisited controller.old.held.text state.now controller.new.held.text turn.new result }
 {
-    match controller.take(alloc) {
-        Some(mut text) => {
-            let visit = visit(&mut text, state);
-            *turn = text.turn();
-            controller.put(text);
-            visit.number()
-        }
-        None => {
-            *turn = 0;
-            -3
-        }
-    }
+    let Some(mut text) = controller.take(alloc) else {
+        *turn = 0;
+        return CLOSED;
+    };
+    let visit = visit(&mut text, state);
+    *turn = text.turn();
+    controller.put(text);
+    visit.number()
 }
 
 /// Makes a turn of a patrol due, as after a restart of the loop. 0: it is due. -2: there is no such turn. -3: closed.
@@ -125,14 +121,12 @@ pub extern "C" fn gaffcurrant_begin_turn(
 ) -> i32
     ensures { IsBegun controller.old.held.text turn controller.new.held.text result }
 {
-    match controller.take(alloc) {
-        Some(mut text) => {
-            let is_begun = begin_turn(&mut text, turn);
-            controller.put(text);
-            if is_begun { 0 } else { -2 }
-        }
-        None => -3,
-    }
+    let Some(mut text) = controller.take(alloc) else {
+        return CLOSED;
+    };
+    let is_begun = begin_turn(&mut text, turn);
+    controller.put(text);
+    if is_begun { DONE } else { WRONG_SIZE }
 }
 
 /// How many states and input variables the text's plant has. 0: told. -3: closed.
@@ -146,19 +140,15 @@ pub extern "C" fn gaffcurrant_sizes(
     ensures kept { controller.new.held.text ≡ controller.old.held.text }
     ensures sizes { HasSizes controller.old.held.text states.new inputs.new result }
 {
-    match controller.take(alloc) {
-        Some(text) => {
-            *states = text.plant().states();
-            *inputs = text.plant().input_variables();
-            controller.put(text);
-            0
-        }
-        None => {
-            *states = 0;
-            *inputs = 0;
-            -3
-        }
-    }
+    *states = 0;
+    *inputs = 0;
+    let Some(text) = controller.take(alloc) else {
+        return CLOSED;
+    };
+    *states = text.plant().states();
+    *inputs = text.plant().input_variables();
+    controller.put(text);
+    DONE
 }
 
 /// How many samples are left at most at the state. 1: told. -1: the state has no row. -2: a wrong number of
@@ -173,23 +163,49 @@ pub extern "C" fn gaffcurrant_rank(
     ensures kept { controller.new.held.text ≡ controller.old.held.text }
     ensures rank { IsRanked controller.old.held.text state.now rank.new result }
 {
-    match controller.take(alloc) {
-        Some(text) => {
-            let status = copy_rank(&text, state, rank);
-            controller.put(text);
-            status
-        }
-        None => {
-            *rank = 0;
-            -3
-        }
-    }
+    let Some(text) = controller.take(alloc) else {
+        *rank = 0;
+        return CLOSED;
+    };
+    let status = copy_rank(&text, state, rank);
+    controller.put(text);
+    status
 }
 
-/// Frees the text, if any.
+/// Tells whether the next state is one to which the plant's equations may lead from the state, where the inputs are applied. 1: it
+/// is. 0: it isn't. -1: the state is outside the ranges, or the inputs are no input vector. -2: a wrong number of states or
+/// inputs. -3: closed. -4: a number of the plant leaves the range.
+#[unsafe(no_mangle)]
+pub extern "C" fn gaffcurrant_follows(
+    alloc: Global,
+    controller: &mut Controller,
+    state: &[i64],
+    input: &[i64],
+    next: &[i64],
+) -> i32
+    ensures kept { controller.new.held.text ≡ controller.old.held.text }
+    ensures followed { IsFollowed controller.old.held.text state.now input.now next.now result }
+{
+    let Some(text) = controller.take(alloc) else {
+        return CLOSED;
+    };
+    let follow = follows(&text, state, input, next);
+    controller.put(text);
+    follow.number()
+}
+
+/// Lets the text go, if any. That this frees its memory is tested: no clause says so.
 #[unsafe(no_mangle)]
 pub extern "C" fn gaffcurrant_close(alloc: Global, controller: &mut Controller)
     ensures { controller.new.held.text ≡ None }
 {
     controller.take(alloc);
+}
+
+/// The version of the library.
+#[unsafe(no_mangle)]
+pub extern "C" fn gaffcurrant_version() -> u32
+    ensures { result ≡ VERSION }
+{
+    VERSION
 }

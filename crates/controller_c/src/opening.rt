@@ -6,6 +6,7 @@ ghost use Rattle.text_control.specs.Texts.{IsReadFrom, IsTextRefusedFor};
 ghost use Rattle.controller_c.specs.Exports.{fault_number, fault_line};
 
 use std::alloc::Global;
+use text_control::statuses::{LIMIT, MALFORMED, NO_MEMORY};
 use text_control::{PackedText, TextFault, read_text};
 
 /// The text that the bytes are, on the heap.
@@ -25,9 +26,9 @@ pub(crate) fn fault_status(fault: TextFault) -> i32
     ensures { result ≡ fault_number fault }
 {
     match fault {
-        TextFault::Malformed { .. } => 1,
-        TextFault::Limit => 2,
-        TextFault::Memory => 3,
+        TextFault::Malformed { .. } => MALFORMED,
+        TextFault::Limit => LIMIT,
+        TextFault::Memory => NO_MEMORY,
     }
 }
 

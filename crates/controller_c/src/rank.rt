@@ -3,6 +3,7 @@
 ghost use Rattle.std.specs.Prelude.{Some};
 ghost use Rattle.controller_c.specs.Exports.{IsRanked};
 
+use text_control::statuses::{NO_ROW, RANKED, WRONG_SIZE};
 use text_control::{PackedText, rank_at};
 
 /// Tells the rank of the state's cell: 1 where it has one, -1 where it has none, -2 at a wrong number of states.
@@ -11,13 +12,13 @@ pub(crate) fn copy_rank(text: &PackedText, state: &[i64], rank: &mut u32) -> i32
 {
     *rank = 0;
     if state.len() != text.plant().states() as usize {
-        return -2;
+        return WRONG_SIZE;
     }
     match rank_at(text, state) {
         Some(least) => {
             *rank = least;
-            1
+            RANKED
         }
-        None => -1,
+        None => NO_ROW,
     }
 }

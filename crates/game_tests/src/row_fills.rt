@@ -1,6 +1,7 @@
 //! Rows that are filled slot by slot, and the block in which they lie.
 
 use edge_rows::{RowFill, Rows};
+use raw_slots::Block;
 use std::alloc::Global;
 use std::test::Fail;
 use std::thread;
@@ -71,20 +72,20 @@ fn a_filling_is_dropped_by_another_thread(rt: HostRuntime) -> Result<(), Fail> {
     Ok(())
 }
 
-/// Whether so many blocks of 2^27 bytes are had, one after the other.
+/// Whether so many blocks of 2^31 bytes are had, one after the other.
 fn are_had_in_turn(alloc: Global, blocks: u32) -> bool {
     for _block in 0..blocks {
-        let Ok(mut fill) = RowFill::new(alloc, &[1 << 25]) else {
+        let Ok(mut block) = Block::<u64>::new(alloc, 1 << 28) else {
             return false;
         };
-        fill.put(0, 7);
+        block.write(0, 7);
     }
     true
 }
 
-/// Blocks that weren't given back would fill the 2^47 bytes of addresses that a process has: 2^20 = 1,048,576 of them do.
+/// Blocks that weren't given back would fill the 2^47 bytes of addresses that a process has: 2^16 = 65,536 of them do.
 #[test]
 fn a_block_is_given_back(rt: HostRuntime) -> Result<(), Fail> {
-    assert!(rt; are_had_in_turn(rt.alloc(), 1_100_000));
+    assert!(rt; are_had_in_turn(rt.alloc(), 70_000));
     Ok(())
 }

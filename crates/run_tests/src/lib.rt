@@ -1,4 +1,4 @@
-//! Tests of the top call, on devices that fail and with several workers, and of live tables.
+//! Tests of the top call, on devices that fail and with several workers, of live tables, and of loops by what was written.
 #![tactic(auto)]
 
 #[cfg(test)]
@@ -7,6 +7,8 @@ mod demo;
 mod devices;
 #[cfg(test)]
 mod live;
+#[cfg(test)]
+mod loops;
 #[cfg(test)]
 mod meeting;
 #[cfg(test)]

@@ -7,7 +7,7 @@
 ghost use Rattle.std.specs.Prelude.{◌≡◌, ◌↔◌, codes, IsTrue};
 ghost use Rattle.run_devices.specs.Devices.{reading, writing};
 ghost use Rattle.command_line.specs.Command.{as_words};
-ghost use Rattle.synth_cli.specs.inside.Program.{BeginWithLive, DoesAsAsked};
+ghost use Rattle.synth_cli.specs.Program.{BeginWithLive, DoesAsAsked};
 
 use live_run::run_live;
 use run_devices::{Sink, Source, StdErrSink, StdSink, StdSource};
@@ -43,7 +43,7 @@ fn main(rt: HostRuntime) -> ExitCode {
 }
 
 /// Does what the arguments request, and answers the exit status.
-fn carry_out<R: Threads + Wait + Sync, S: Source, O: Sink, E: Sink>(
+pub fn carry_out<R: Threads + Wait + Sync, S: Source, O: Sink, E: Sink>(
     rt: &R,
     alloc: Global,
     arguments: &[&str],

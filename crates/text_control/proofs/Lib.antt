@@ -11,3 +11,5 @@ mod Answering
 pub mod TableLoops
 pub mod TemporalLoops
 pub mod TextRefusals
+pub mod SameBox
+mod NextBoxes

@@ -1,4 +1,4 @@
-ghost use Rattle.std.specs.Prelude.{◌≡◌, ◌<◌, ◌≤◌, [], ◌∷◌, length, IfOk, IfSome};
+ghost use Rattle.std.specs.Prelude.{◌≡◌, ◌<◌, ◌≤◌, [], ◌∷◌, length, IfOk, IfSome, MatchOption};
 ghost use Rattle.std.specs.List.{All};
 ghost use Rattle.grid_quantiser.specs.Axes.{cells_of};
 ghost use Rattle.game_core.specs.Solution.{row_of};
@@ -9,6 +9,8 @@ ghost use Rattle.temporal_texts.specs.PatrolText.{rows_for};
 ghost use Rattle.base.specs.declared.limits.TheConstants.{CELLS_LIMIT};
 ghost use Rattle.text_control.specs.Texts.{TurnsFit, of_table, of_stay, of_patrol};
 ghost use Rattle.text_control.specs.Visits.{with_turn};
+ghost use Rattle.text_control.specs.inside.Slopes.{AreSlopes};
+ghost use Rattle.successor_box.specs.Deviations.{HasNoOverflow, deviations_of};
 
 use crate::text_kind::TextKind;
 use base::NoMemory;
@@ -18,14 +20,17 @@ use packed_rows::PackedRows;
 use plant_record::Plant;
 use std::alloc::Global;
 use std::marker::Model;
+use successor_box::{SlopeFault, Slopes, find_slopes};
 use temporal_texts::{PatrolTable, StayTable};
 
 /// What a table, a stay text or a patrol text says, in little memory: its rows take 8 bytes for each stretch of cells with
-/// one row or with none. Of a patrol it keeps which turn is due.
+/// one row or with none. Of a patrol it keeps which turn is due. For successor boxes it keeps how far the plant's equations move
+/// within a cell, where none overflows.
 #[derive(Drop)]
 pub struct PackedText {
     kind: TextKind,
     plant: Plant,
+    slopes: Option<Slopes>,
     turns: Vec<PackedRows>,
     turn: u32,
 }
@@ -33,7 +38,8 @@ pub struct PackedText {
 impl Model for PackedText {
     ghost use Rattle.std.specs.Coded.{codes};
     ghost use Rattle.fixed_expr.specs.inside.Postfix.{expression_code};
-    ghost use Rattle.text_control.specs.Texts.{TextModel, TurnsFit};
+    ghost use Rattle.text_control.specs.Texts.{TextModel};
+    ghost use Rattle.text_control.specs.inside.Slopes.{HoldsText};
 
     ghost Value = { TextModel };
 
@@ -41,7 +47,7 @@ impl Model for PackedText {
 
     ghost view = { λ t. record { kind = t.kind; plant = t.plant; turns = t.turns.items; turn = t.turn } };
 
-    ghost invariant = { λ t. TurnsFit t.plant t.turns.items };
+    ghost invariant = { λ t. HoldsText t.plant t.turns.items t.slopes };
 }
 
 impl PackedText {
@@ -71,9 +77,11 @@ impl PackedText {
             let rows = PackedRows::new(alloc, rows.turn(turn))?;
             turns.push(rows).map_err(|_| NoMemory)?;
         }
+        let slopes = slopes_of(alloc, &plant)?;
         Ok(PackedText {
             kind: TextKind::Patrol,
             plant,
+            slopes,
             turns,
             turn: 0,
         })
@@ -92,6 +100,13 @@ impl PackedText {
         ensures limits { IsWithinLimits result.now }
     {
         &self.plant
+    }
+
+    /// How far the equations of the plant move within a cell: None where one overflows.
+    pub(crate) fn slopes(&self) -> Option<&Slopes>
+        ensures { MatchOption result (HasNoOverflow self.now.plant → ⊥) (λ s. (s.now ≡ deviations_of self.now.plant) × HasNoOverflow self.now.plant) }
+    {
+        self.slopes.as_ref()
     }
 
     /// The turn that is due, from 0.
@@ -137,13 +152,26 @@ fn one_turn(
     requires rows { All (λ row. IfSome row FitsWord) answer.now }
     ensures { IfOk result (λ text. text ≡ record { kind = kind; plant = plant; turns = answer.now ∷ []; turn = 0 }) }
 {
+    let slopes = slopes_of(alloc, &plant)?;
     let mut turns = Vec::new(alloc);
     let rows = PackedRows::new(alloc, answer)?;
     turns.push(rows).map_err(|_| NoMemory)?;
     Ok(PackedText {
         kind,
         plant,
+        slopes,
         turns,
         turn: 0,
     })
+}
+
+/// How far the equations of a plant move within a cell: None where one overflows.
+fn slopes_of(alloc: Global, plant: &Plant) -> Result<Option<Slopes>, NoMemory>
+    ensures { IfOk result (AreSlopes plant.now) }
+{
+    match find_slopes(alloc, plant) {
+        Ok(slopes) => Ok(Some(slopes)),
+        Err(SlopeFault::Overflow { .. }) => Ok(None),
+        Err(SlopeFault::Memory) => Err(NoMemory),
+    }
 }

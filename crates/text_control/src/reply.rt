@@ -1,6 +1,8 @@
 ghost use Rattle.std.specs.Prelude.{◌≡◌};
 ghost use Rattle.text_control.specs.Control.{reply_number};
 
+use crate::statuses::{APPLY, ARRIVED, NO_ROW, WRONG_SIZE};
+
 /// What is to be done at a state.
 #[derive(Clone, Copy, Debug, PartialEq, Eq)]
 pub enum Reply {
@@ -20,10 +22,10 @@ impl Reply {
         ensures { result ≡ reply_number self }
     {
         match self {
-            Reply::Apply => 1,
-            Reply::Arrived => 0,
-            Reply::NoRow => -1,
-            Reply::WrongSizes => -2,
+            Reply::Apply => APPLY,
+            Reply::Arrived => ARRIVED,
+            Reply::NoRow => NO_ROW,
+            Reply::WrongSizes => WRONG_SIZE,
         }
     }
 }

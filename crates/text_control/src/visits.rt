@@ -1,6 +1,8 @@
 ghost use Rattle.std.specs.Prelude.{◌≡◌};
 ghost use Rattle.text_control.specs.Visits.{visit_number};
 
+use crate::statuses::{NEXT_TURN, SAME_TURN, WRONG_SIZE};
+
 /// What a visit of a state does.
 #[derive(Clone, Copy, Debug, PartialEq, Eq)]
 pub enum Visit {
@@ -18,9 +20,9 @@ impl Visit {
         ensures { result ≡ visit_number self }
     {
         match self {
-            Visit::Next => 1,
-            Visit::Same => 0,
-            Visit::WrongSize => -2,
+            Visit::Next => NEXT_TURN,
+            Visit::Same => SAME_TURN,
+            Visit::WrongSize => WRONG_SIZE,
         }
     }
 }

@@ -6,8 +6,8 @@ use Rattle.text_control.specs.Control.{EncodesReply}
 use Rattle.controller_c.specs.Exports.{IsReplied}
 use Rattle.controller_c.proofs.gaffcurrant_control.Goals as goal
 
-pub returns-in-Some-clause-reply : goal.returns-in-Some-clause-reply
-returns-in-Some-clause-reply c =
+pub returns-clause-reply : goal.returns-clause-reply
+returns-clause-reply c =
     let x = c.args.state.now in
     let before = c.args.input.now in
     let after = c.control-reply.new.input in

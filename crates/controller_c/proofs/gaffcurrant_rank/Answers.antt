@@ -5,8 +5,8 @@ use Rattle.text_control.specs.Texts.{TextModel}
 use Rattle.controller_c.specs.Exports.{IsRanked}
 use Rattle.controller_c.proofs.gaffcurrant_rank.Goals as goal
 
-pub returns-in-Some-clause-rank : goal.returns-in-Some-clause-rank
-returns-in-Some-clause-rank c =
+pub returns-clause-rank : goal.returns-clause-rank
+returns-clause-rank c =
     let x = c.args.state.now in
     let rank = c.copy_rank-status.new.rank in
     let status = c.copy_rank-status.result in

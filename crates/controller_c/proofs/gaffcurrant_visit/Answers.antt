@@ -5,8 +5,8 @@ use Rattle.text_control.specs.Texts.{TextModel}
 use Rattle.controller_c.specs.Exports.{IsVisited}
 use Rattle.controller_c.proofs.gaffcurrant_visit.Goals as goal
 
-pub returns-in-Some : goal.returns-in-Some
-returns-in-Some c =
+pub returns : goal.returns
+returns c =
     let x = c.args.state.now in
     let after : TextModel = c.visit-visit.new.text in
     let status = c.number.result in

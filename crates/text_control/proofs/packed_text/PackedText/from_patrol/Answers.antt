@@ -11,4 +11,4 @@ invariant_of-result c =
     let rows : List (List (Option Row)) = c.rows.inside.answers.items in
     let fits : TurnsFit p rows = subst (λ (turns : List (List (Option Row))). TurnsFit p turns) (sym c.rows.view_is) (patrol_fits p c.into_parts-plant.result.1 c.into_parts-plant.ensures.limits c.into_parts-plant.ensures.fit) in
     let all : c.loop-turn.turns.items ≡ rows = c.loop-turn.invariant ∙ take_all c.loop-turn.turn rows (search rules) in
-    subst (λ (turns : List (List (Option Row))). TurnsFit p turns) (sym all) fits
+    record { fit = subst (λ (turns : List (List (Option Row))). TurnsFit p turns) (sym all) fits; slopes_are = search rules }

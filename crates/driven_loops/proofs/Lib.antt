@@ -1,0 +1,10 @@
+pub mod ReadBack
+pub mod Reading
+pub mod ItsBox
+pub mod RowAnswers
+pub mod Ending
+pub mod Keeping
+pub mod Settling
+pub mod Patrolling
+pub mod Following
+pub mod Written

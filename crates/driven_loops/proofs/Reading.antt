@@ -1,0 +1,46 @@
+-- Status 0 says that a text was written, and such a text is read again.
+use Rattle.std.specs.Prelude.{IfSome}
+use Rattle.std.proofs.Common.{inl, inr, ◌≡◌, ℕ, List, Option, Some, refl, sym, subst}
+use Rattle.controller_table.specs.TableText.{written_version}
+use Rattle.controller_table.specs.Tables.{TableModel}
+use Rattle.temporal_texts.specs.StayText.{StayModel}
+use Rattle.temporal_texts.specs.PatrolText.{PatrolModel}
+use Rattle.text_control.specs.declared.text_fault.TextFault.{TextFault}
+use Rattle.text_control.specs.Texts.{TextModel, of_table, of_stay, of_patrol, IsReadFrom, IsTextRefusedFor}
+use Rattle.text_control.specs.Laws.{HasFewEnoughTurns}
+use Rattle.text_control.proofs.TextRefusals.{read_texts_tell, text_or_refused}
+use Rattle.command_line.specs.declared.command.Command.{Command}
+use Rattle.command_line.specs.declared.command.Command.TheVariants.{Synth, Check, Upgrade, Sim, Demo, Stay, Patrol}
+use Rattle.run_devices.specs.Devices.{Writing}
+use Rattle.synth_run.specs.RunClauses.{IsAnswered}
+use Rattle.driven_loops.specs.Laws.{AnswersAreWritten, WrittenTextsAreRead}
+
+-- what was read isn't refused
+both : (text : List ℕ) (t : TextModel) → IsReadFrom text t → HasFewEnoughTurns t → ((m : TextModel) × IsReadFrom text m) × ((f : TextFault) → IsTextRefusedFor text f → ⊥)
+both text t read few = ((t, read), λ f refused. text_or_refused text t f (read_texts_tell text t read) few refused)
+
+pub written_texts_are_read : WrittenTextsAreRead
+written_texts_are_read bytes text (inl given) =
+    let table : TableModel = record { version = written_version; plant = given.0; rows = given.3.rows } in
+    both text (of_table table) (inl (table, refl, (record { limits = given.1.limits; fitting = given.3.fitting; version = written_version; text = given.3.text_is }, refl))) (λ e. absurd (cc))
+written_texts_are_read bytes text (inr (inl given)) =
+    let stay : StayModel = record { plant = given.0; rows = given.3.rows } in
+    both text (of_stay stay) (inr (inl (stay, refl, given.3.table))) (λ e. absurd (cc))
+written_texts_are_read bytes text (inr (inr given)) =
+    let patrol : PatrolModel = record { plant = given.0; rows = given.3.rows } in
+    both text (of_patrol patrol) (inr (inr (patrol, refl, given.3.table))) (λ e. given.2.1)
+
+pub answers_are_written : AnswersAreWritten
+answers_are_written (Synth workers) told bytes out writes is answered =
+    let h = subst (λ (o : Option (List ℕ)). IfSome o (λ read. IsAnswered (Synth workers) read out)) is answered in
+    ((h.1.0, h.1.1.spells), (h.0, h.1, inl h.1, h.2))
+answers_are_written (Stay workers) told bytes out writes is answered =
+    let h = subst (λ (o : Option (List ℕ)). IfSome o (λ read. IsAnswered (Stay workers) read out)) is answered in
+    ((h.1.0, h.1.1.spells), (h.0, h.1, inr (inl h.1), h.2))
+answers_are_written (Patrol workers) told bytes out writes is answered =
+    let h = subst (λ (o : Option (List ℕ)). IfSome o (λ read. IsAnswered (Patrol workers) read out)) is answered in
+    ((h.1.0, h.1.1.spells), (h.0, h.1, inr (inr h.1), h.2))
+answers_are_written Check told bytes out writes is answered = absurd writes
+answers_are_written Upgrade told bytes out writes is answered = absurd writes
+answers_are_written (Sim samples seed start) told bytes out writes is answered = absurd writes
+answers_are_written (Demo number workers) told bytes out writes is answered = absurd writes

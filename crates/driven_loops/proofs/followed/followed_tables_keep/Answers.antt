@@ -1,0 +1,5 @@
+use Rattle.driven_loops.proofs.Keeping as laws
+use Rattle.driven_loops.proofs.followed.followed_tables_keep.Goals as goal
+
+pub returns : goal.returns
+returns c = laws.followed_tables_keep
