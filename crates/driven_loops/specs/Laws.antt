@@ -33,14 +33,14 @@ WritesText (Demo number workers) = ⊥
 WritesText (Stay workers) = Unit {0}
 WritesText (Patrol workers) = Unit {0}
 
--- What status 0 of such a command says where its source tells the bytes: they spell a plant, and a text that is written for
+-- What status 0 of such a command says where its source shows the bytes: they spell a plant, and a text that is written for
 -- them, of the command's kind, was written whole.
 abbrev pub AnswersAreWritten : Type 0
 AnswersAreWritten =
     (command : Command) (told : Option (List ℕ)) (bytes : List ℕ) (out : Writing) → WritesText command → told ≡ Some bytes → IfSome (bytes_for command told) (λ read. IsAnswered command read out)
     → ((p : Description) × Spells bytes p) × ((text : List ℕ) × IsAnswer command bytes text × IsWrittenFor bytes text × GainsWhole out text)
 
--- a text that was written is read again: it tells something, and there is no reason to refuse it
+-- a text that was written is read again: it says something, and there is no reason to refuse it
 abbrev pub WrittenTextsAreRead : Type 0
 WrittenTextsAreRead = (bytes text : List ℕ) → IsWrittenFor bytes text → ((t : TextModel) × IsReadFrom text t) × ((f : TextFault) → IsTextRefusedFor text f → ⊥)
 
