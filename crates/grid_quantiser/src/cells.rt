@@ -1,4 +1,4 @@
-ghost use Rattle.std.specs.Prelude.{◌≡◌, ◌<◌, ◌≤◌, ◌↔◌, IsSome, IfSome};
+ghost use Rattle.std.specs.Prelude.{◌≡◌, ℕ, ◌<◌, ◌≤◌, ◌↔◌, pos, length, slice_index_or, IsSome, IfSome};
 ghost use Rattle.grid_quantiser.specs.Axes.{cells_of, AreAxes};
 ghost use Rattle.grid_quantiser.specs.Cells.{IsInDomain, cell_of, low_of, centre_of, high_of, point_of};
 ghost use Rattle.grid_quantiser.specs.inside.Spots.{numbers_of, HoldsIndices};
@@ -21,6 +21,16 @@ impl Grid {
     {
         let indices = indices_on(self.axes(), x)?;
         Some(encode(self.counts(), &indices))
+    }
+
+    /// The cell of a state whose numbers have 64 bits.
+    pub fn cell_at(&self, state: &[i64]) -> Option<u32>
+        requires { length state.now ≡ length self.now }
+        ensures inside { IsSome result ↔ IsInDomain self.now state.now }
+        ensures cell { IfSome result (λ c. c ≡ cell_of self.now state.now) }
+        ensures below { IfSome result (λ c. c < cells_of self.now) }
+    {
+        self.cell_of(&wide_point(self.axes(), state))
     }
 
     /// The centre of a cell. Along an even width it is the greater of the two middle numbers.
@@ -78,4 +88,17 @@ fn indices_on(axes: &[Axis], x: &Point) -> Option<[u32; STATES_LIMIT]>
         indices[i] = axes[i].index_holding(x[i])? as u32;
     }
     Some(indices)
+}
+
+/// A state as a point.
+fn wide_point(axes: &[Axis], state: &[i64]) -> Point
+    requires axes { AreAxes axes.now }
+    requires long { length state.now ≡ length axes.now }
+    ensures { (k : ℕ) → k < length axes.now → slice_index_or result k (pos 0) ≡ slice_index_or state.now k (pos 0) }
+{
+    let mut point = [0; STATES_LIMIT];
+    for i in 0..axes.len() {
+        point[i] = i128::from(state[i]);
+    }
+    point
 }

@@ -3,9 +3,10 @@ ghost use Rattle.grid_quantiser.specs.Axes.{counts_of, cells_of, AreAxes, axis_a
 ghost use Rattle.grid_quantiser.specs.inside.Storage.{six_counts};
 ghost use Rattle.mixed_radix.specs.Radix.{size};
 ghost use Rattle.grid_quantiser.specs.Cells.{radius_of};
+ghost use Rattle.grid_quantiser.specs.Indices.{middle_of};
 ghost use Rattle.base.specs.declared.limits.TheConstants.{CELLS_LIMIT, STATES_LIMIT};
 
-use crate::axis::{Axis, NO_AXIS};
+use crate::axis::{Axis, CellPoint, NO_AXIS};
 use base::limits::{CELLS_LIMIT, STATES_LIMIT};
 use std::marker::Model;
 
@@ -89,6 +90,24 @@ impl Grid {
         ensures { result ≡ radius_of (axis_at self.now axis) }
     {
         self.axes()[axis as usize].radius()
+    }
+
+    /// How many numbers a cell has along an axis.
+    #[inline]
+    pub fn width(&self, axis: u32) -> i128
+        requires { axis < length self.now }
+        ensures { result ≡ (axis_at self.now axis).width }
+    {
+        self.axes()[axis as usize].width
+    }
+
+    /// The middle number of the first index on an axis: the greater of the two along an even width.
+    #[inline]
+    pub fn first_centre(&self, axis: u32) -> i128
+        requires { axis < length self.now }
+        ensures { result ≡ middle_of (axis_at self.now axis) 0 }
+    {
+        self.axes()[axis as usize].number(0, CellPoint::Centre)
     }
 
     #[inline]

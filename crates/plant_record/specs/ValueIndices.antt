@@ -1,5 +1,5 @@
 -- The indices of an input vector, as those of a cell along its axes.
-use Rattle.std.specs.Prelude.{◌≡◌, ℕ, ◌<◌, pos, List, length, slice_index_or}
+use Rattle.std.specs.Prelude.{◌≡◌, ℕ, ◌<◌, ℤ, pos, List, [], length, map, slice_index_or}
 use Rattle.mixed_radix.specs.Radix.{digit}
 use Rattle.plant_record.specs.declared.variables.InputVariable.{InputVariable}
 use Rattle.plant_record.specs.Description.{value_counts, vectors_of, vector_of}
@@ -11,6 +11,10 @@ value_count inputs j = slice_index_or (value_counts inputs) j 0
 -- the index of an input vector's value among those of a variable
 abbrev pub value_index : List InputVariable → ℕ → ℕ → ℕ
 value_index inputs j u = digit (value_counts inputs) j u
+
+-- the value at an index among those of an input variable
+abbrev pub value_at : List InputVariable → ℕ → ℕ → ℤ
+value_at inputs j index = slice_index_or (slice_index_or (map (λ (i : InputVariable). i.values) inputs) j []) index (pos 0)
 
 -- the value of a variable in an input vector depends on its index alone
 abbrev pub InputsDependOnTheirIndices : Type 0

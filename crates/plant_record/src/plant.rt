@@ -1,29 +1,32 @@
 //! A plant: what it is made of, what it keeps, and what it does from one sample to the next.
 
-ghost use Rattle.std.specs.Prelude.{◌≡◌, ◌+◌, ◌<◌, ◌≤◌, ◌↔◌, length, map, slice_get, slice_index_or, pos, IfOk, IfErr, IsTrue, Some};
+ghost use Rattle.std.specs.Prelude.{◌≡◌, ℕ, ◌+◌, ◌<◌, ◌≤◌, ◌↔◌, length, map, slice_get, slice_index, slice_index_or, pos, IfOk, IfErr, IsTrue, Some};
 ghost use Rattle.std.specs.Option.{option_map};
 ghost use Rattle.fixed_expr.specs.Expression.{expression_of};
 ghost use Rattle.grid_quantiser.specs.Axes.{cells_of};
 ghost use Rattle.plant_record.specs.declared.variables.NoiseVariable.{NoiseVariable};
-ghost use Rattle.plant_record.specs.Description.{axes_of, names_of, vectors_of, vector_of};
-ghost use Rattle.plant_record.specs.ValueIndices.{value_count};
+ghost use Rattle.plant_record.specs.Description.{axes_of, names_of, value_counts, vectors_of, vector_of};
+ghost use Rattle.mixed_radix.specs.Radix.{size, AreDigits, AreDigitsOf};
+ghost use Rattle.plant_record.specs.Numbers.{IsLiteral};
+ghost use Rattle.plant_record.specs.ValueIndices.{value_count, value_index, value_at};
 ghost use Rattle.plant_record.specs.Plants.{IsPlant};
 ghost use Rattle.plant_record.specs.Limits.{IsWithinLimits, Exceeds};
 ghost use Rattle.plant_record.specs.CellMarks.{IsGoalCell, IsObstacleCell};
 ghost use Rattle.plant_record.specs.Parts.{description_of};
 ghost use Rattle.plant_record.specs.States.{state_point};
 ghost use Rattle.plant_record.specs.Versions.{version_number};
-ghost use Rattle.base.specs.declared.limits.TheConstants.{VARIABLES_LIMIT};
+ghost use Rattle.base.specs.declared.limits.TheConstants.{INPUTS_LIMIT, VARIABLES_LIMIT, VECTORS_LIMIT};
 
 use crate::aims::GoalKind;
 use crate::cell_marks::{lies_in_one, touches_one};
 use crate::limit_kind::LimitKind;
-use crate::plant_parts::{PlantParts, grid_of, vectors_of};
+use crate::plant_parts::{PlantParts, grid_of, value_counts};
 use crate::variables::Name;
 use crate::version::PlantVersion;
-use base::limits::{PAIRS_LIMIT, STATES_LIMIT, VECTORS_LIMIT};
+use base::limits::{INPUTS_LIMIT, PAIRS_LIMIT, STATES_LIMIT, VECTORS_LIMIT};
 use fixed_expr::Expr;
 use grid_quantiser::{Grid, Point};
+use mixed_radix::{DIGITS_LIMIT, decode, encode, size};
 use std::marker::Model;
 
 /// A plant within the limits, seen as its description.
@@ -31,6 +34,8 @@ use std::marker::Model;
 pub struct Plant {
     parts: PlantParts,
     grid: Grid,
+    /// How many values each input variable has.
+    counts: [u32; INPUTS_LIMIT],
 }
 
 impl Model for Plant {
@@ -38,7 +43,7 @@ impl Model for Plant {
     ghost use Rattle.fixed_expr.specs.inside.Postfix.{expression_code};
     ghost use Rattle.plant_record.specs.Description.{Description};
     ghost use Rattle.plant_record.specs.Parts.{description_of};
-    ghost use Rattle.plant_record.specs.inside.PlantsInMemory.{IsPlantWithGrid};
+    ghost use Rattle.plant_record.specs.inside.PlantsInMemory.{IsStored};
 
     ghost Value = { Description };
 
@@ -46,7 +51,7 @@ impl Model for Plant {
 
     ghost view = { λ p. description_of p.parts };
 
-    ghost invariant = { λ p. IsPlantWithGrid (description_of p.parts) p.grid };
+    ghost invariant = { λ p. IsStored (description_of p.parts) p.grid p.counts };
 }
 
 impl Plant {
@@ -57,7 +62,8 @@ impl Plant {
         ensures limits { IfOk result (λ p. IsWithinLimits p) }
         ensures exceeded { IfErr result (λ what. Exceeds (description_of parts) what) }
     {
-        let vectors = vectors_of(&parts.variables.inputs);
+        let counts = value_counts(&parts.variables.inputs);
+        let vectors = size(&counts[..parts.variables.inputs.len()]);
         if vectors > VECTORS_LIMIT {
             return Err(LimitKind::Vectors);
         }
@@ -67,7 +73,11 @@ impl Plant {
         if u64::from(grid.cells()) * u64::from(vectors) > PAIRS_LIMIT {
             return Err(LimitKind::Pairs);
         }
-        Ok(Plant { parts, grid })
+        Ok(Plant {
+            parts,
+            grid,
+            counts,
+        })
     }
 
     /// What the plant is made of, as a text says it.
@@ -129,7 +139,7 @@ impl Plant {
         ensures count { result ≡ vectors_of self.now.inputs }
         ensures some { 1 ≤ result }
     {
-        vectors_of(&self.parts.variables.inputs)
+        size(self.value_counts())
     }
 
     /// What the controller is to do.
@@ -165,12 +175,56 @@ impl Plant {
         &self.parts.equations[i as usize]
     }
 
+    /// How many values each input variable has.
+    #[inline]
+    fn value_counts(&self) -> &[u32]
+        ensures same { result.now ≡ value_counts self.now.inputs }
+        ensures few { length result.now ≤ INPUTS_LIMIT }
+        ensures some { 0 < size result.now }
+        ensures limit { size result.now ≤ VECTORS_LIMIT }
+    {
+        &self.counts[..self.parts.variables.inputs.len()]
+    }
+
     /// How many values an input variable has.
     pub fn input_values(&self, variable: u32) -> u32
         requires { variable < length self.now.inputs }
         ensures { result ≡ value_count self.now.inputs variable }
     {
-        self.parts.variables.inputs[variable as usize].values.len() as u32
+        self.counts[variable as usize]
+    }
+
+    /// The indices of the values of an input vector, one for each input variable, and 0 past the last.
+    pub fn input_indices(&self, input: u32) -> [u32; DIGITS_LIMIT]
+        requires { input < vectors_of self.now.inputs }
+        ensures digits { AreDigitsOf (value_counts self.now.inputs) input result }
+        ensures each { (j : ℕ) → j < length self.now.inputs → slice_index result j ≡ value_index self.now.inputs j input }
+        ensures past { (j : ℕ) → length self.now.inputs ≤ j → slice_index result j ≡ 0 }
+    {
+        decode(self.value_counts(), input)
+    }
+
+    /// The number of the input vector whose values have these indices. Those past the last variable are not looked at.
+    pub fn input_number(&self, indices: &[u32]) -> u32
+        requires { AreDigits (value_counts self.now.inputs) indices.now }
+        ensures number { AreDigitsOf (value_counts self.now.inputs) result indices.now }
+        ensures each { (j : ℕ) → j < length self.now.inputs → slice_index indices.now j ≡ value_index self.now.inputs j result }
+        ensures below { result < vectors_of self.now.inputs }
+    {
+        encode(self.value_counts(), indices)
+    }
+
+    /// The value at an index among those of an input variable.
+    pub fn value_at(&self, variable: u32, index: u32) -> i128
+        requires variable { variable < length self.now.inputs }
+        requires index { index < value_count self.now.inputs variable }
+        ensures value { result ≡ value_at self.now.inputs variable index }
+        ensures vectors { (u : ℕ) → u < vectors_of self.now.inputs → value_index self.now.inputs variable u ≡ index → result ≡ slice_index_or (vector_of self.now.inputs u) variable (pos 0) }
+        ensures literal { IsLiteral result }
+    {
+        self.parts.variables.inputs[variable as usize]
+            .values
+            .as_slice()[index as usize]
     }
 
     /// The value of an input variable in an input vector.
@@ -179,11 +233,8 @@ impl Plant {
         requires variable { variable < length self.now.inputs }
         ensures { result ≡ slice_index_or (vector_of self.now.inputs input) variable (pos 0) }
     {
-        let later = vectors_of(&self.parts.variables.inputs[variable as usize + 1..]);
-        let values = self.parts.variables.inputs[variable as usize]
-            .values
-            .as_slice();
-        values[(input / later) as usize % values.len()]
+        let indices = self.input_indices(input);
+        self.value_at(variable, indices[variable as usize])
     }
 
     /// The least and the greatest value of a noise.

@@ -1,9 +1,9 @@
 //! The parts of a plant, and what the limits need to know of them.
 
-ghost use Rattle.std.specs.Prelude.{◌≡◌, ◌/◌, ◌^◌, ◌<◌, ◌≤◌, ◌↔◌, ◌+ℤ◌, ◌-ℤ◌, length, map, nat_abs, pos, IfOk, IsErr};
+ghost use Rattle.std.specs.Prelude.{◌≡◌, ◌/◌, ◌^◌, ◌<◌, ◌≤◌, ◌↔◌, ◌+ℤ◌, ◌-ℤ◌, length, map, take, nat_abs, pos, IfOk, IsErr};
 ghost use Rattle.std.specs.List.{All};
 ghost use Rattle.grid_quantiser.specs.Axes.{cells_of};
-ghost use Rattle.plant_record.specs.Description.{axis_of, vectors_of};
+ghost use Rattle.plant_record.specs.Description.{axis_of, value_counts};
 ghost use Rattle.plant_record.specs.Numbers.{IsLiteral};
 ghost use Rattle.plant_record.specs.Variables.{IsStateVariable, IsInputVariable};
 ghost use Rattle.base.specs.declared.limits.TheConstants.{CELLS_LIMIT, INPUTS_LIMIT, STATES_LIMIT};
@@ -11,7 +11,7 @@ ghost use Rattle.base.specs.declared.limits.TheConstants.{CELLS_LIMIT, INPUTS_LI
 use crate::aims::{GoalKind, StateBox};
 use crate::variables::{InputVariable, StateVariable, Variables};
 use crate::version::PlantVersion;
-use base::limits::STATES_LIMIT;
+use base::limits::{INPUTS_LIMIT, STATES_LIMIT};
 use fixed_expr::Expr;
 use grid_quantiser::{Axis, Grid, NO_AXIS, TooManyCells};
 
@@ -26,18 +26,17 @@ pub struct PlantParts {
     pub goal: GoalKind,
 }
 
-/// How many combinations there are of the inputs' values.
-pub fn vectors_of(inputs: &[InputVariable]) -> u32
+/// How many values each input variable has, and 0 past the last.
+pub fn value_counts(inputs: &[InputVariable]) -> [u32; INPUTS_LIMIT]
     requires bound { length inputs.now ≤ INPUTS_LIMIT }
     requires each { All IsInputVariable inputs.now }
-    ensures count { result ≡ vectors_of inputs.now }
-    ensures some { 1 ≤ result }
+    ensures { take (length inputs.now) result ≡ value_counts inputs.now }
 {
-    let mut vectors: u32 = 1;
-    for i in (0..inputs.len()).rev() {
-        vectors *= inputs[i].values.len() as u32;
+    let mut counts = [0; INPUTS_LIMIT];
+    for (i, input) in inputs.iter().enumerate() {
+        counts[i] = input.values.len() as u32;
     }
-    vectors
+    counts
 }
 
 /// The grid of the states, unless it has too many cells.

@@ -1,8 +1,6 @@
 mod Cells
-mod Literals
 mod Pieces
 mod Replies
-mod Vectors
 mod OneText
 mod PatrolTurns
 pub mod ByText

@@ -48,18 +48,15 @@ fn applies(text: &PackedText, row: Row) -> bool
     }
 }
 
-/// Puts the values of an input vector into the inputs, the last one first.
+/// Puts the values of an input vector into the inputs.
 fn apply(plant: &Plant, vector: u32, input: &mut [i64])
     requires limits { IsWithinLimits plant.now }
     requires vector { vector < vectors_of plant.now.inputs }
     requires sizes { length input.old ≡ length plant.now.inputs }
     ensures { input.new ≡ vector_of plant.now.inputs vector }
 {
-    let inputs = plant.parts().variables.inputs.as_slice();
-    let mut rest = vector as usize;
-    for j in (0..inputs.len()).rev() {
-        let values = inputs[j].values.as_slice();
-        input[j] = values[rest % values.len()] as i64;
-        rest /= values.len();
+    let indices = plant.input_indices(vector);
+    for j in 0..input.len() {
+        input[j] = plant.value_at(j as u32, indices[j]) as i64;
     }
 }

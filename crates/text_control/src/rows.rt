@@ -4,7 +4,6 @@ ghost use Rattle.std.specs.Prelude.{◌≡◌, length, MatchOption};
 ghost use Rattle.text_control.specs.Control.{HasNoRow, IsDueRow, IsRank, IsUnranked};
 
 use crate::packed_text::PackedText;
-use crate::state_cell::cell_at;
 use game_core::Row;
 
 /// The row of the state's cell for the turn that is due.
@@ -12,7 +11,7 @@ pub fn row_at(text: &PackedText, state: &[i64]) -> Option<Row>
     requires { length state.now ≡ length text.now.plant.states }
     ensures { MatchOption result (HasNoRow text.now state.now) (IsDueRow text.now state.now) }
 {
-    let cell = cell_at(text.plant(), state)?;
+    let cell = text.plant().grid().cell_at(state)?;
     text.row(text.turn(), cell)
 }
 

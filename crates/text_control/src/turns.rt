@@ -9,7 +9,6 @@ ghost use Rattle.text_control.specs.declared.text_kind.TextKind.TheVariants.{Pat
 ghost use Rattle.text_control.specs.Visits.{with_turn, HasArrivedInTurn, BeginsAt, IsVisit, IsVisitByText};
 
 use crate::packed_text::PackedText;
-use crate::state_cell::cell_at;
 use crate::text_kind::TextKind;
 use crate::visits::Visit;
 use plant_record::Plant;
@@ -52,7 +51,7 @@ fn turn_from(text: &PackedText, state: &[i64]) -> Option<u32>
         return None;
     }
     let plant = text.plant();
-    let cell = cell_at(plant, state)?;
+    let cell = plant.grid().cell_at(state)?;
     if !is_in_target(plant, text.turn(), cell) {
         return None;
     }

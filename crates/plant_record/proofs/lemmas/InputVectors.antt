@@ -28,15 +28,3 @@ few_vectors (a ∷ b ∷ c ∷ d ∷ inputs) few each = absurd (omega (arith, fe
 pub some_vectors : (inputs : List InputVariable) → All IsInputVariable inputs → 1 ≤ vectors_of inputs
 some_vectors [] each = omega arith
 some_vectors (i ∷ inputs) each = mul-pos (All-head IsInputVariable i inputs each).some_value (some_vectors inputs (All-tail IsInputVariable i inputs each))
-
--- one list more, from the last on
-pub vectors_back : (inputs : List InputVariable) (i : ℕ) (x : InputVariable) → 0 < i → i ≤ length inputs → x ≡ get_or inputs (i - 1) x → vectors_of (drop i inputs) * length x.values ≡ vectors_of (drop (i - 1) inputs)
-vectors_back inputs zero x some within x-is = absurd (omega (arith, some))
-vectors_back inputs (suc i) x some within x-is =
-    let e : suc i - 1 ≡ i = omega arith in
-    let x-at : x ≡ get_or inputs i x = x-is ∙ ap (λ n. get_or inputs n x) e in
-    let more : drop i inputs ≡ x ∷ drop (suc i) inputs = drop-cons inputs i x (omega (arith, within)) ∙ ap (λ y. y ∷ drop (suc i) inputs) (sym x-at) in
-    mul_comm (vectors_of (drop (suc i) inputs)) (length x.values) ∙ sym (ap vectors_of (ap (λ n. drop n inputs) e ∙ more))
-
-pub few_from : (inputs : List InputVariable) (i : ℕ) → length inputs ≤ 3 → All IsInputVariable inputs → vectors_of (drop i inputs) ≤ 262144
-few_from inputs i few each = few_vectors (drop i inputs) (omega (arith, few, length-drop i inputs)) (All-drop IsInputVariable i inputs each)

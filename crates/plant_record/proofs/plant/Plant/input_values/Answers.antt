@@ -1,10 +1,10 @@
-use Rattle.std.proofs.Common.{length, sym, ap, ◌∙◌}
-use Rattle.plant_record.specs.declared.variables.InputVariable.{InputVariable}
-use Rattle.plant_record.proofs.lemmas.ValueIndices.{count_is}
+use Rattle.std.proofs.Common.{length, get_or, sym, ap, ◌∙◌}
+use Rattle.std.proofs.lemmas.List.{get_or-take}
 use Rattle.plant_record.proofs.plant.Plant.input_values.Goals as goal
 
 pub returns : goal.returns
 returns c =
-    let i : InputVariable = c.index.result.now in
+    let inputs = c.self.inside.parts.variables.inputs.items in
+    let within = rw (← c.self.view_is) at c.requires in
     rw (← c.self.view_is)
-    (c.len.ensures ∙ sym (count_is c.self.inside.parts.variables.inputs.items c.args.variable i (rw (← c.self.view_is) at c.requires) ∙ ap (λ (j : InputVariable). length j.values) (sym c.index.ensures)))
+    (sym (get_or-take (length inputs) c.self.inside.counts c.args.variable 0 within) ∙ ap (λ counts. get_or counts c.args.variable 0) c.self.invariant.counts_are)
