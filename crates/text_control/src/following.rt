@@ -9,7 +9,6 @@ ghost use Rattle.text_control.specs.inside.Slopes.{LiesInBox};
 
 use crate::follow::Follow;
 use crate::packed_text::PackedText;
-use crate::state_cell::cell_at;
 use plant_record::Plant;
 use successor_box::{Slopes, successors};
 
@@ -21,7 +20,7 @@ pub fn follows(text: &PackedText, state: &[i64], input: &[i64], next: &[i64]) ->
     if !is_sized(plant, state, input, next) {
         return Follow::WrongSizes;
     }
-    let Some(cell) = cell_at(plant, state) else {
+    let Some(cell) = plant.grid().cell_at(state) else {
         return Follow::NoInput;
     };
     let Some(vector) = vector_at(plant, input) else {
@@ -84,7 +83,7 @@ fn lies_in_box(plant: &Plant, slopes: &Slopes, cell: u32, vector: u32, next: &[i
     let Some(b) = successors(plant, slopes, cell, vector) else {
         return false;
     };
-    match cell_at(plant, next) {
+    match plant.grid().cell_at(next) {
         Some(there) => plant.grid().box_has(b, there),
         None => false,
     }
