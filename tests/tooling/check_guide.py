@@ -1,4 +1,4 @@
-"""The numbers and the code of docs/GUIDE.md, and the node of ROS 2 by stand-ins."""
+"""The numbers and the code of docs/GUIDE.md, the model and the version of README.md, and the node of ROS 2 by stand-ins."""
 
 import importlib.util
 import os
@@ -26,6 +26,7 @@ def check(report):
     narrow = wide.replace("target -0.21 0.21 -0.21 0.21", "target -0.20 0.20 -0.20 0.20")
     report.expect("the double integrator with its target on the cells' bounds, and within them", (2559, 32),
                   (solved(report, wide)[0], solved(report, narrow)[0]))
+    check_readme(report)
     if report.reads_version_2():
         check_versions(report, guide)
     if report.has_mpmath():
@@ -37,6 +38,19 @@ def check(report):
         plant = read_plant(f"plant 1\nstate e 0 199 10\ninput u 0 100\nnext e = {expression}\ngoal reach\nend\n".encode())
         report.expect(f"the deviation of `{expression}`", [moves], plant.deviations(1))
         report.holds(f"the guide has `{expression}`", expression in guide)
+
+
+def check_readme(report):
+    """README's model is that of examples/rail, its figures are those of the table, and its version is the launcher's."""
+    readme = (report.top / "README.md").read_text()
+    model = re.search(r"\n\n((?:    .*\n)*    goal reach\n)", readme).group(1)
+    wanted = lines_of((report.top / "examples/rail/rail.model").read_text())
+    report.expect("README's model is that of the example", wanted, [line.strip() for line in model.splitlines()])
+    won, cells, rank = (int(word.replace(",", "")) for word in re.search(r"([0-9,]+) of ([0-9,]+) cells are won.*?at most\s([0-9]+)", readme, re.DOTALL).groups())
+    table = read_table(report.table_text("rail"))
+    report.expect("README's figures", (len(table.rows), table.plant.cells, max(rank for rank, _ in table.rows.values())), (won, cells, rank))
+    launched = subprocess.run([report.top / "gaffcurrant", "--version"], capture_output=True, check=False, text=True).stdout
+    report.expect("README's version", re.findall(r"^gaffcurrant (\S+)$", launched, re.M), re.findall(r"^Version ([0-9.]+), ", readme, re.M))
 
 
 def check_rail(report, guide):
