@@ -13,8 +13,8 @@ from gaffcurrant_plant.table import read_table
 
 def check(report):
     guide = (report.top / "docs" / "GUIDE.md").read_text()
-    code = re.search(r"```c\n(.*?)```", guide, re.DOTALL).group(1)
-    report.holds("the guide's C is that of control.c", code in (report.top / "examples/device/control.c").read_text())
+    code = re.search(r"```c\n(int control\(.*?)```", (report.top / "examples/device/README.md").read_text(), re.DOTALL).group(1)
+    report.holds("the C of the device's README is that of control.c", code in (report.top / "examples/device/control.c").read_text())
     model = re.search(r"```\n(sample 0.4.*?)```", guide, re.DOTALL).group(1)
     report.expect("the guide's model gives the double integrator", lines_of(report.plant_text("double_integrator").decode()),
                   lines_of(report.tool("scale", "-", data=model.encode())[1]))
