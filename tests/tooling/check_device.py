@@ -70,7 +70,7 @@ int main(void)
 """
 
 
-# The guide's loop, between sensors and an actuator on the standard streams.
+# The README's loop, between sensors and an actuator on the standard streams.
 LOOP = """#include <stdio.h>
 #include <stdlib.h>
 #include "control.c"
