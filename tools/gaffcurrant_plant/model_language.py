@@ -42,18 +42,18 @@ LINES = (
 # Each further section by its title, in paragraphs.
 SECTIONS = (
     ("A linear system", """\
-Instead of the `next` lines a model may have a linear system x' = A x + B u + c + w, one line of each kind for each state:
-`A a1 .. an`; `B b1 .. bm` (if there are inputs); `c c1` (may be left out); `w LO HI` (may be left out). With a line
-`sample T` the lines `A`, `B` and `c` are those of the differential equation dx/dt = A x + B u + c. It is sampled exactly
-with the time T, the input held, to 20 decimals; `w` is what the disturbance adds in a sample."""),
+Instead of the `next` lines a model may have a linear system x' = A x + B u + c + w. It has one line of each kind for each
+state: `A a1 .. an`; `B b1 .. bm` (if there are inputs); `c c1` and `w LO HI` (may be left out). With a line `sample T` the
+lines `A`, `B` and `c` are those of the differential equation dx/dt = A x + B u + c. It is sampled exactly with the time T,
+the input held, to 20 decimals; `w` is what the disturbance adds in a sample."""),
     ("What the noise of a state bounds", """\
 A real state lies anywhere between a whole number of units and the next one. The coefficients are rounded to multiples of
 1/D, and the quotient is rounded down. The model's noises take any value. A measurement in doubles may be a rounding error
 off, and so in the unit below or above: that adds a unit if the rest is whole. An `exact` state has no noise.
 
-Of functions the noise bounds what their straight pieces leave out; of a function of one input alone that is next to
-nothing, since it is taken at the input's values. Of differential equations it bounds what the Taylor polynomial leaves
-out, by interval arithmetic over a box that holds the states on the way."""),
+Of functions the noise bounds what their straight pieces leave out. A function of one input alone is taken at the input's
+values, so that this is next to nothing. Of differential equations the noise bounds what the Taylor polynomial leaves out,
+by interval arithmetic over a box that holds the states on the way."""),
     ("What it needs", """\
 Functions and lines `d` need mpmath (Debian: apt-get install python3-mpmath), `between` needs numpy. Status 0: the plant
 was written; 1: the model can't be read or scaled; 2: wrong arguments."""),
