@@ -17,10 +17,11 @@ def check(report):
     report.holds("the claim has files", len(files) > 50, str(len(files)))
     for file in files:
         report.holds(f"READING names {file}", f"`{file}`" in reading)
-    done = subprocess.run([sys.executable, str(report.top / "tests/reading_page"), "--check"], capture_output=True, check=False, text=True)
-    report.expect("the routes of READING are those that the clauses need", (0, "docs/READING.md is fresh\n"), (done.returncode, done.stdout))
+    report.expect("the routes of READING are those that the clauses need", (0, "docs/READING.md is fresh\n"),
+                  run(report, "--check", script="reading_page"))
 
 
-def run(report, *words):
-    done = subprocess.run([sys.executable, str(report.top / "tests/claim"), *words], capture_output=True, check=False, text=True)
+def run(report, *words, script="claim"):
+    path = report.top / "tests" / script
+    done = subprocess.run([sys.executable, str(path), *words], capture_output=True, check=False, text=True)
     return done.returncode, done.stdout

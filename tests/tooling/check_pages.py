@@ -16,5 +16,6 @@ def check(report):
 
 
 def run(report, script, *words):
-    done = subprocess.run([sys.executable, str(report.top / "tests" / script), *words], capture_output=True, check=False, text=True)
+    path = report.top / "tests" / script
+    done = subprocess.run([sys.executable, str(path), *words], capture_output=True, check=False, text=True)
     return done.returncode, done.stdout
