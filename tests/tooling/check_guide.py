@@ -133,7 +133,7 @@ def check_versions(report, guide):
                       both_versions(report, report.plant_text(name)))
     model = (report.top / "examples/double_integrator/double_integrator.model").read_text()
     even = re.sub(r"-2\.03 2\.03 0\.07", "-2.08 2.08 0.08", model).replace("-0.21 0.21 -0.21 0.21", "-0.24 0.24 -0.24 0.24")
-    said = re.search(rf"have {number} edges in version 1 and {number} in version 2; {number} and {number} cells are won", guide)
+    said = re.search(rf"have {number} edges in version 1 and {number} in version 2; {number} and {number} cells are won", " ".join(guide.split()))
     report.expect("the double integrator with even widths", [int(word.replace(",", "")) for word in said.groups()],
                   both_versions(report, report.tool("scale", "-", data=even.encode())[1].encode())[:4])
 
