@@ -1,4 +1,4 @@
-"""tests/claim against the repository, and docs/READING.md, docs/DEFINITIONS.md and docs/NAMES.md against what it lists."""
+"""tests/claim against the repository, and docs/READING.md and docs/DEFINITIONS.md against what it lists."""
 
 import re
 import subprocess
@@ -9,17 +9,19 @@ def check(report):
     status, output = run(report, "--strays")
     report.expect("files of specs/ that no public clause names", (0, ""), (status, output))
     status, output = run(report, "--unnamed")
-    report.expect("definitions in public clauses that neither DEFINITIONS nor NAMES has", (0, ""), (status, output))
+    report.expect("definitions in public clauses that neither DEFINITIONS nor tests/names_page has", (0, ""), (status, output))
     status, output = run(report)
     report.expect("the definitions of the claim are listed", 0, status)
     reading = (report.top / "docs/READING.md").read_text()
-    named = set(re.findall(r"(\w+)\.antt", reading))
-    files = re.findall(r"^\w+/specs/([\w/]+)\.antt:", output, re.M)
+    files = re.findall(r"^(\w+/specs/[\w/]+\.antt):", output, re.M)
     report.holds("the claim has files", len(files) > 50, str(len(files)))
     for file in files:
-        report.holds(f"READING names {file}.antt", file.split("/")[-1] in named)
+        report.holds(f"READING names {file}", f"`{file}`" in reading)
+    report.expect("the routes of READING are those that the clauses need", (0, "docs/READING.md is fresh\n"),
+                  run(report, "--check", script="reading_page"))
 
 
-def run(report, *words):
-    done = subprocess.run([sys.executable, str(report.top / "tests/claim"), *words], capture_output=True, check=False, text=True)
+def run(report, *words, script="claim"):
+    path = report.top / "tests" / script
+    done = subprocess.run([sys.executable, str(path), *words], capture_output=True, check=False, text=True)
     return done.returncode, done.stdout

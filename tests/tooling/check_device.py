@@ -70,7 +70,7 @@ int main(void)
 """
 
 
-# The guide's loop, between sensors and an actuator on the standard streams.
+# The README's loop, between sensors and an actuator on the standard streams.
 LOOP = """#include <stdio.h>
 #include <stdlib.h>
 #include "control.c"
@@ -262,24 +262,24 @@ def check_falls(report, compiler, room):
 
 
 def check_loop(report, compiler, room):
-    """The guide's loop applies what the text says, and stops where the rank doesn't fall and where a sensor gives no number or an infinity."""
-    guide = (report.top / "docs/GUIDE.md").read_text()
-    loop = re.search(r"```c\n(if \(!is_intact.*?)```", guide, re.DOTALL).group(1)
-    report.holds("the guide's loop says where a patrol's visit stands", VISIT in loop, loop)
+    """The README's loop applies what the text says, and stops where the rank doesn't fall and where a sensor gives no number or an infinity."""
+    readme = (report.top / "examples/device/README.md").read_text()
+    loop = re.search(r"```c\n(if \(!is_intact.*?)```", readme, re.DOTALL).group(1)
+    report.holds("the README's loop says where a patrol's visit stands", VISIT in loop, loop)
     for name, data, text, run in runs(report):
         model = report.top / f"examples/{name}/{name}.model"
         (room / "table.h").write_text(report.tool("header", "--ranks", "--model", model, "-", data=data)[1])
         visited = loop.replace(VISIT, "if (sample > 0) visit(state);") if text.kind == "patrol" else loop
-        report.expect(f"{name}: the guide's loop is compiled", (0, ""), built(compiler, room, "loop", LOOP.replace("LOOP", visited)))
+        report.expect(f"{name}: the README's loop is compiled", (0, ""), built(compiler, room, "loop", LOOP.replace("LOOP", visited)))
         units = [float(state[4]) for state in read_model(model.read_bytes()).states]
         values = [[(number + 0.5) * unit for number, unit in zip(sample.state, units)] for sample in run]
         said = [" ".join(map(str, sample.inputs or ["stop"])) + "\n" for sample in run]
         for wrong in ("nan", "inf", "-inf"):
-            report.expect(f"{name}: the guide's loop at {wrong}", (0, "".join(said[:2]) + "stop\n", ""),
+            report.expect(f"{name}: the README's loop at {wrong}", (0, "".join(said[:2]) + "stop\n", ""),
                           called(["./loop"], room, lines_of([*values[:2], [values[0][0], wrong]])))
         wanted = (1, "".join(said[:2] + said[:1]), "") if text.kind == "table" and text.keeps else (0, "".join(said[:2]) + "stop\n", "")
-        report.expect(f"{name}: the guide's loop where a state comes twice", wanted, called(["./loop"], room, lines_of([*values[:2], values[0]])))
-        report.expect(f"{name}: the guide's loop along a run", (0 if said[-1] == "stop\n" else 1, "".join(said), ""), called(["./loop"], room, lines_of(values)))
+        report.expect(f"{name}: the README's loop where a state comes twice", wanted, called(["./loop"], room, lines_of([*values[:2], values[0]])))
+        report.expect(f"{name}: the README's loop along a run", (0 if said[-1] == "stop\n" else 1, "".join(said), ""), called(["./loop"], room, lines_of(values)))
 
 
 def lines_of(states):

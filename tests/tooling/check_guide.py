@@ -1,4 +1,4 @@
-"""The numbers and the code of docs/GUIDE.md, and the node of ROS 2 by stand-ins."""
+"""The numbers and the code of docs/GUIDE.md, the model and the version of README.md, and the node of ROS 2 by stand-ins."""
 
 import importlib.util
 import os
@@ -13,8 +13,8 @@ from gaffcurrant_plant.table import read_table
 
 def check(report):
     guide = (report.top / "docs" / "GUIDE.md").read_text()
-    code = re.search(r"```c\n(.*?)```", guide, re.DOTALL).group(1)
-    report.holds("the guide's C is that of control.c", code in (report.top / "examples/device/control.c").read_text())
+    code = re.search(r"```c\n(int control\(.*?)```", (report.top / "examples/device/README.md").read_text(), re.DOTALL).group(1)
+    report.holds("the C of the device's README is that of control.c", code in (report.top / "examples/device/control.c").read_text())
     model = re.search(r"```\n(sample 0.4.*?)```", guide, re.DOTALL).group(1)
     report.expect("the guide's model gives the double integrator", lines_of(report.plant_text("double_integrator").decode()),
                   lines_of(report.tool("scale", "-", data=model.encode())[1]))
@@ -26,6 +26,7 @@ def check(report):
     narrow = wide.replace("target -0.21 0.21 -0.21 0.21", "target -0.20 0.20 -0.20 0.20")
     report.expect("the double integrator with its target on the cells' bounds, and within them", (2559, 32),
                   (solved(report, wide)[0], solved(report, narrow)[0]))
+    check_readme(report)
     if report.reads_version_2():
         check_versions(report, guide)
     if report.has_mpmath():
@@ -37,6 +38,19 @@ def check(report):
         plant = read_plant(f"plant 1\nstate e 0 199 10\ninput u 0 100\nnext e = {expression}\ngoal reach\nend\n".encode())
         report.expect(f"the deviation of `{expression}`", [moves], plant.deviations(1))
         report.holds(f"the guide has `{expression}`", expression in guide)
+
+
+def check_readme(report):
+    """README's model is that of examples/rail, its figures are those of the table, and its version is the launcher's."""
+    readme = (report.top / "README.md").read_text()
+    model = re.search(r"\n\n((?:    .*\n)*    goal reach\n)", readme).group(1)
+    wanted = lines_of((report.top / "examples/rail/rail.model").read_text())
+    report.expect("README's model is that of the example", wanted, [line.strip() for line in model.splitlines()])
+    won, cells, rank = (int(word.replace(",", "")) for word in re.search(r"([0-9,]+) of ([0-9,]+) cells are won.*?at most\s([0-9]+)", readme, re.DOTALL).groups())
+    table = read_table(report.table_text("rail"))
+    report.expect("README's figures", (len(table.rows), table.plant.cells, max(rank for rank, _ in table.rows.values())), (won, cells, rank))
+    launched = subprocess.run([report.top / "gaffcurrant", "--version"], capture_output=True, check=False, text=True).stdout
+    report.expect("README's version", re.findall(r"^gaffcurrant (\S+)$", launched, re.M), re.findall(r"^Version ([0-9.]+), ", readme, re.M))
 
 
 def check_rail(report, guide):
@@ -119,7 +133,7 @@ def check_versions(report, guide):
                       both_versions(report, report.plant_text(name)))
     model = (report.top / "examples/double_integrator/double_integrator.model").read_text()
     even = re.sub(r"-2\.03 2\.03 0\.07", "-2.08 2.08 0.08", model).replace("-0.21 0.21 -0.21 0.21", "-0.24 0.24 -0.24 0.24")
-    said = re.search(rf"have {number} edges in version 1 and {number} in version 2; {number} and {number} cells are won", guide)
+    said = re.search(rf"have {number} edges in version 1 and {number} in version 2; {number} and {number} cells are won", " ".join(guide.split()))
     report.expect("the double integrator with even widths", [int(word.replace(",", "")) for word in said.groups()],
                   both_versions(report, report.tool("scale", "-", data=even.encode())[1].encode())[:4])
 
