@@ -1,10 +1,11 @@
 """Keeps the verdict line of each crate, as the kit's gate prints it, by a sum of what the verdict is about: the kit, the crate's files, and those of the
 crates below. The gate prints no line of a crate that an earlier run proved, so its line of then is kept here. In a folder with crates.txt:
 
-    verdicts.py keep FILE < LOG      puts the lines of a log of `rt ci`, which has proved the crates as they stand here, into the file
-    verdicts.py lacking FILE         prints the crates whose line isn't in the file"""
+    rt ci | verdicts.py keep FILE      hands on what `rt ci` prints, and puts the lines of crates whose files haven't changed meanwhile into the file
+    verdicts.py lacking FILE           prints the crates whose line isn't in the file"""
 
 import hashlib
+import os
 import re
 import subprocess
 import sys
@@ -77,12 +78,19 @@ def known(top, file):
 
 
 def keep(top, file, log):
-    lines, of_now = kept(file), sums(top)
-    for name, verdict in said(log).items():
-        if name in of_now:
-            lines.pop((name, of_now[name]), None)
-            lines[name, of_now[name]] = verdict
-    file.write_text("".join(f"{name} {sum_of} {verdict}\n" for (name, sum_of), verdict in list(lines.items())[-MOST:]))
+    """Hands on the lines of a log, and keeps the verdicts."""
+    before, lines = sums(top), []
+    for line in log:
+        sys.stdout.write(line)
+        sys.stdout.flush()
+        lines.append(line)
+    verdicts, after = said("".join(lines)), sums(top)
+    new = {(name, before[name]): verdict for name, verdict in verdicts.items() if name in before and before[name] == after.get(name)}
+    if new:
+        old = {key: line for key, line in kept(file).items() if key not in new}
+        written = file.with_name(f"{file.name}.{os.getpid()}")
+        written.write_text("".join(f"{name} {of_files} {line}\n" for (name, of_files), line in list((old | new).items())[-MOST:]))
+        written.replace(file)
 
 
 def main(words):
@@ -91,7 +99,8 @@ def main(words):
         return 2
     top, file = Path(), Path(words[1])
     if words[0] == "keep":
-        keep(top, file, sys.stdin.read())
+        sys.stdin.reconfigure(errors="replace")
+        keep(top, file, sys.stdin)
         return 0
     print("\n".join(name for name in crates(top) if name not in known(top, file)), end="")
     return 0
