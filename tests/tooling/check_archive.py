@@ -2,6 +2,7 @@
 with a blank; manual pages, completion, and the lines of the proofs."""
 
 import hashlib
+import importlib.util
 import json
 import os
 import re
@@ -52,9 +53,10 @@ def made(report, room):
     done = subprocess.run([report.top / "tools/library", *kept, folder, "--jobs", "1"], stdout=subprocess.PIPE, stderr=subprocess.STDOUT, check=False)
     report.expect("archive: tools/library", 0, done.returncode)
     (folder / "library.log").write_bytes(done.stdout)
-    sums = {}
-    exec((report.top / PACKAGING / "verdicts.py").read_text().split("def main")[0], sums)
-    (room / "verdicts").write_text(f"base {sums['sums'](report.top)['base']} {LINE}\n")
+    spec = importlib.util.spec_from_file_location("verdicts", report.top / PACKAGING / "verdicts.py")
+    verdicts = importlib.util.module_from_spec(spec)
+    spec.loader.exec_module(verdicts)
+    (room / "verdicts").write_text(f"base {verdicts.sums(report.top)['base']} {LINE}\n")
     return done.returncode == 0
 
 
