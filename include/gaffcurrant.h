@@ -1,6 +1,7 @@
 /* gaffcurrant.h: a controller by the text of a table, of reach and stay, or of a patrol, for C99 and C++.
 
-   Link libgaffcurrant.a or libgaffcurrant.so, which tools/library makes. The library is proved (crates/controller_c): for
+   Link libgaffcurrant.a or libgaffcurrant.so, which tools/library makes for Linux on x86-64, and with --target aarch64 for
+   Linux on ARM64 (tried under an emulator, on no board). The library is proved (crates/controller_c): for
    any bytes that tell what a controller holds, the answer 1 of gaffcurrant_control says that the values are those of the
    input vector that the text applies at the state. Each answer below is proved in both directions, but for want of
    memory, which is never excluded. This header is written by hand, and nothing proves that it fits the library.

@@ -55,7 +55,7 @@ def end_with(program, form, **streams):
     """How a run ends whose streams are given; what isn't captured counts as empty."""
     given = {"input": form.text} if "stdin" not in streams else {}
     streams = {"stdout": subprocess.PIPE, "stderr": subprocess.PIPE, **streams}
-    done = subprocess.run([program.path, *form.words], timeout=SECONDS, check=False, **given, **streams)
+    done = subprocess.run([*program.command, *form.words], timeout=SECONDS, check=False, **given, **streams)
     return done.returncode, done.stdout or b"", done.stderr or b""
 
 
@@ -91,7 +91,7 @@ def slowly(program, form):
     """The text comes byte by byte, as a terminal or a network may hand it on."""
 
     def judge():
-        with subprocess.Popen([program.path, *form.words], stdin=subprocess.PIPE, stdout=subprocess.PIPE,
+        with subprocess.Popen([*program.command, *form.words], stdin=subprocess.PIPE, stdout=subprocess.PIPE,
                               stderr=subprocess.PIPE) as process:
             for byte in form.text:
                 os.write(process.stdin.fileno(), bytes([byte]))
@@ -163,7 +163,7 @@ def leaves(program, taken):
 
     def judge():
         want = LONG.want()[1]
-        with subprocess.Popen([program.path, *LONG.words], stdin=subprocess.PIPE, stdout=subprocess.PIPE,
+        with subprocess.Popen([*program.command, *LONG.words], stdin=subprocess.PIPE, stdout=subprocess.PIPE,
                               stderr=subprocess.PIPE) as process:
             process.stdin.write(LONG.text)
             process.stdin.close()
@@ -211,7 +211,7 @@ def endless(program, form, byte):
             want, most = oracle.ended(5, line=b"limit: table text\n"), oracle.TABLE_LIMIT + 1
         reader, writer = os.pipe()
         try:
-            with subprocess.Popen([program.path, *form.words], stdin=reader, stdout=subprocess.PIPE,
+            with subprocess.Popen([*program.command, *form.words], stdin=reader, stdout=subprocess.PIPE,
                                   stderr=subprocess.PIPE) as process:
                 offered = offer(process, writer, byte, 10 ** 10)
                 output, error = process.communicate(timeout=SECONDS)

@@ -79,12 +79,14 @@ FORMS = SYNTH + WORKERS + CHECK + UPGRADE + SIM + STAY + PATROL + LIVE + DEMO
 
 
 class Program:
-    """The built program, copied to where every user may run it."""
+    """The built program, copied to where every user may run it, and the words that run it."""
 
-    def __init__(self, path):
+    def __init__(self, *words):
+        *runner, path = words
         self.folder = tempfile.TemporaryDirectory()
         os.chmod(self.folder.name, 0o755)
         self.path = shutil.copy(path, Path(self.folder.name) / "synth_cli")
+        self.command = [*runner, str(self.path)]
         self.runs = itertools.count()
 
     def __enter__(self):
@@ -97,7 +99,7 @@ class Program:
         """How a run ends: its status, output and error. `before` are the words of a command that becomes the program."""
         next(self.runs)
         try:
-            done = subprocess.run([*before, str(self.path), *words], input=data, capture_output=True, timeout=SECONDS,
+            done = subprocess.run([*before, *self.command, *words], input=data, capture_output=True, timeout=SECONDS,
                                   check=False, **more)
         except subprocess.TimeoutExpired:
             return None, b"", f"no end within {SECONDS} seconds".encode()

@@ -29,7 +29,7 @@ def spent(program, words, text, runs):
         source.write(text)
         for _ in range(runs):
             source.seek(0)
-            process = subprocess.Popen([program.path, *words], stdin=source, stdout=nowhere, stderr=subprocess.PIPE)
+            process = subprocess.Popen([*program.command, *words], stdin=source, stdout=nowhere, stderr=subprocess.PIPE)
             line = process.stderr.read()
             process.stderr.close()
             _, status, usage = os.wait4(process.pid, 0)

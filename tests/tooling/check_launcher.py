@@ -16,15 +16,30 @@ compgen -G "crates/*/must-fail" >>"$CALLS"
 while IFS=": " read -r crate _; do
   echo "$crate $1" >>"$CALLS"
   [[ -e crates/$crate/src/broken ]] && { echo "error: no proof"; echo "rt: $crate NOT PROVED"; exit 1; }
-  echo "rt: $crate proved"
+  [[ -e $KEPT && -z ${2-} ]] && { echo "rt: $crate is kept"; continue; }
+  printf '%s\\n' "== $crate" logic=proved "rt: $crate proved"
 done <crates.txt
 mkdir -p crates/synth_cli/out
 printf '%s\\n' '#!/usr/bin/env bash' 'echo "$@"' '[[ $1 == check ]] && exit 7' '[[ $1 == demo ]] && echo usage >&2 && exit 2' 'exit 0' >crates/synth_cli/out/synth_cli
 chmod +x crates/synth_cli/out/synth_cli
 """
-CRATES = "# lowest first\nlow: itoa\nmiddle tests_may=Threads: low\naside: low\nsynth_cli: middle low\n"
+# Stands for tools/library and tools/program: writes its words into the files that it has to make.
+MAKER = """#!/usr/bin/env bash
+echo "${0##*/} $*" >>"$CALLS"
+[[ $PWD == */top ]] && exit 1
+for file in gaffcurrant libgaffcurrant.a; do echo "$3" >"$4/$file"; done
+"""
+# Stands for tools/packaging/hand_on.py: prints its words, and what was made.
+HAND_ON = """import sys
+from pathlib import Path
+print(*sys.argv[1:3], *sorted(str(path) for path in Path("made").rglob("*") if path.is_file()) if "--made" in sys.argv else ())
+"""
+CRATES = "# lowest first\nlow: itoa\nmiddle tests_may=Threads: low\naside: low\ncontroller_c staticlib: low\nsynth_cli: middle low\n"
 VERSION = "gaffcurrant 4.5.6\ncommit: not known: the sources aren't a clone of the repository\nkit: a kit\n"
 BUILDS = ["low ci", "middle ci", "synth_cli ci"]
+WHOLE = ["low ci", "middle ci", "controller_c ci", "synth_cli ci"]
+LIBRARY, BOARD = "library --standing --target x86_64 made/x86_64 --jobs ", ["library --standing --target aarch64 made/aarch64 --jobs ",
+                                                                         "program --standing --target aarch64 made/aarch64 --jobs "]
 
 
 class Small:
@@ -32,7 +47,7 @@ class Small:
 
     def __init__(self, report, room):
         self.room, self.top = room, room / "top"
-        for crate in ("low", "middle", "aside", "synth_cli"):
+        for crate in ("low", "middle", "aside", "controller_c", "synth_cli"):
             (self.top / "crates" / crate / "src").mkdir(parents=True)
             (self.top / "crates" / crate / "src" / "lib.rt").write_text(crate)
         (self.top / "crates/low/must-fail").mkdir()
@@ -45,17 +60,26 @@ class Small:
         (self.top / "examples/line/line.plant").write_text("a plant\n")
         (self.top / "CITATION.cff").write_text("cff-version: 1.2.0\nversion: 4.5.6\n")
         shutil.copy(report.top / "gaffcurrant", self.top)
+        (self.top / "tools/packaging").mkdir(parents=True)
+        (self.top / "tools/runtime").mkdir()
+        shutil.copy(report.top / "tools/packaging/verdicts.py", self.top / "tools/packaging")
+        (self.top / "tools/packaging/hand_on.py").write_text(HAND_ON)
+        for name in ("library", "program"):
+            (self.top / "tools" / name).write_text(MAKER)
+            (self.top / "tools" / name).chmod(0o755)
         (room / "kit").mkdir()
         (room / "kit/rt").write_text(KIT)
         (room / "kit/rt").chmod(0o755)
-        self.calls = room / "calls"
+        (room / "kit/aarch64-linux-gnu-gcc").write_text("")
+        (room / "kit/aarch64-linux-gnu-gcc").chmod(0o755)
+        self.calls, self.kept = room / "calls", room / "kept"
 
     def run(self, *words, top=None, data=""):
         """Status, output, error, and the calls of the kit."""
         self.calls.write_text("")
         path = f"{self.room / 'kit'}:{os.environ['PATH']}"
         done = subprocess.run([(top or self.top) / "gaffcurrant", *words], capture_output=True, text=True, check=False,
-                              env=os.environ | {"PATH": path, "CALLS": str(self.calls), "GIT_CEILING_DIRECTORIES": str(self.room)}, input=data)
+                              env=os.environ | {"PATH": path, "CALLS": str(self.calls), "KEPT": str(self.kept), "GIT_CEILING_DIRECTORIES": str(self.room)}, input=data)
         return done.returncode, done.stdout, done.stderr, self.calls.read_text().splitlines()
 
     def built(self, **more):
@@ -73,6 +97,8 @@ def check(report):
         check_first(report, small)
         check_content(report, small)
         check_fault(report, small)
+    with tempfile.TemporaryDirectory() as room:
+        check_hand_on(report, Small(report, Path(room)))
     check_forms(report)
 
 
@@ -155,6 +181,45 @@ def check_fault(report, small):
     report.expect("launcher behind a failed proof", False, small.built())
     (small.top / "crates/middle/src/lib.rt").write_text("mended")
     report.expect("launcher behind a mended proof", (True, False), (small.built(), small.built()))
+
+
+def check_hand_on(report, small):
+    """What is installed and archived is made of proved crates; an archive knows what the proofs said of each, or has them proved anew."""
+    folder = small.room / "a place"
+    for words in (["--install"], ["--archive"], ["--uninstall"], ["--target", "aarch64"], ["--target", "arm", folder], ["--install", folder, folder]):
+        status, output, error, calls = small.run(*words)
+        report.expect(f"launcher {words}", (2, "", "usage", []), (status, output, error.split("\n")[0], calls))
+    report.expect("launcher --uninstall", (0, f"uninstall {folder}\n", "", []), small.run("--uninstall", folder))
+    made = "made/x86_64/gaffcurrant made/x86_64/libgaffcurrant.a made/x86_64/library.log"
+    status, output, error, calls = small.run("--install", folder)
+    report.expect("launcher --install", (0, f"install {folder} {made}\n", [*WHOLE, LIBRARY]), (status, output, without_jobs(calls)))
+    verdicts = small.top / "crates.verdicts"
+    report.expect("launcher: lines of the proofs", [f"{call.split()[0]} logic=proved" for call in WHOLE],
+                  [" ".join(line.split()[::2]) for line in verdicts.read_text().splitlines()])
+    small.kept.write_text("")
+    made = f"made/aarch64/gaffcurrant made/aarch64/libgaffcurrant.a made/aarch64/library.log made/aarch64/program.log {made}"
+    status, output, error, calls = small.run("--archive", folder)
+    report.expect("launcher --archive of what was proved", (0, f"archive {folder} {made}\n", [*WHOLE, LIBRARY, *BOARD]), (status, output, without_jobs(calls)))
+    report.expect("launcher: lines of kept proofs stay", 4, verdicts.read_text().count("\n"))
+    verdicts.write_text("".join(verdicts.read_text().splitlines(True)[1:]))
+    report.expect("launcher --install without a line", WHOLE, small.run("--install", folder)[3][:4])
+    report.expect("launcher: a line that isn't known", 3, verdicts.read_text().count("\n"))
+    report.expect("launcher --archive without a line", 0, small.run("--archive", folder)[0])
+    report.expect("launcher: proved anew", 4, verdicts.read_text().count("\n"))
+    status, output, error, calls = small.run("--target", "aarch64", folder)
+    report.expect("launcher --target", (0, f"{folder}/gaffcurrant\n", [*BUILDS, BOARD[1]], "aarch64\n"),
+                  (status, output, without_jobs(calls), (folder / "gaffcurrant").read_text()))
+    (small.top / "crates/low/src/broken").write_text("")
+    status, output, error, calls = small.run("--install", folder)
+    report.expect("launcher --install at a failed proof", (70, "", ["low ci"]), (status, output, calls))
+    (small.top / "crates/low/src/broken").unlink()
+    (small.top / "tools/library").write_text("#!/bin/sh\necho no library\nexit 3\n")
+    status, output, error, calls = small.run("--install", folder)
+    report.expect("launcher --install without its library", (70, "", True), (status, output, "no library\n" in error))
+
+
+def without_jobs(calls):
+    return [re.sub(r"(--jobs )\d+$", r"\1", call) for call in calls]
 
 
 def check_forms(report):

@@ -1,6 +1,8 @@
 """The C library: over the examples' texts its answers are those of the text's rows, of `sim` and of control.c, by both compilers' libraries, and by Python;
+"""The C library: over the examples' texts its answers are those of the text's rows, of `sim` and of control.c, by both compilers' libraries, and by Python;
 its memory is constant, its wrong uses are answered as include/gaffcurrant.h tells, and sanitizers and valgrind find nothing. Which next states follow is
-that of the module's boxes; the stack of the deepest texts, the calls of malloc, the version and the statuses are those that the header tells."""
+that of the module's boxes; the stack of the deepest texts, the calls of malloc, the version and the statuses are those that the header tells. Built for
+ARM64 it answers under an emulator as it does here."""
 
 import os
 import random
@@ -28,6 +30,10 @@ OF_HEADER = re.compile(r"^#define GAFFCURRANT_(\w+) \(?(-?\d+)\)?\s*/\*", re.M)
 OF_LIBRARY = re.compile(r"^pub const (\w+): i32 = (-?\d+);", re.M)
 STRICT = ["-std=c99", "-pedantic", "-Wall", "-Wextra", "-Werror"]
 SANITIZERS = ["-g", "-O1", "-fsanitize=address,undefined", "-fno-sanitize-recover=all"]
+# For ARM64: the compilers, and what runs what they make.
+BOARD, BOARD_CXX, EMULATOR = "aarch64-linux-gnu-gcc", "aarch64-linux-gnu-g++", "qemu-aarch64"
+# How many states of each text are answered there, and how many damaged texts are refused.
+MANY, FEW = 10000, 150
 
 
 def check(report):
@@ -61,13 +67,15 @@ def check(report):
         check_uses(report, room, libraries)
         check_python(report, room, libraries["llvm"], tables["cart"])
         check_readme(report, room, libraries["llvm"])
+        check_board(report, room, libraries["llvm"], tables)
 
 
-def built_library(report, folder, backend):
+def built_library(report, folder, backend, target="x86_64"):
     """The folder with the library as a compiler builds it, or None: over the libraries that `rt ci` left, where they stand."""
-    standing = ["--standing"] if (report.top / "crates/text_control/out/rlib/text_control.rlib").exists() else []
-    done = subprocess.run([report.top / "tools/library", *standing, folder, "--jobs", "1", "--backend", backend], capture_output=True, check=False)
-    report.expect(f"library: tools/library by {backend}", (0, f"{folder}/libgaffcurrant.a\n{folder}/libgaffcurrant.so\n"),
+    kept = ["--standing"] if (report.top / "crates/text_control/out/rlib/text_control.rlib").exists() else []
+    again = ["--incremental", folder.parent / "incremental"] if kept else []
+    done = subprocess.run([report.top / "tools/library", *kept, "--target", target, folder, "--jobs", "1", "--backend", backend, *again], capture_output=True, check=False)
+    report.expect(f"library: tools/library by {backend} for {target}", (0, f"{folder}/libgaffcurrant.a\n{folder}/libgaffcurrant.so\n"),
                   (done.returncode, done.stdout.decode() or done.stderr.decode()[-300:]))
     return folder if done.returncode == 0 else None
 
@@ -85,12 +93,15 @@ def ran(program, *words, data="", before=()):
     return done.returncode, done.stdout.decode(), done.stderr.decode("utf-8", "replace")[-300:]
 
 
-def check_object(report, library):
-    """The shared object shows the calls of the header and nothing else, and needs the C library alone."""
-    shown = ran("nm", "-D", "--defined-only", library / "libgaffcurrant.so")[1].split()[2::3]
+def check_object(report, library, prefix=""):
+    """The shared object shows the calls of the header and nothing else, and needs the C library alone; its name is that of its first number."""
+    shown = ran(f"{prefix}nm", "-D", "--defined-only", library / "libgaffcurrant.so")[1].split()[2::3]
     report.expect("library: what the shared object shows", [f"gaffcurrant_{name}" for name in CALLS], sorted(shown))
-    needed = [line.split("[")[1] for line in ran("readelf", "-d", library / "libgaffcurrant.so")[1].splitlines() if "NEEDED" in line]
-    report.expect("library: what the shared object needs", ["libc.so.6]"], needed)
+    told = ran(f"{prefix}readelf", "-d", library / "libgaffcurrant.so")[1]
+    report.expect("library: what the shared object needs", ["libc.so.6"], re.findall(r"NEEDED.*\[(.*)\]", told))
+    first = re.search(r"^version: (\d+)\.", (report.top / "CITATION.cff").read_text(), re.M).group(1)
+    report.expect("library: the shared object's name", [f"libgaffcurrant.so.{first}"], re.findall(r"SONAME.*\[(.*)\]", told))
+    report.expect("library: the shared object by that name", "libgaffcurrant.so", os.readlink(library / f"libgaffcurrant.so.{first}"))
 
 
 def check_headers(report, room, library):
@@ -272,14 +283,15 @@ def check_table(report, room, name, text, programs, library):
     report.expect(f"library: {name} as control.c answers", answers, told)
 
 
-def check_memory(report, room, name, text, held):
+def check_memory(report, room, name, text, held, before=()):
     """A table that is open takes 8 bytes for each stretch of cells with one row or with none, and 4 for every 64 cells; 16 for each state and input vector;
     the plant takes 2 to 33 thousand."""
     table = read_table(text)
     cells = table.plant.cells
     rows = [table.rows.get(cell) for cell in range(cells)]
     stretches = sum(k == 0 or row != rows[k - 1] for k, row in enumerate(rows))
-    taken = int(ran(held, room / f"{name}.table")[1] or 0) - 8 * stretches - 4 * (cells // 64 + 2) - 16 * len(table.plant.states) * table.plant.vectors
+    taken = int(ran(held, room / f"{name}.table", before=before)[1] or 0)
+    taken -= 8 * stretches + 4 * (cells // 64 + 2) + 16 * len(table.plant.states) * table.plant.vectors
     report.holds(f"library: {name}: memory beside the rows", 0 < taken < 40000, f"{taken} bytes")
 
 
@@ -413,14 +425,108 @@ def check_uses(report, room, libraries):
     report.expect("library: uses under the sanitizers", (0, "as the header tells\n", ""), ran(sane, cart))
 
 
-def check_readme(report, room, library):
+def check_readme(report, room, library, compiler=("gcc", *STRICT), before=()):
     """The program of examples/device/README.md prints what is told there."""
     said = (report.top / "examples/device/README.md").read_text()
     (room / "sample.c").write_text(next(code for code in re.findall(r"```c\n(.*?)```", said, re.DOTALL) if "gaffcurrant.h" in code))
-    program = compiled(report, room, "sample", room / "sample.c", library)
+    program = compiled(report, room, "sample", room / "sample.c", library, compiler=compiler)
     wanted = re.search(r"\./sample gate\.table +# prints (\S+):", said).group(1)
-    report.expect("library: what the README tells", (0, f"{wanted}\n", ""), ran(program, room / "gate.table"))
-    report.expect("library: the README's program of no text", (1, "no text: line 1\n", ""), ran(program, room / "sample.c"))
+    report.expect("library: what the README tells", (0, f"{wanted}\n", ""), ran(program, room / "gate.table", before=before))
+    report.expect("library: the README's program of no text", (1, "no text: line 1\n", ""), ran(program, room / "sample.c", before=before))
+
+
+def check_board(report, room, library, tables):
+    """The library for ARM64 by an emulator: each C program says what it says here, over every text of the examples and over damaged ones."""
+    missing = [program for program in (BOARD, EMULATOR) if shutil.which(program) is None]
+    if missing:
+        print(f"skipped: the library isn't tried for ARM64, there is no {', '.join(missing)} (apt-get install gcc-aarch64-linux-gnu qemu-user)")
+        return
+    board = built_library(report, room / "board", "llvm", "aarch64")
+    if board is None:
+        return
+    check_object(report, board, BOARD.replace("gcc", ""))
+    pairs = {name: (compiled(report, room, f"{name}_here", f"{name}.c", library, ["-O2", "-D_GNU_SOURCE", "-pthread"]),
+                    compiled(report, room, f"{name}_board", f"{name}.c", board, ["-O2", "-D_GNU_SOURCE", "-pthread"], (BOARD, "-static", *STRICT)))
+             for name in ("answer", "turns", "uses", "lasting", "moved")}
+    texts = {path: text for name in report.examples() for path, text in report.texts(name).items() if text is not None}
+    report.expect("library: kinds of texts for ARM64", {b"table", b"stay", b"patrol"}, {text.split(b" ")[0] for text in texts.values()})
+    with ThreadPoolExecutor(os.cpu_count() or 1) as pool:
+        begun = list(pool.map(lambda named: check_text_of_board(report, room, *named, pairs), texts.items()))
+    report.holds("library: turns begin for ARM64", sum(begun) > 10, str(sum(begun)))
+    check_damaged_for_board(report, room, pairs)
+    for name, *words in (("uses", room / "cart.table"), ("moved", room / "cart.table"), ("lasting", room / "line.table", 10000)):
+        here, there = pairs[name]
+        report.expect(f"library: {name} for ARM64", ran(here, *words), ran(there, *words, before=[EMULATOR]))
+    held = compiled(report, room, "held_board", "held.c", board, ["-O2", "-D_GNU_SOURCE"], (BOARD, "-static", *STRICT))
+    for name, text in tables.items():
+        check_memory(report, room, name, text, held, [EMULATOR])
+    check_shared_for_board(report, room, board)
+    check_readme(report, room, board, (BOARD, "-static", *STRICT), [EMULATOR])
+    if shutil.which(BOARD_CXX) is None:
+        print(f"skipped: the header isn't read by C++ for ARM64, there is no {BOARD_CXX} (apt-get install g++-aarch64-linux-gnu)")
+        return
+    program = compiled(report, room, "header_board", "header.cpp", board, compiler=(BOARD_CXX, "-static", "-std=c++17", *STRICT[1:]))
+    report.expect("library: the header in C++ for ARM64", 0, ran(program, before=[EMULATOR])[0])
+
+
+def many_states(plant, count):
+    """States of the ranges, of their ends, past these, and at the ends of 64 bits."""
+    draws = random.Random(3)
+    states = []
+    for _ in range(count):
+        state = [draws.choice([low, high, *[draws.randint(low, high)] * 8]) for _, low, high, _ in plant.states]
+        if draws.random() < 0.1:
+            i = draws.randrange(len(state))
+            state[i] = draws.choice([plant.states[i][1] - 1, plant.states[i][2] + 1, -2 ** 63, 2 ** 63 - 1])
+        states.append(state)
+    return states
+
+
+def check_text_of_board(report, room, name, text, pairs):
+    """A text's answers and turns at many states; answers how many turns began."""
+    path, model = room / f"{name}.board", read_text(text)
+    path.write_bytes(text)
+    states = many_states(model.plant, MANY)
+    if model.kind != "table":
+        states[:0] = driven_states(model)
+    begun = 0
+    for program, (here, there) in pairs.items():
+        if program in ("answer", "turns"):
+            wanted = ran(here, path, data=lines_of(states))
+            report.expect(f"library: {program} of {name} for ARM64", (0, len(states) + 1), (wanted[0], wanted[1].count("\n")))
+            report.expect(f"library: {name} at {len(states)} states by {program} for ARM64", wanted, ran(there, path, data=lines_of(states), before=[EMULATOR]))
+            begun = sum(line.startswith("1 ") for line in wanted[1].splitlines()) if program == "turns" else 0
+    return begun
+
+
+def check_damaged_for_board(report, room, pairs):
+    """Texts that are refused, with the line, and texts of which a byte was changed, cut off or doubled."""
+    draws, damaged = random.Random(4), [text.replace(old, new, 1).encode() for text, old, new, *_ in DAMAGED]
+    for text in ((room / "line.table").read_bytes(), STAY.encode(), PATROL.encode()):
+        for _ in range(FEW):
+            at = draws.randrange(len(text))
+            damaged.append(draws.choice([text[:at], text[:at] + bytes([draws.choice(b" -0129\n\0\xffe")]) + text[at + 1:], text[:at] + text[at:at + 1] * 2 + text[at + 1:]]))
+    said = []
+    for number, text in enumerate(damaged):
+        path = room / "damaged.board"
+        path.write_bytes(text)
+        said.append(ran(pairs["turns"][0], path, data="7\n"))
+        report.expect(f"library: damaged text {number} for ARM64", said[-1], ran(pairs["turns"][1], path, data="7\n", before=[EMULATOR]))
+    report.holds("library: damaged texts are refused, and some are texts", sum("open 1 line" in output for _, output, _ in said) > len(said) / 2
+                 and any(status == 0 for status, *_ in said), str(len(said)))
+
+
+def check_shared_for_board(report, room, board):
+    """A program that the shared object answers, where the C library for ARM64 lies beside the compiler."""
+    root = Path("/usr") / BOARD.replace("-gcc", "")
+    if not (root / "lib/libc.so.6").exists():
+        print(f"skipped: the shared object isn't run for ARM64, there is no {root}/lib/libc.so.6")
+        return
+    done = subprocess.run([BOARD, *STRICT, "-O2", f"-I{report.top}/include", report.top / "tests/library/answer.c", f"-L{board}", "-lgaffcurrant", "-o", room / "shared_board"],
+                          capture_output=True, check=False)
+    report.expect("library: a program of the shared object for ARM64 is compiled", (0, b""), (done.returncode, done.stderr[:300]))
+    answer = ran(room / "shared_board", room / "line.table", data="7\n", before=[EMULATOR, "-L", root, "-E", f"LD_LIBRARY_PATH={board}"])
+    report.expect("library: the shared object for ARM64 at 7", (0, ["1 2 3", "each the same"], ""), split(answer))
 
 
 def check_python(report, room, library, text):

@@ -30,11 +30,14 @@ class Held(ctypes.Structure):
 
 
 def library_path() -> Optional[str]:
-    """The shared object: what GAFFCURRANT_LIBRARY names, else the one of the repository in which this module lies, where it is built."""
+    """The shared object: what GAFFCURRANT_LIBRARY names, else the one of the repository in which this module lies, where it is built, else the one that
+    was installed with the module."""
     if named := os.environ.get("GAFFCURRANT_LIBRARY"):
         return named
-    built = HERE.parents[1] / "crates/controller_c/out/libgaffcurrant.so"
-    return str(built) if built.is_file() else None
+    for built in (HERE.parents[1] / "crates/controller_c/out/libgaffcurrant.so", HERE.parents[1] / "libgaffcurrant.so"):
+        if built.is_file():
+            return str(built)
+    return None
 
 
 def library_at(path: str) -> ctypes.CDLL:

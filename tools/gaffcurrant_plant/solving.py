@@ -29,12 +29,15 @@ class Sample(NamedTuple):
 
 def program() -> str:
     """The program: what GAFFCURRANT names, else the launcher of the repository in which this module lies or from which it was installed, which
-    builds it where that is due, else `gaffcurrant` as the shell finds it."""
+    builds it where that is due, else the one that was installed with the module, else `gaffcurrant` as the shell finds it."""
     if named := os.environ.get("GAFFCURRANT"):
         return named
     origin = HERE / "scripts" / "ORIGIN"
     top = Path(origin.read_text().strip()) if origin.exists() else HERE.parents[1]
-    return str(top / "gaffcurrant") if (top / "gaffcurrant").exists() else shutil.which("gaffcurrant") or "gaffcurrant"
+    for launcher in (top / "gaffcurrant", HERE.parents[2] / "bin" / "gaffcurrant"):
+        if launcher.is_file():
+            return str(launcher)
+    return shutil.which("gaffcurrant") or "gaffcurrant"
 
 
 def scale(model_text: Union[str, bytes], version: Optional[int] = None) -> str:

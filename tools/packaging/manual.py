@@ -1,0 +1,121 @@
+"""Writes manual pages: of a program by what its --help prints, of the C library by its header."""
+
+import re
+
+
+class Pages:
+    """Pages of one version, for the programs gaffcurrant-NAME by their names: each method answers them as texts by their files' names."""
+
+    def __init__(self, version, date, programs):
+        self.version, self.date = version, date
+        self.programs = programs
+
+    def title(self, name, section):
+        return f'.TH {plain(name.upper())} {section} "{self.date}" "gaffcurrant {self.version}" "Gaffcurrant"'
+
+    def of_installed(self, text):
+        """A text that names programs of the repository names those that are installed."""
+        return re.sub(rf"\btools/({'|'.join(self.programs)})\b", r"gaffcurrant-\1", text).replace("./gaffcurrant", "gaffcurrant")
+
+    def launcher(self, forms):
+        """The page of the program, by its forms."""
+        head, *rest = forms.rstrip("\n").split("\n")
+        pairs = [re.split(r" {2,}", line.strip(), maxsplit=1) for line in rest if line.startswith("  ")]
+        lines = [self.title("gaffcurrant", 1), ".SH NAME", f"gaffcurrant {DASH} synthesises table controllers for plants; the program is proved", ".SH SYNOPSIS"]
+        lines += separated([plain(form) for form, _ in pairs], ".br")
+        lines += [".SH DESCRIPTION", "The program was proved before it was built; docs/CLAIM.md says what of it is proved.", "It has these forms."]
+        for form, what in pairs:
+            lines += [".TP", f".B {plain(form)}", plain(what[0].upper() + what[1:] + ".")]
+        lines += [".PP", *(plain(line) for line in rest if not line.startswith("  "))]
+        return {"gaffcurrant.1": joined(lines + see_also([*(f"gaffcurrant-{name}(1)" for name in self.programs), "gaffcurrant(3)"]))}
+
+    def tool(self, name, help_text):
+        """The page of a program of tools/."""
+        usage, about, *rest = self.of_installed(help_text).rstrip("\n").split("\n\n")
+        usage = usage.replace("usage: ", "").replace("\n" + " " * len("usage: "), "\n" + " " * len("gaffcurrant-"))
+        name = f"gaffcurrant-{name}"
+        about = " ".join(about.split())
+        first, _, more = about.partition(". ")
+        lines = [self.title(name, 1), ".SH NAME", plain(f"{name} ") + DASH + plain(f" {lowered(first.rstrip('.'))}"), ".SH SYNOPSIS", *verbatim(f"gaffcurrant-{usage}")]
+        if more:
+            lines += [".SH DESCRIPTION", plain(more)]
+        while rest and re.match(r"(positional arguments|options|optional arguments):\n", rest[0]):
+            lines += [f".SH {'ARGUMENTS' if rest[0].startswith('positional') else 'OPTIONS'}", *options(rest.pop(0))]
+        if rest:
+            lines += [".SH NOTES", *verbatim("\n\n".join(rest))]
+        return {f"{name}.1": joined(lines + see_also(["gaffcurrant(1)"]))}
+
+    def library(self, header):
+        """A page of the whole header, and one of each call, by the comment that stands before it."""
+        whole, *_ = re.match(r"/\* gaffcurrant\.h: (.*?)\*/", header, re.DOTALL).groups()
+        calls = re.findall(r"^/\* ((?:(?!\*/).)*)\*/\n((?:int32_t|void) (gaffcurrant_\w+)\([^;]*\);)", header, re.DOTALL | re.MULTILINE)
+        answers = re.findall(r"^#define (GAFFCURRANT_\w+) +(\(?-?\d+\)?) */\* (.*?) \*/$", header, re.MULTILINE)
+        struct = re.search(r"^/\* (A controller: .*?)\*/\n(struct gaffcurrant \{.*?\};)", header, re.DOTALL | re.MULTILINE)
+        names = [name for *_, name in calls]
+        first, *rest = paragraphs(whole)
+        lines = [self.title("gaffcurrant", 3), ".SH NAME", f"gaffcurrant {DASH} {plain(first.rstrip('.'))}", ".SH SYNOPSIS", *verbatim("#include <gaffcurrant.h>"), ".PP",
+                 *verbatim(struct.group(2)), ".PP", *verbatim("\n".join(call for _, call, _ in calls)), ".SH DESCRIPTION", *told(rest + paragraphs(struct.group(1))), ".SH ANSWERS"]
+        for name, number, what in answers:
+            lines += [".TP", f".B {plain(name)} {plain(number.strip('()'))}", plain(what)]
+        pages = {"gaffcurrant.3": joined(lines + see_also([f"{name}(3)" for name in names]))}
+        for comment, call, name in calls:
+            said = paragraphs(comment)
+            first = said[0].partition(". ")[0].rstrip(".")
+            pages[f"{name}.3"] = joined([self.title(name, 3), ".SH NAME", f"{plain(name)} {DASH} {plain(lowered(first))}", ".SH SYNOPSIS", *verbatim("#include <gaffcurrant.h>"),
+                                         ".PP", *verbatim(call), ".SH DESCRIPTION", *told(said), *see_also(["gaffcurrant(3)"])])
+        return pages
+
+
+# What stands between a name and what it is.
+DASH = "\\-"
+
+
+def plain(text):
+    """Text as troff prints it: backslashes, signs that it would make others of, and lines that it would take for its own."""
+    text = text.replace("\\", "\\e").replace("-", "\\-").replace("`", "\\(ga").replace("'", "\\(aq").replace("^", "\\(ha").replace("~", "\\(ti")
+    return re.sub(r"^(?=\.)", r"\\&", text, flags=re.MULTILINE)
+
+
+def verbatim(text):
+    return [".nf", *(plain(line) for line in text.split("\n")), ".fi"]
+
+
+def lowered(text):
+    return text[0].lower() + text[1:]
+
+
+def separated(lines, between):
+    return [part for line in lines for part in (between, line)][1:]
+
+
+def joined(lines):
+    return "\n".join(lines) + "\n"
+
+
+def see_also(others):
+    return [".SH SEE ALSO", ", ".join(plain(other) for other in others)] if others else []
+
+
+def options(part):
+    """The arguments of a --help, one after another, each with what it says of it."""
+    lines = []
+    for line in part.split("\n")[1:]:
+        entry = re.match(r"  (\S.*?)(?: {2,}(.*))?$", line)
+        if entry and not line.startswith("   "):
+            lines += [".TP", f".B {plain(entry.group(1))}", *([plain(entry.group(2))] if entry.group(2) else [])]
+        elif line.strip():
+            lines.append(plain(line.strip()))
+    return lines
+
+
+def paragraphs(comment):
+    """The paragraphs of a comment; a line that begins with `- ` begins one too."""
+    text = "\n".join(line.strip() for line in comment.split("\n"))
+    return [" ".join(part.split()) for part in re.split(r"\n\n|\n(?=- )", text) if part.strip()]
+
+
+def told(parts):
+    lines = []
+    for part in parts:
+        lines += [".IP \\(bu 2", plain(part[2:])] if part.startswith("- ") else [".PP", plain(part)]
+    return lines

@@ -1,0 +1,71 @@
+"""The page PROOF: what was proved, of which sources, by which kit, and what that rests on."""
+
+import hashlib
+import re
+from pathlib import Path
+
+import verdicts
+from tree import TOP
+
+ROOTS = ("synth_cli", "controller_c")
+FILES = ("gaffcurrant", "libgaffcurrant.a", "libgaffcurrant.so")
+LACKING = "no line: an earlier run proved the same files over the same libraries, and what it printed isn't kept"
+
+PAGE = """# What was proved
+
+| | |
+|---|---|
+| version | {about.version} |
+| commit | {about.commit} |
+| kit | {about.kit} |
+| logic | {logic} |
+
+share/doc/gaffcurrant/docs/CLAIM.md says what the proofs mean, what is tested alone, and what is neither.
+
+## Files
+
+Sums (SHA-256) of what was built of the proved crates:
+
+{files}
+
+## Verdicts
+
+The last line that the kit's prover printed of each crate, in `rt ci`, which proves from nothing. `functions` counts those that were proved. A word with
+`=trusted` names what was taken as it was built: the kit's logic, and the libraries below, whose own lines stand here.
+
+{verdicts}
+
+For the processors, whose files stand above:
+
+{built}
+
+## What is trusted
+
+{trusted}
+{runtime}
+## What this page rests on
+
+It was written by the program that made the files, on the machine on which the crates were proved. Nothing signs it, and no part of it can be checked
+without the kit. With the kit, `./gaffcurrant --archive FOLDER` in a clone of the commit proves and builds all of it again.
+"""
+RUNTIME = """- On ARM64 the C lines that stand in for the kit's own: for the heap (tools/runtime/heap.c), and in the program for its arguments and errno
+  (tools/runtime/arguments.c); Debian's compiler and glibc for ARM64. What threads share is read and written by sequentially consistent steps of the
+  compiler; that the processor orders them so is trusted.
+"""
+
+
+def page(about, made, processors, lines):
+    """The page of what lies in made/PROCESSOR, with the verdict lines of the crates by their names."""
+    names = verdicts.needed(Path(), ROOTS)
+    logs = {processor: [path.read_text() for path in sorted((made / processor).glob("*.log"))] for processor in processors}
+    said = [(processor, line) for processor in processors for log in logs[processor] for line in log.splitlines() if line.startswith("logic=")]
+    logic = re.search(r"^logic \S+: (.*)$", logs[processors[0]][0], re.M)
+    sums = [f"{hashlib.sha256((made / processor / name).read_bytes()).hexdigest()}  {name} ({processor})" for processor in processors for name in FILES]
+    trusted = re.search(r"^## What is trusted\n\n(.*)", (TOP / "docs/CLAIM.md").read_text(), re.M | re.S).group(1).split("\n## ")[0].strip()
+    return PAGE.format(about=about, logic=logic.group(1) if logic else "not told", files=indented(sums), trusted=trusted,
+                       verdicts=indented(f"{name} {lines.get(name, LACKING)}" for name in names),
+                       built=indented(f"{processor} {line}" for processor, line in said), runtime=RUNTIME if "aarch64" in processors else "")
+
+
+def indented(lines):
+    return "\n".join(f"    {line}" for line in lines)

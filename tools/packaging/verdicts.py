@@ -1,0 +1,110 @@
+"""Keeps the verdict line of each crate, as the kit's gate prints it, by a sum of what the verdict is about: the kit, the crate's files, and those of the
+crates below. The gate prints no line of a crate that an earlier run proved, so its line of then is kept here. In a folder with crates.txt:
+
+    rt ci | verdicts.py keep FILE      hands on what `rt ci` prints, and puts the lines of crates whose files haven't changed meanwhile into the file
+    verdicts.py lacking FILE           prints the crates whose line isn't in the file"""
+
+import hashlib
+import os
+import re
+import subprocess
+import sys
+from pathlib import Path
+
+PARTS = ("src", "specs", "proofs")
+# Lines of older sources stay in the file, for whoever goes back to these, up to so many.
+MOST = 1000
+
+
+def kit():
+    """The kit's own line, or None where there is none."""
+    try:
+        return subprocess.run(["rt", "version"], stdin=subprocess.DEVNULL, capture_output=True, check=False).stdout.decode().strip() or None
+    except OSError:
+        return None
+
+
+def crates(top):
+    """The crates of crates.txt, lowest first: each one's line, and the crates that it names."""
+    lines = [line for line in (top / "crates.txt").read_text().splitlines() if line.strip() and not line.startswith("#")]
+    named = {line.split(":")[0].split()[0]: line for line in lines}
+    return {name: (line, [below for below in line.split(":", 1)[1].split() if below in named]) for name, line in named.items()}
+
+
+def needed(top, roots):
+    """The names of these crates and of all below, lowest first."""
+    found, known = set(), crates(top)
+    for name in reversed(known):
+        if name in roots or name in found:
+            found |= {name, *known[name][1]}
+    return [name for name in known if name in found]
+
+
+def sums(top):
+    """By each crate's name a sum of what a verdict on it is about."""
+    found = {}
+    every = repr((kit(), (top / "HANDLES").read_text()))
+    for name, (line, below) in crates(top).items():
+        folder = top / "crates" / name
+        files = sorted(path for part in PARTS for path in (folder / part).rglob("*") if path.is_file())
+        own = [(str(path.relative_to(folder)), hashlib.sha256(path.read_bytes()).hexdigest()) for path in files]
+        found[name] = hashlib.sha256(repr((every, line, own, [found[one] for one in below])).encode()).hexdigest()
+    return found
+
+
+def said(log):
+    """The verdict lines of a log of `rt ci`, by the crates' names."""
+    found, name, verdict = {}, None, None
+    for line in log.splitlines():
+        if line.startswith("== "):
+            name, verdict = line[3:], None
+        elif line.startswith("logic="):
+            verdict = line
+        elif verdict and line == f"rt: {name} proved":
+            found[name] = verdict
+    return found
+
+
+def kept(file):
+    """The lines of the file, by name and sum."""
+    lines = file.read_text().splitlines() if file.exists() else []
+    return {tuple(line.split(" ", 2)[:2]): line.split(" ", 2)[2] for line in lines if re.fullmatch(r"\w+ [0-9a-f]{64} logic=proved .*", line)}
+
+
+def known(top, file):
+    """The verdict lines of the crates as they stand."""
+    lines = kept(file)
+    return {name: lines[name, sum_of] for name, sum_of in sums(top).items() if (name, sum_of) in lines}
+
+
+def keep(top, file, log):
+    """Hands on the lines of a log, and keeps the verdicts."""
+    before, lines = sums(top), []
+    for line in log:
+        sys.stdout.write(line)
+        sys.stdout.flush()
+        lines.append(line)
+    verdicts, after = said("".join(lines)), sums(top)
+    new = {(name, before[name]): verdict for name, verdict in verdicts.items() if name in before and before[name] == after.get(name)}
+    if new:
+        old = {key: line for key, line in kept(file).items() if key not in new}
+        written = file.with_name(f"{file.name}.{os.getpid()}")
+        written.write_text("".join(f"{name} {of_files} {line}\n" for (name, of_files), line in list((old | new).items())[-MOST:]))
+        written.replace(file)
+
+
+def main(words):
+    if len(words) != 2 or words[0] not in ("keep", "lacking"):
+        print(__doc__)
+        return 2
+    top, file = Path(), Path(words[1])
+    if words[0] == "keep":
+        sys.stdin.reconfigure(errors="replace")
+        keep(top, file, sys.stdin)
+        return 0
+    print("\n".join(name for name in crates(top) if name not in known(top, file)), end="")
+    return 0
+
+
+if __name__ == "__main__":
+    sys.exit(main(sys.argv[1:]))
