@@ -1,5 +1,4 @@
 """The C library: over the examples' texts its answers are those of the text's rows, of `sim` and of control.c, by both compilers' libraries, and by Python;
-"""The C library: over the examples' texts its answers are those of the text's rows, of `sim` and of control.c, by both compilers' libraries, and by Python;
 its memory is constant, its wrong uses are answered as include/gaffcurrant.h tells, and sanitizers and valgrind find nothing. Which next states follow is
 that of the module's boxes; the stack of the deepest texts, the calls of malloc, the version and the statuses are those that the header tells. Built for
 ARM64 it answers under an emulator as it does here."""
