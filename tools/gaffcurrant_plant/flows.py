@@ -31,8 +31,8 @@ class Flow:
     """The right sides of the states' equations, the ranges of all variables, and the steps of a sample: polynomials has for each state that of a
     step, course for each step the ends of what these leave out, and of the states behind it."""
 
-    def __init__(self, model, maths, order, count):
-        self.model, self.maths, self.order, self.count = model, maths, order, count
+    def __init__(self, model, maths, order, count, block):
+        self.model, self.maths, self.order, self.count, self.block = model, maths, order, count, block
         self.time, self.found = model.sample / count, {}
         self.names = [state[0] for state in model.states]
         self.sides = model.flows
@@ -46,6 +46,17 @@ class Flow:
         self.polynomials = [self.polynomial(i, name) for i, name in enumerate(self.names)]
         self.slopes = [[derivative(node, name) for name in self.names] for node in self.polynomials]
         self.course = [tuple(map(self.hulls, zip(*step))) for step in zip(*map(self.course_from, self.areas()))]
+
+    def nodes(self, step, before):
+        """The formulas of the states behind a step, where others stand for those behind the step before; of those of the block since the sample's
+        beginning."""
+        time = self.time * step
+        return [self.block.node(name, time) if name in self.block else replaced(node, before) for name, node in zip(self.names, self.polynomials)]
+
+    def rests(self, step):
+        """For each state the ends of what its formula behind a step leaves out."""
+        rests, time = self.course[step - 1][0], self.time * step
+        return [self.block.rest(name, time) if name in self.block else rest for name, rest in zip(self.names, rests)]
 
     def along(self, node):
         """The derivative of a node along the solutions."""

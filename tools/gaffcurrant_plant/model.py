@@ -12,6 +12,7 @@ from .halfplane import HalfPlane
 from .linear import add_linear_system
 from .polynomial import Fault, number_of
 from .reader import MOST, NAME, NO_NAMES, VALUES
+from .refused import Failure
 
 
 # Parts of a cell where the unit is chosen by itself: an odd number of which a decimal width has decimal parts.
@@ -53,6 +54,9 @@ def at_line(number):
         if number is None or str(trouble).startswith("line "):
             raise
         raise Trouble(f"line {number}: {trouble}", trouble.status) from None
+    except Failure as failure:
+        failure.model_line = failure.model_line or number
+        raise
 
 
 def read_model(data):
