@@ -7,6 +7,7 @@ from fractions import Fraction
 from . import polynomial
 from .command import Trouble
 from .curves import intervals
+from .expression import NODES
 from .flows import Flow, held_names
 from .formula import is_smooth, value_of
 from .linear import Block
@@ -17,10 +18,12 @@ from .refused import Failure
 
 # Straight pieces that are tried, most first: as many as a lut has, and as many as fit into an equation.
 PIECES = {1: (8, 7, 6, 5, 4, 3, 2), 2: (31, 24, 16, 10, 6)}
-# Orders of the Taylor polynomial that are tried, and how many steps of a sample: more where what the polynomials leave out is more than this
-# share of a cell, as long as the boxes become less by this factor. So do polynomials about the middles of the ranges.
-ORDERS, STEPS = (1, 2, 3), (2, 3, 4)
-WIDE, WORTH, SIMPLER = Fraction(1, 4), Fraction(9, 10), Fraction(19, 20)
+# Orders of the Taylor polynomial that are tried, the last one where what the others leave out is much of a cell; and how many steps of a sample: more
+# where that is so, as long as the boxes become less by a factor. So do polynomials about the middles of the ranges.
+ORDERS, LAST, STEPS = (1, 2, 3), 4, (2, 3, 4)
+WORTH, SIMPLER = Fraction(9, 10), Fraction(19, 20)
+# Boxes in which the domain is looked at, and the most input vectors for which it is each time: at first, and again for the planting that is chosen.
+COARSE, FINE = (96, 12), (288, 64)
 
 
 def planted(model):
@@ -42,36 +45,49 @@ class Chooser:
     def __init__(self, model):
         self.model, self.best, self.tried = model, None, []
         self.block = Block(model) if model.flows else None
+        # Whether polynomials as they are, and those about the middles of the ranges, are tried.
+        self.forms = [False, True]
 
     def chosen(self):
         """The best planting, whose text tells what else was tried."""
-        model = self.model
-        if not model.flows or self.block.is_whole():
-            self.take("", None)
+        if not self.model.flows or self.block.is_whole():
+            self.take("as the equations are", None)
         else:
-            self.take_orders(self.orders(), model.steps or 1)
-            for steps in () if model.steps else STEPS:
-                if not self.best or not self.best.is_rest_wide() or not self.take_finer(steps):
-                    break
+            self.take_samplings()
         if not self.best:
             raise self.tried[0][1]
-        self.best.tell(self.words_of_best(), [(words, one) for words, one in self.tried if one is not self.best])
+        if self.best.flow and self.best.is_rest_wide():
+            self.sharpen()
+        if self.model.flows or self.best.room.is_nested:
+            self.best.tell(self.words_of_best(), [pair for pair in self.tried if pair[1] is not self.best])
         return self.best
 
-    def orders(self):
-        """The orders of the Taylor polynomial that the model allows."""
+    def take_samplings(self):
+        """Tries the orders and the steps that the model allows."""
         model = self.model
-        return [model.order] if model.order else ORDERS if all(is_smooth(node, held_names(model)) for node in model.flows) else ORDERS[:1]
+        is_free = not model.order and all(is_smooth(node, held_names(model)) for node in model.flows)
+        orders = ORDERS if is_free else [model.order or ORDERS[0]]
+        self.take_orders(orders, model.steps or 1)
+        if is_free and (not self.best or self.best.is_rest_wide()):
+            self.take_orders([LAST], model.steps or 1)
+        for steps in () if model.steps else STEPS:
+            if not self.best or not self.best.is_rest_wide() or not self.take_finer(steps):
+                break
 
     def words_of_best(self):
         return next(words for words, one in self.tried if one is self.best)
 
     def take_finer(self, steps):
-        """Tries one step more; whether the boxes become less by enough."""
+        """Tries one step more, by the orders that may fit; whether the boxes become less by enough."""
         before = self.best
-        orders = [order for order in self.orders() if order in (before.flow.order - 1, before.flow.order)]
-        self.take_orders(orders, steps, WORTH)
+        orders = [before.flow.order - 1] * (before.flow.order > 1 and not self.model.order) + [before.flow.order]
+        self.take_orders([order for order in orders if self.may_fit(order, steps)], steps, WORTH)
         return self.best is not before
+
+    def may_fit(self, order, steps):
+        """Whether an expression of so many steps may have few enough nodes, by what those of one step have: each names the ones before it."""
+        plantings = [one for _, one in self.tried if isinstance(one, Planting) and (one.flow.order, one.flow.count) == (order, 1)]
+        return not plantings or min(one.nodes_in(steps) for one in plantings) <= 2 * NODES
 
     def take_orders(self, orders, steps, worth=1):
         """Tries orders in so many steps; another planting is kept where its boxes are less than the best one's by a factor."""
@@ -88,9 +104,13 @@ class Chooser:
 
     def take(self, words, flow, bound=None):
         """Tries one sampling, with polynomials as they are and, where there are products, about the middles of the ranges."""
-        plain = self.tried_with(words, flow, False)
-        nested = self.tried_with(words + ", about the middles" if words else "about the middles", flow, True) if plain and plain.is_curved() or not plain and not self.model.denominator else None
-        found = nested if not plain or nested and box_size(nested) <= SIMPLER * box_size(plain) else plain
+        plain = self.tried_with(words, flow, False) if False in self.forms else None
+        may_be_nested = plain.is_curved() if plain else not self.model.denominator
+        nested = self.tried_with(f"{words}, about the middles", flow, True) if may_be_nested else None
+        if plain and nested and box_size(nested) <= SIMPLER * box_size(plain):
+            # Polynomials of more terms do no better as they are.
+            self.forms, plain = [True], None
+        found = plain or nested
         if found and (bound is None or box_size(found) <= bound) and (not self.best or box_size(found) < box_size(self.best)):
             self.best = found
 
@@ -103,16 +123,27 @@ class Chooser:
         self.tried.append((words, planting))
         return planting
 
+    def sharpen(self):
+        """Makes the best planting once more, with what its formulas leave out looked at in more and smaller boxes."""
+        best = self.best
+        try:
+            sharper = with_pieces(self.model, flow_of(self.model, best.flow.order, best.flow.count, self.block, FINE), self.block, best.room.is_nested)
+        except Failure:
+            return
+        if box_size(sharper) < box_size(best):
+            self.best = sharper
+            self.tried = [(words, sharper if one is best else one) for words, one in self.tried]
+
 
 FLOWS = {}
 
 
-def flow_of(model, order, steps, block):
+def flow_of(model, order, steps, block, boxes=COARSE):
     """The Flow of a model by an order and in steps, which doesn't rest on its cells: the same one is made once."""
     key = (*(tuple(state[:3]) for state in model.states), *((name, tuple(values)) for name, _, values in model.inputs), *map(tuple, model.noises),
-           *model.flows, model.sample, order, steps)
+           *model.flows, model.sample, order, steps, boxes)
     if key not in FLOWS:
-        FLOWS[key] = Flow(model, intervals(), order, steps, block)
+        FLOWS[key] = Flow(model, intervals(), order, steps, block, boxes)
     return FLOWS[key]
 
 

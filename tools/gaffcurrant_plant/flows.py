@@ -17,7 +17,7 @@ from .sampling import SYSTEM, too_long
 
 # How far a measurement may be beside its real value, in units of the state, as by the rounding of doubles.
 BESIDE = Fraction(1, 1000)
-MOST_BOXES, MOST_TRIALS, TERMS, FASTEST, HALVINGS = 96, 30, 24, 100, 12
+MOST_TRIALS, TERMS, FASTEST, HALVINGS = 30, 24, 100, 12
 TINY = Fraction(1, 10 ** 12)
 # In how many parts a box for a step is looked for, one after the other.
 PARTS = (1, 4, 16)
@@ -31,7 +31,7 @@ class Flow:
     """The right sides of the states' equations, the ranges of all variables, and the steps of a sample: polynomials has for each state that of a
     step, course for each step the ends of what these leave out, and of the states behind it."""
 
-    def __init__(self, model, maths, order, count, block):
+    def __init__(self, model, maths, order, count, block, boxes):
         self.model, self.maths, self.order, self.count, self.block = model, maths, order, count, block
         self.time, self.found = model.sample / count, {}
         self.names = [state[0] for state in model.states]
@@ -45,7 +45,7 @@ class Flow:
             self.derivatives.append([self.along(node) for node in self.derivatives[-1]])
         self.polynomials = [self.polynomial(i, name) for i, name in enumerate(self.names)]
         self.slopes = [[derivative(node, name) for name in self.names] for node in self.polynomials]
-        self.course = [tuple(map(self.hulls, zip(*step))) for step in zip(*map(self.course_from, self.areas()))]
+        self.course = [tuple(map(self.hulls, zip(*step))) for step in zip(*map(self.course_from, self.areas(*boxes)))]
 
     def nodes(self, step, before):
         """The formulas of the states behind a step, where others stand for those behind the step before; of those of the block since the sample's
@@ -117,14 +117,14 @@ class Flow:
         low, high = self.maths.ends(self.value(state, node, box, known))
         return max(high, Fraction(0)) if signed else max(abs(low), abs(high))
 
-    def areas(self):
+    def areas(self, most_boxes, most_vectors):
         """The domain in boxes, with each input vector, or with the inputs' ranges where these are too many."""
         maths, model = self.maths, self.model
         choices = [[(value, value) for value in values] for _, _, values in model.inputs]
-        if math.prod(map(len, choices)) > 12:
+        if math.prod(map(len, choices)) > most_vectors:
             choices = [[(min(values), max(values))] for _, _, values in model.inputs]
         vectors = list(itertools.product(*choices))
-        parts = max(1, int((MOST_BOXES / len(vectors)) ** (1 / len(model.states))))
+        parts = max(1, int((most_boxes / len(vectors)) ** (1 / len(model.states))))
         ranges = [(low - BESIDE * unit, high + BESIDE * unit) for _, low, high, _, unit in model.states]
         cuts = [[(low + (high - low) * k / parts, low + (high - low) * (k + 1) / parts) for k in range(parts)] for low, high in ranges]
         noises = {name: maths.between(low, high) for name, low, high in model.noises}

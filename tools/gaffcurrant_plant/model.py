@@ -274,7 +274,7 @@ def read_goal(model, rest):
 
 
 # The least and the greatest number behind a keyword.
-CHOICES = {"version": (1, 2), "order": (1, 3), "steps": (1, 8), "pieces": (2, 31)}
+CHOICES = {"version": (1, 2), "order": (1, 4), "steps": (1, 8), "pieces": (2, 31)}
 # Keywords of lines in which parameters may stand for numbers.
 WITH_NUMBERS = ("denominator", "sample", "state", "input", "noise", "target", "obstacle", "A", "B", "c", "w")
 KEYWORDS = ("version", "param", "exact", "wrap", "denominator", "pieces", "sample", "order", "steps", "state", "input", "noise", "unit", "next", "target", "obstacle",

@@ -108,6 +108,14 @@ class Planting:
         """Whether a polynomial leaves out much beside a cell."""
         return any(high - low > WIDE * state[3] for step in range(self.flow.count) for state, (low, high) in zip(self.model.states, self.flow.rests(step + 1)))
 
+    def nodes_in(self, steps):
+        """How many nodes the longest expression would have with so many steps, each like this one."""
+        own = [sum(1 for _ in expression.walk(node)) for node in self.plant.equations]
+        nodes = own
+        for _ in range(steps - 1):
+            nodes = [one + sum(count * nodes[at] for at, count in uses.items() if at < len(nodes)) for one, uses in zip(own, self.plant.uses)]
+        return max(nodes)
+
     def is_curved(self):
         """Whether polynomials may be about the middles of the ranges: where an equation has products of what varies, and the model gives no denominator."""
         return not self.model.denominator and self.room.has_products
@@ -146,7 +154,7 @@ class Planting:
         """Says in the text what was chosen, and what else was tried with which noise."""
         if not tried:
             return
-        lines = [f"# chosen: {chosen}", *(f"#   tried: {words}: {one.noise_said() if isinstance(one, Planting) else one.said()}"[:200] for words, one in tried)]
+        lines = [f"# chosen: {chosen}", *(f"#   tried: {words}: {one.noise_said() if isinstance(one, Planting) else reason_of(one)}" for words, one in tried)]
         at = self.text.index("\nplant ")
         self.text = self.text[:at] + "".join(f"\n{line}" for line in lines) + self.text[at:]
 
@@ -202,6 +210,11 @@ class Planting:
             added_by = "the model's noises and sampling add" if self.flow else "the model's noises add"
             lines.append(f"#   the quotient leaves at most {said(equation.left_over())}, {added_by} {low} to {high}: {ends[0]} to {ends[1]}")
         return lines
+
+
+def reason_of(failure):
+    """Why something that was tried isn't, without the line."""
+    return re.sub(r"^(line \d+: )?(the plant would be refused, )?(in what becomes of this line: )?", "", " ".join(failure.said().split()))[:160]
 
 
 def denominator_of(model, room, equations):
