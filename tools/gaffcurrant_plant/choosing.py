@@ -31,12 +31,15 @@ def planted(model):
     try:
         with at_line(None):
             check_wraps(model)
-            return Chooser(model).chosen()
+            planting = Chooser(model).chosen()
     except Trouble:
         raise
     except Failure as failure:
         with at_line(failure.model_line):
             raise Trouble(f"the plant would be refused, {failure.said()}") from None
+    if model.goal == "reach" and all(keyword != "target" for keyword, _ in model.boxes):
+        raise Trouble("the model has `goal reach` and no `target` line, so there is nothing to reach: a line `target LO HI ..`, or `goal keep`, is due")
+    return planting
 
 
 class Chooser:

@@ -39,7 +39,7 @@ class Flow:
         middles = {name: number((low + high) / 2) for name, low, high in model.noises}
         self.held = [replaced(side, middles) for side in self.sides]
         if self.order > 1 and not all(is_smooth(side, held_names(model)) for side in self.sides):
-            raise Trouble("with min, max or abs a differential equation is sampled by order 1 alone")
+            raise Trouble(f"line {model.order_line}: with min, max, abs or lut of what varies a differential equation is sampled by order 1 alone")
         self.derivatives = [self.held]
         for _ in range(self.order):
             self.derivatives.append([self.along(node) for node in self.derivatives[-1]])

@@ -35,7 +35,8 @@ class Model:
         # Units' words; numbers by name; the states that come round, with the line that says so.
         self.words, self.parameters, self.wraps = {}, {}, {}
         # The line that is read, and those of the sampling time, the equations, the boxes and the variables.
-        self.line, self.sample_line, self.equation_lines, self.box_lines, self.variable_lines = 0, 0, [], [], {}
+        self.line, self.sample_line, self.order_line = 0, 0, 0
+        self.equation_lines, self.box_lines, self.variable_lines = [], [], {}
 
     def names(self):
         return [entry[0] for entry in self.states + self.inputs + self.noises]
@@ -289,6 +290,8 @@ def read_choice(model, keyword, rest):
     if value.denominator != 1 or not low <= value <= high:
         fail(f"`{keyword}` takes a whole number from {low} to {high}")
     setattr(model, keyword, int(value))
+    if keyword == "order":
+        model.order_line = model.line
 
 
 def numbers(words, count, form):

@@ -18,6 +18,8 @@ from .scaling import NEVER, Scaled, Terms
 from .units import decimal, exactly
 
 LIES = "a real value lies between its whole number and the next one"
+# Numbers of units up to which equations come.
+MOST = 10 ** 16
 # What is left out is much beside a cell from this share of it on.
 WIDE = Fraction(1, 4)
 
@@ -30,11 +32,22 @@ class Planting:
         self.model, self.flow, self.block, self.size = model, flow, block, None
         self.room = Room(model, pieces, is_nested)
         equations = self.sampled() if flow else self.straight()
+        for i, equation in enumerate(equations):
+            self.check_size(i, equation)
         self.denominator = denominator_of(model, self.room, equations)
         self.scaled = [self.scaled_of(*pair) for pair in zip(model.states, equations)]
         self.ranges = [self.noise_of(i, *pair) for i, pair in enumerate(zip(model.states, self.scaled))]
         self.text = self.plant_text()
         self.plant = self.read()
+
+    def check_size(self, i, equation):
+        """Raises Trouble where an equation comes to more units than a plant's numbers have."""
+        name, *_, unit = self.model.states[i]
+        low, high = self.room.range_of(equation)
+        if (most := max(-low, high)) >= MOST * unit:
+            with self.model.at_equation(i):
+                raise Trouble(f"the equation of {name} may come to {about(most)} over the ranges, {about(most / unit)} units of {name}, and {about(MOST)} are the "
+                              f"most; smaller factors, or narrower ranges of what stands in it, do it")
 
     def scaled_of(self, state, equation):
         """An equation in units, over the denominator that those without products have in common, or over one of its own."""
@@ -246,7 +259,9 @@ def noise_name(state, taken):
 def box_text(model, keyword, box):
     """A target holds the whole numbers whose unit lies in it, an obstacle those whose unit meets it."""
     words = [keyword]
-    for (low, high), (name, *_, unit) in zip(box, model.states):
+    for (low, high), (name, least, most, _, unit) in zip(box, model.states):
+        if keyword == "target" and (high <= least or low >= most):
+            raise Trouble(f"the target's {name}, {decimal(low)} to {decimal(high)}, is outside of the range of {name}, {decimal(least)} to {decimal(most)}")
         if keyword == "target":
             first, last = math.ceil(low / unit), math.floor(high / unit) - 1
         else:
@@ -256,6 +271,11 @@ def box_text(model, keyword, box):
                           f"which is {decimal(unit)}")
         words += [str(first), str(last)]
     return " ".join(words)
+
+
+def about(value):
+    """A number of any size in few digits."""
+    return f"{float(value):.3g}" if abs(value) < 10 ** 300 else "more than 10^300"
 
 
 def unit_said(model, name, unit):
