@@ -8,12 +8,12 @@ import threading
 import time
 from contextlib import contextmanager
 
-from .refused import Refused
+from .refused import Failure
 
 DEBIAN, DEBIAN_MODULES = "/usr/bin/python3", ("/usr/lib/python3/dist-packages", "/usr/local/lib/python3/dist-packages")
 
 
-class Trouble(Exception):
+class Trouble(Failure):
     """What is wrong, in one line, with the exit status."""
 
     def __init__(self, said, status=1):
@@ -124,8 +124,8 @@ def start(name, main):
         sys.stdout.flush()
     except Trouble as trouble:
         status = complain(name, str(trouble), trouble.status)
-    except Refused as refusal:
-        status = complain(name, f"{refusal.answer}: {refusal.reason}", 1)
+    except Failure as failure:
+        status = complain(name, failure.said(), 1)
     except BrokenPipeError:
         status = complain(name, "the reader of standard output has gone", 1)
     except OSError as error:

@@ -3,11 +3,12 @@ that state's equation alone, and the sum over all pairs of the products is taken
 
 import itertools
 
+from .refused import Failure
 
 WORK = 1_200_000
 
 
-class TooMuch(Exception):
+class TooMuch(Failure):
     """The count would take more than WORK products."""
 
 

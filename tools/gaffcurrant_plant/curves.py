@@ -13,7 +13,7 @@ from typing import NamedTuple
 
 from .command import Trouble
 from .formula import derivative, made, value_of
-from .maths import Floats, Intervals
+from .maths import Floats, Intervals, lut_ends, lut_value, slope_ends
 
 LOOKED = 400
 
@@ -42,7 +42,7 @@ class Argument(NamedTuple):
 @lru_cache(maxsize=4096)
 def curve_of(function, argument, pieces, said):
     """The Curve of a function; the same one is made once, for all plants that are tried."""
-    return Curve(function, intervals(), argument, pieces, said)
+    return Pieces(function[1], argument) if function[0] == "lut" else Curve(function, intervals(), argument, pieces, said)
 
 
 @lru_cache(maxsize=1)
@@ -110,6 +110,30 @@ class Curve:
         moved = product(slope, (self.error[0] * self.unit, self.error[1] * self.unit))
         total = combined(combined(chord, (min(ends), max(ends))), moved)
         return total[0] / self.unit_out, total[1] / self.unit_out
+
+
+class Pieces:
+    """What Curve has, of straight pieces that the model itself gives: real numbers, whose points lie on whole numbers or beside."""
+
+    def __init__(self, given, argument):
+        self.unit, self.error = argument.unit, argument.error
+        self.first, self.last = argument.low, max(argument.high, argument.low + 1)
+        low, high = (end * self.unit for end in (self.first + min(self.error[0], 0), self.last + max(self.error[1], 0)))
+        self.unit_out = unit_for(lut_ends(given, low, high))
+        inside = [x for x, _ in given if self.first * self.unit < x < self.last * self.unit]
+        places = sorted({self.first, self.last} | {round(x / self.unit) for x in inside})
+        self.points = [(x, round(lut_value(given, x * self.unit) / self.unit_out)) for x in places]
+        self.error_out = hull([self.piece_error(given, *pair) for pair in zip(self.points, self.points[1:])])
+
+    def piece_error(self, given, one, other):
+        """What (real value / unit_out - the piece's value) may be where the whole number lies between two points."""
+        (x, y), (next_x, next_y) = one, other
+        slope = Fraction(next_y - y, next_x - x)
+        places = [Fraction(x), Fraction(next_x)] + [at / self.unit for at, _ in given if x < at / self.unit < next_x]
+        ends = [lut_value(given, at * self.unit) / self.unit_out - (y + slope * (at - x)) for at in places]
+        slopes = slope_ends(given, (x + min(self.error[0], 0)) * self.unit, (next_x + max(self.error[1], 0)) * self.unit)
+        moved = product(slopes, tuple(end * self.unit / self.unit_out for end in self.error))
+        return combined((min(ends), max(ends)), moved)
 
 
 @lru_cache(maxsize=1024)

@@ -45,6 +45,8 @@ class Arrays(Floats):
 
     @staticmethod
     def call(function, value, _):
+        if function[0] == "lut":
+            return numpy.interp(value, *zip(*[map(float, point) for point in function[1]]))
         return getattr(numpy, OF_NUMPY.get(function, function))(value) if isinstance(function, str) else value ** float(function[1])
 
 

@@ -5,13 +5,15 @@ A node is a tuple whose first place is its kind: ('num', k), ('var', i), ('neg',
 
 import re
 
+from .refused import Failure
+
 NODES, DEPTH, BRACKETS, DIGITS = 256, 64, 64, 18
 FUNCTIONS = {"min": 2, "max": 2, "abs": 1, "lut": 1}
 FEWEST_POINTS, MOST_POINTS = 2, 32
 TOKEN = re.compile(r"[A-Za-z][A-Za-z0-9_]*|[0-9]+|.", re.DOTALL)
 
 
-class Fault(Exception):
+class Fault(Failure):
     """Why an expression isn't one, in words."""
 
 

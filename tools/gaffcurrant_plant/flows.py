@@ -17,7 +17,7 @@ from .sampling import SYSTEM, too_long
 
 # How far a measurement may be beside its real value, in units of the state, as by the rounding of doubles.
 BESIDE = Fraction(1, 1000)
-MOST_BOXES, MOST_TRIALS, TERMS, FASTEST, HALVINGS = 96, 30, 24, 100, 12
+MOST_TRIALS, TERMS, FASTEST, HALVINGS = 30, 24, 100, 12
 TINY = Fraction(1, 10 ** 12)
 # In how many parts a box for a step is looked for, one after the other.
 PARTS = (1, 4, 16)
@@ -31,21 +31,32 @@ class Flow:
     """The right sides of the states' equations, the ranges of all variables, and the steps of a sample: polynomials has for each state that of a
     step, course for each step the ends of what these leave out, and of the states behind it."""
 
-    def __init__(self, model, maths, order, count):
-        self.model, self.maths, self.order, self.count = model, maths, order, count
+    def __init__(self, model, maths, order, count, block, boxes):
+        self.model, self.maths, self.order, self.count, self.block = model, maths, order, count, block
         self.time, self.found = model.sample / count, {}
         self.names = [state[0] for state in model.states]
         self.sides = model.flows
         middles = {name: number((low + high) / 2) for name, low, high in model.noises}
         self.held = [replaced(side, middles) for side in self.sides]
         if self.order > 1 and not all(is_smooth(side, held_names(model)) for side in self.sides):
-            raise Trouble("with min, max or abs a differential equation is sampled by order 1 alone")
+            raise Trouble(f"line {model.order_line}: with min, max, abs or lut of what varies a differential equation is sampled by order 1 alone")
         self.derivatives = [self.held]
         for _ in range(self.order):
             self.derivatives.append([self.along(node) for node in self.derivatives[-1]])
         self.polynomials = [self.polynomial(i, name) for i, name in enumerate(self.names)]
         self.slopes = [[derivative(node, name) for name in self.names] for node in self.polynomials]
-        self.course = [tuple(map(self.hulls, zip(*step))) for step in zip(*map(self.course_from, self.areas()))]
+        self.course = [tuple(map(self.hulls, zip(*step))) for step in zip(*map(self.course_from, self.areas(*boxes)))]
+
+    def nodes(self, step, before):
+        """The formulas of the states behind a step, where others stand for those behind the step before; of those of the block since the sample's
+        beginning."""
+        time = self.time * step
+        return [self.block.node(name, time) if name in self.block else replaced(node, before) for name, node in zip(self.names, self.polynomials)]
+
+    def rests(self, step):
+        """For each state the ends of what its formula behind a step leaves out."""
+        rests, time = self.course[step - 1][0], self.time * step
+        return [self.block.rest(name, time) if name in self.block else rest for name, rest in zip(self.names, rests)]
 
     def along(self, node):
         """The derivative of a node along the solutions."""
@@ -106,14 +117,14 @@ class Flow:
         low, high = self.maths.ends(self.value(state, node, box, known))
         return max(high, Fraction(0)) if signed else max(abs(low), abs(high))
 
-    def areas(self):
+    def areas(self, most_boxes, most_vectors):
         """The domain in boxes, with each input vector, or with the inputs' ranges where these are too many."""
         maths, model = self.maths, self.model
         choices = [[(value, value) for value in values] for _, _, values in model.inputs]
-        if math.prod(map(len, choices)) > 12:
+        if math.prod(map(len, choices)) > most_vectors:
             choices = [[(min(values), max(values))] for _, _, values in model.inputs]
         vectors = list(itertools.product(*choices))
-        parts = max(1, int((MOST_BOXES / len(vectors)) ** (1 / len(model.states))))
+        parts = max(1, int((most_boxes / len(vectors)) ** (1 / len(model.states))))
         ranges = [(low - BESIDE * unit, high + BESIDE * unit) for _, low, high, _, unit in model.states]
         cuts = [[(low + (high - low) * k / parts, low + (high - low) * (k + 1) / parts) for k in range(parts)] for low, high in ranges]
         noises = {name: maths.between(low, high) for name, low, high in model.noises}

@@ -1,8 +1,8 @@
 """Real expressions of models: sums, products, quotients, powers, min, max, abs and functions; read from text, derived, evaluated.
 
 A node is a tuple whose first place is its kind: ('num', fraction), ('var', name), ('add', a, b), ('mul', a, b), ('call', function, a)
-with a function of CURVES or a power ('power', exponent), ('min', a, b), ('max', a, b), ('atan2', a, b), ('abs', a), ('sign', a). Nodes are made
-by `made`, each once, so that what stands more than once is worked out once."""
+with a function of CURVES, a power ('power', exponent), straight pieces ('lut', points) or their slope ('slope', points), ('min', a, b), ('max', a, b),
+('atan2', a, b), ('abs', a), ('sign', a). Nodes are made by `made`, each once, so that what stands more than once is worked out once."""
 
 import re
 from fractions import Fraction
@@ -14,6 +14,9 @@ OPEN = 64
 CURVES = ("sin", "cos", "tan", "asin", "acos", "atan", "sinh", "cosh", "tanh", "sqrt", "exp", "log")
 # Functions beside these, with how many arguments they take.
 OTHERS = {"abs": 1, "min": 2, "max": 2, "atan2": 2}
+# Functions that have numbers beside their name.
+WITH_NUMBERS = ("power", "lut", "slope")
+FEWEST_POINTS, MOST_POINTS = 2, 32
 PI = Fraction("3.14159265358979323846264338327950288419716939937510582097494")
 MOST_POWER, MOST_TOKENS = 12, 1000
 # Functions that are looked for, and what may stand in their place.
@@ -25,7 +28,7 @@ _MADE = {}
 
 def made(kind, *parts):
     """The node with this kind and these parts; equal nodes are one."""
-    key = kind, *(id(part) if isinstance(part, tuple) and part[0] != "power" else part for part in parts)
+    key = kind, *(id(part) if isinstance(part, tuple) and part[0] not in WITH_NUMBERS else part for part in parts)
     return _MADE.setdefault(key, (kind, *parts))
 
 
@@ -149,10 +152,12 @@ class _Reader:
             return number(PI)
         if token in CURVES or token in OTHERS:
             return self.called(token)
+        if token == "lut":
+            return self.lut()
         if not token[0].isalpha():
             raise Fault(f"`{token}` isn't expected")
         if self.peek() == "(":
-            raise Fault(f"the function `{token}` isn't known; there are {', '.join(CURVES + tuple(OTHERS))}" + INSTEAD.get(token.lower(), ""))
+            raise Fault(f"the function `{token}` isn't known; there are {', '.join(CURVES + tuple(OTHERS))}, lut" + INSTEAD.get(token.lower(), ""))
         raise Fault(f"`{token}` is no variable of this model; they are {', '.join(self.names)}")
 
     def called(self, name):
@@ -161,7 +166,22 @@ class _Reader:
         parts = self.bracketed(OTHERS.get(name, 1), name)
         return made(name, *parts) if name in OTHERS else made("call", name, parts[0])
 
-    def bracketed(self, count, opener):
+    def lut(self):
+        """Straight pieces between points: `lut(a, x0, y0, x1, y1, ..)`."""
+        if self.take() != "(":
+            raise Fault("behind `lut` an opening bracket is due")
+        argument, *numbers = self.listed()
+        if any(one[0] != "num" for one in numbers):
+            raise Fault("behind its first comma `lut` takes numbers, x and y of each point")
+        points = tuple(zip(*[iter(one[1] for one in numbers)] * 2))
+        if len(numbers) % 2 or not FEWEST_POINTS <= len(points) <= MOST_POINTS:
+            raise Fault(f"`lut(a, x0, y0, x1, y1, ..)` takes {FEWEST_POINTS} to {MOST_POINTS} points, two numbers each; here are {len(numbers)} numbers")
+        if any(one >= other for (one, _), (other, _) in zip(points, points[1:])):
+            raise Fault("the first numbers of the points of `lut` rise from point to point")
+        return made("call", ("lut", points), argument)
+
+    def listed(self):
+        """The expressions up to a closing bracket."""
         self.deeper()
         parts = [self.sum()]
         while self.peek() == ",":
@@ -169,9 +189,13 @@ class _Reader:
             parts.append(self.sum())
         if self.take() != ")":
             raise Fault("a bracket is left open")
+        self.open -= 1
+        return parts
+
+    def bracketed(self, count, opener):
+        parts = self.listed()
         if len(parts) != count:
             raise Fault(f"`{opener}` takes {count}, here are {len(parts)}")
-        self.open -= 1
         return parts
 
 
@@ -219,8 +243,8 @@ def names_of(node):
 
 
 def is_smooth(node, held=()):
-    """Whether it has no min, max and abs but of variables that are held."""
-    if node[0] in ("min", "max", "abs"):
+    """Whether it has no min, max, abs and lut but of variables that are held."""
+    if node[0] in ("min", "max", "abs") or node[0] == "call" and node[1][0] == "lut":
         return names_of(node) <= set(held)
     return all(is_smooth(part, held) for part in parts_of(node))
 
@@ -261,8 +285,11 @@ def derivative(node, name):
 
 def outer_derivative(function, a):
     """The derivative of a function at a node."""
-    if not isinstance(function, str):
+    if function[0] == "power":
         return mul(number(function[1]), power(a, function[1] - 1))
+    if not isinstance(function, str):
+        # The slope stays as it is along each piece.
+        return made("call", ("slope", function[1]), a) if function[0] == "lut" else ZERO
     square, itself = mul(a, a), made("call", function, a)
     return {
         "sin": lambda: made("call", "cos", a),
@@ -292,6 +319,8 @@ def text_of(node):
         return f"{parts[0]} - {parts[1][1:]}" if parts[1].startswith("-") else f"{parts[0]} + {parts[1]}"
     if kind == "mul":
         return f"-{factor_text(node[2])}" if node[1] == number(-1) else " * ".join(map(factor_text, node[1:]))
+    if kind == "call" and node[1][0] in ("lut", "slope"):
+        return f"{node[1][0]}({parts[0]}, {', '.join(f'{float(end):g}' for point in node[1][1] for end in point)})"
     if kind == "call" and not isinstance(node[1], str):
         return f"1 / {factor_text(node[2])}" if node[1][1] == -1 else f"{factor_text(node[2])}^{float(node[1][1]):g}"
     return f"{node[1] if kind == 'call' else kind}({', '.join(parts)})"

@@ -5,7 +5,7 @@ import re
 
 from .command import Trouble, read_bytes
 from .model import read_model
-from .planting import planted
+from .choosing import planted
 from .reader import Refused, read_plant
 
 # The comment of tools/scale on a state that its model calls exact.

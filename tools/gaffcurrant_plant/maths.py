@@ -1,6 +1,7 @@
 """The functions of formulas over real numbers, as floats, and over intervals that hold every value for sure, by mpmath's interval
 arithmetic (Debian: python3-mpmath)."""
 
+import bisect
 import math
 from fractions import Fraction
 
@@ -19,6 +20,28 @@ def load_mpmath():
         raise Trouble("functions and differential equations need mpmath; on Debian: apt-get install python3-mpmath") from None
     mpmath.iv.prec = 80
     return mpmath.iv
+
+
+def lut_value(points, value):
+    """The value of straight pieces between points: beyond them the first or the last one's."""
+    k = bisect.bisect_right(points, value, key=lambda point: point[0])
+    if k in (0, len(points)):
+        return points[min(k, len(points) - 1)][1]
+    (x, y), (next_x, next_y) = points[k - 1], points[k]
+    return y + (next_y - y) / (next_x - x) * (value - x)
+
+
+def lut_ends(points, low, high):
+    """The ends of the values of straight pieces from low to high."""
+    values = [lut_value(points, low), lut_value(points, high)] + [y for x, y in points if low < x < high]
+    return min(values), max(values)
+
+
+def slope_ends(points, low, high):
+    """The ends of the slopes of the straight pieces that meet what lies from low to high."""
+    slopes = [(next_y - y) / (next_x - x) for (x, y), (next_x, next_y) in zip(points, points[1:]) if x <= high and low <= next_x]
+    slopes += [Fraction(0)] * (low <= points[0][0] or high >= points[-1][0])
+    return min(slopes), max(slopes)
 
 
 class Floats:
@@ -48,7 +71,16 @@ class Floats:
 
     @staticmethod
     def call(function, value, _):
-        return getattr(math, function)(value) if isinstance(function, str) else value ** float(function[1])
+        """A function's value, no number where it has none."""
+        try:
+            if function[0] == "lut":
+                return float(lut_value(function[1], value))
+            if function[0] == "slope":
+                return float(slope_ends(function[1], value, value)[1])
+            found = getattr(math, function)(value) if isinstance(function, str) else value ** float(function[1])
+        except (ArithmeticError, ValueError):
+            return math.nan
+        return found if isinstance(found, float) else math.nan
 
 
 class Exact(Floats):
@@ -131,6 +163,8 @@ class Intervals:
 
     def call(self, function, value, argument):
         low, high = self.ends(value)
+        if function[0] in ("lut", "slope"):
+            return self.between(*(lut_ends if function[0] == "lut" else slope_ends)(function[1], low, high))
         name = function if isinstance(function, str) else f"power {function[1]}"
         is_whole = not isinstance(function, str) and function[1].denominator == 1
         if name in ("sqrt", "log") and low <= 0 or not isinstance(function, str) and (low <= 0 if not is_whole else low <= 0 <= high):

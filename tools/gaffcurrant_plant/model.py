@@ -12,6 +12,7 @@ from .halfplane import HalfPlane
 from .linear import add_linear_system
 from .polynomial import Fault, number_of
 from .reader import MOST, NAME, NO_NAMES, VALUES
+from .refused import Failure
 
 
 # Parts of a cell where the unit is chosen by itself: an odd number of which a decimal width has decimal parts.
@@ -34,7 +35,8 @@ class Model:
         # Units' words; numbers by name; the states that come round, with the line that says so.
         self.words, self.parameters, self.wraps = {}, {}, {}
         # The line that is read, and those of the sampling time, the equations, the boxes and the variables.
-        self.line, self.sample_line, self.equation_lines, self.box_lines, self.variable_lines = 0, 0, [], [], {}
+        self.line, self.sample_line, self.order_line = 0, 0, 0
+        self.equation_lines, self.box_lines, self.variable_lines = [], [], {}
 
     def names(self):
         return [entry[0] for entry in self.states + self.inputs + self.noises]
@@ -53,6 +55,9 @@ def at_line(number):
         if number is None or str(trouble).startswith("line "):
             raise
         raise Trouble(f"line {number}: {trouble}", trouble.status) from None
+    except Failure as failure:
+        failure.model_line = failure.model_line or number
+        raise
 
 
 def read_model(data):
@@ -270,7 +275,7 @@ def read_goal(model, rest):
 
 
 # The least and the greatest number behind a keyword.
-CHOICES = {"version": (1, 2), "order": (1, 3), "steps": (1, 8), "pieces": (2, 31)}
+CHOICES = {"version": (1, 2), "order": (1, 4), "steps": (1, 8), "pieces": (2, 31)}
 # Keywords of lines in which parameters may stand for numbers.
 WITH_NUMBERS = ("denominator", "sample", "state", "input", "noise", "target", "obstacle", "A", "B", "c", "w")
 KEYWORDS = ("version", "param", "exact", "wrap", "denominator", "pieces", "sample", "order", "steps", "state", "input", "noise", "unit", "next", "target", "obstacle",
@@ -285,6 +290,8 @@ def read_choice(model, keyword, rest):
     if value.denominator != 1 or not low <= value <= high:
         fail(f"`{keyword}` takes a whole number from {low} to {high}")
     setattr(model, keyword, int(value))
+    if keyword == "order":
+        model.order_line = model.line
 
 
 def numbers(words, count, form):

@@ -163,6 +163,8 @@ def real_tree(node, names):
         return [kind, float(node[1])]
     if kind == "var":
         return [kind, names.index(node[1])]
+    if kind == "call" and node[1][0] == "lut":
+        return ["lut", real_tree(node[2], names), *(float(end) for point in node[1][1] for end in point)]
     if kind == "call":
         function = ["call", node[1]] if isinstance(node[1], str) else ["power", float(node[1][1])]
         return [*function, real_tree(node[2], names)]

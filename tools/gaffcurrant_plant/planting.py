@@ -1,45 +1,66 @@
 """Makes the plant text of a model, with comments on its units and on what its noises bound."""
 
 import math
-import random
 import re
 from fractions import Fraction
 
-from . import expression, polynomial
+from . import expression
 from .bounds import span_of
 from .command import Trouble
-from .curves import intervals
-from .flows import BESIDE, Flow, held_names
-from .formula import is_smooth, replaced, value_of
-from .maths import Floats
+from .flows import BESIDE
 from .model import at_line, said
+from .nested import Nested
 from .polynomial import added
 from .reader import Refused, read_plant
-from .scaling import NEVER, Room, Scaled, Variable, no_denominator
+from .refused import Failure
+from .room import MOST_PLACES, Room, Variable, finest
+from .scaling import NEVER, Scaled, Terms
 from .units import decimal, exactly
 
-# Straight pieces that are tried, most first: as many as a lut has, and as many as fit into an equation.
-PIECES = {1: (8, 7, 6, 5, 4, 3, 2), 2: (31, 24, 16, 10, 6)}
-
-
-# Orders of the Taylor polynomial that are tried, and how many steps of a sample: more where what the polynomials leave out is more than this
-# share of a cell, as long as the boxes become less by this factor.
 LIES = "a real value lies between its whole number and the next one"
-ORDERS, STEPS = (1, 2, 3), (2, 3, 4)
-WIDE, WORTH = Fraction(1, 4), Fraction(9, 10)
+# Numbers of units up to which equations come.
+MOST = 10 ** 16
+# What is left out is much beside a cell from this share of it on.
+WIDE = Fraction(1, 4)
 
 
 class Planting:
-    """text: the plant text; plant: as it is read; ranges: the ends of each state's noise. flow: of differential equations."""
+    """text: the plant text; plant: as it is read; ranges: the ends of each state's noise; size: of its boxes, once that is known. flow: of differential
+    equations; block: those of them that are linear; is_nested: whether polynomials are about the middles of the ranges."""
 
-    def __init__(self, model, pieces, flow=None):
-        self.model, self.flow, self.room = model, flow, Room(model, pieces)
-        equations = self.sampled() if flow else [self.flattened(i, node) for i, node in enumerate(model.equations)]
+    def __init__(self, model, pieces, flow, block, is_nested):
+        self.model, self.flow, self.block, self.size = model, flow, block, None
+        self.room = Room(model, pieces, is_nested)
+        equations = self.sampled() if flow else self.straight()
+        for i, equation in enumerate(equations):
+            self.check_size(i, equation)
         self.denominator = denominator_of(model, self.room, equations)
-        self.scaled = [Scaled(self.room, equation, state[-1], self.denominator, state[0]) for equation, state in zip(equations, model.states)]
+        self.scaled = [self.scaled_of(*pair) for pair in zip(model.states, equations)]
         self.ranges = [self.noise_of(i, *pair) for i, pair in enumerate(zip(model.states, self.scaled))]
         self.text = self.plant_text()
         self.plant = self.read()
+
+    def check_size(self, i, equation):
+        """Raises Trouble where an equation comes to more units than a plant's numbers have."""
+        name, *_, unit = self.model.states[i]
+        low, high = self.room.range_of(equation)
+        if (most := max(-low, high)) >= MOST * unit:
+            with self.model.at_equation(i):
+                raise Trouble(f"the equation of {name} may come to {about(most)} over the ranges, {about(most / unit)} units of {name}, and {about(MOST)} are the "
+                              f"most; smaller factors, or narrower ranges of what stands in it, do it")
+
+    def scaled_of(self, state, equation):
+        """An equation in units, over the denominator that those without products have in common, or over one of its own."""
+        if self.room.form_of(equation) is Scaled:
+            return Scaled(Terms(self.room, equation, state[-1]), self.denominator, state[0])
+        return finest(self.room, equation, state[-1], state[0])
+
+    def straight(self):
+        """The equations of `next` lines, and of `d` lines that are all linear."""
+        model = self.model
+        if not model.flows:
+            return [self.flattened(i, node) for i, node in enumerate(model.equations)]
+        return [self.step_of(i, self.block.node(state[0], model.sample), self.block.rest(state[0], model.sample)) for i, state in enumerate(model.states)]
 
     def read(self):
         """The plant of the text; a refusal says to which line of the model it belongs, where it belongs to one."""
@@ -77,27 +98,40 @@ class Planting:
     def sampled(self):
         """The equations of the last step of a sample, in which variables stand for the states behind the step before. Each has a noise for what
         its polynomial leaves out."""
-        self.room.maths = self.flow.maths
-        before = {}
-        for step, (rests, ends) in enumerate(self.flow.course, 1):
-            equations = [self.step_of(i, node, rest) for i, (node, rest) in enumerate(zip(self.step_nodes(before), rests))]
-            if step < self.flow.count:
-                before = {state[0]: ("var", self.room.behind_step(state[0], step, state[-1], equation, end))
-                          for state, equation, end in zip(self.model.states, equations, ends)}
+        flow, before = self.flow, {}
+        for step, (_, ends) in enumerate(flow.course, 1):
+            equations = [self.step_of(i, *pair) for i, pair in enumerate(zip(flow.nodes(step, before), flow.rests(step)))]
+            if step < flow.count:
+                before = {state[0]: self.behind_step(i, step, equation, end)
+                          for i, (state, equation, end) in enumerate(zip(self.model.states, equations, ends))}
         return equations
 
-    def step_nodes(self, before):
-        return [replaced(node, before) for node in self.flow.polynomials]
+    def behind_step(self, i, step, equation, ends):
+        """The formula of a state behind a step."""
+        with self.model.at_equation(i):
+            return self.room.behind_step(self.model.states[i], step, equation, ends)
 
     def step_of(self, i, node, rest):
         """The polynomial of a state's step, with a noise for what it leaves out."""
-        noise = f"@rest {self.flow.names[i]}"
+        noise = f"@rest {self.model.states[i][0]}"
         self.room.variables[noise] = Variable("noise", Fraction(1), *rest)
         return added(self.flattened(i, node), {(noise,): Fraction(1)})
 
     def is_rest_wide(self):
         """Whether a polynomial leaves out much beside a cell."""
-        return any(high - low > WIDE * state[3] for rests, _ in self.flow.course for state, (low, high) in zip(self.model.states, rests))
+        return any(high - low > WIDE * state[3] for step in range(self.flow.count) for state, (low, high) in zip(self.model.states, self.flow.rests(step + 1)))
+
+    def nodes_in(self, steps):
+        """How many nodes the longest expression would have with so many steps, each like this one."""
+        own = [sum(1 for _ in expression.walk(node)) for node in self.plant.equations]
+        nodes = own
+        for _ in range(steps - 1):
+            nodes = [one + sum(count * nodes[at] for at, count in uses.items() if at < len(nodes)) for one, uses in zip(own, self.plant.uses)]
+        return max(nodes)
+
+    def is_curved(self):
+        """Whether polynomials may be about the middles of the ranges: where an equation has products of what varies, and the model gives no denominator."""
+        return not self.model.denominator and self.room.has_products
 
     def plant_text(self):
         model = self.model
@@ -117,6 +151,30 @@ class Planting:
                 lines.append(box_text(model, keyword, box))
         return "\n".join(lines + [f"goal {model.goal}", "end", ""])
 
+    def sampling_said(self):
+        """The comments on how differential equations are sampled, and on the form of polynomials."""
+        model, lines = self.model, []
+        if self.flow:
+            steps = f", in {self.flow.count} steps" if self.flow.count > 1 else ""
+            lines.append(f"# sampled with {said(model.sample)} by a Taylor polynomial of order {self.flow.order}{steps}")
+        linear = [state[0] for state in model.states if self.block and state[0] in self.block]
+        if linear:
+            lines.append(f"# sampled with {said(model.sample)} exactly: the linear equation{'s' * (len(linear) > 1)} of {', '.join(linear)}")
+        nested = [state[0] for state, equation in zip(model.states, self.scaled) if isinstance(equation, Nested)]
+        return lines + [f"# polynomials about the middles of the ranges: {', '.join(nested)}"] * bool(nested)
+
+    def tell(self, chosen, tried):
+        """Says in the text what was chosen, and what else was tried with which noise."""
+        if not tried:
+            return
+        lines = [f"# chosen: {chosen}", *(f"#   tried: {words}: {one.noise_said() if isinstance(one, Planting) else reason_of(one)}" for words, one in tried)]
+        at = self.text.index("\nplant ")
+        self.text = self.text[:at] + "".join(f"\n{line}" for line in lines) + self.text[at:]
+
+    def noise_said(self):
+        """The noise of each state, in units."""
+        return "a noise of " + ", ".join(f"{low} to {high} for {state[0]}" for state, (low, high) in zip(self.model.states, self.ranges))
+
     def wrapped(self, state, text):
         """The expression of a state that comes round. Of an exact one it is by a quotient. Else it is `lut` with a saw's teeth, of which each is as long
         as the range and one unit wide where it falls: so a box that lies within a turn is moved as it is, and one across the range's end becomes the
@@ -130,13 +188,17 @@ class Planting:
         area += [(int(min(values) / unit), int(max(values) / unit)) for _, unit, values in model.inputs]
         area += [ends for ends in self.ranges if ends != (0, 0)]
         names = model.names()[:len(model.states) + len(model.inputs)] + [one for one, ends in zip(self.noise_names, self.ranges) if ends != (0, 0)]
-        least, most = span_of(expression.parse(text.split(), names, model.version), area)
+        least, most = span_of(self.parsed(name, text, names), area)
         turns = range((least - first) // turn, (most - first) // turn + 1)
         if len(turns) * 2 > expression.MOST_POINTS:
             raise Trouble(f"line {model.wraps[name]}: `wrap {name}`: within a sample the state may come round {len(turns)} times, and "
                           f"{expression.MOST_POINTS // 2} are the most")
         points = [point for k in turns for point in ((first + k * turn, first), (first + (k + 1) * turn - 1, first + turn - 1))]
         return text if len(turns) == 1 else f"lut({text}, {', '.join(f'{x}:{y}' for x, y in points)})"
+
+    def parsed(self, name, text, names):
+        with at_line(self.model.equation_lines[[state[0] for state in self.model.states].index(name)]):
+            return expression.parse(text.split(), names, self.model.version)
 
     def comments(self, names):
         model = self.model
@@ -145,9 +207,7 @@ class Planting:
         lines += [unit_said(model, name, unit) for name, unit, _ in model.inputs]
         lines += [f"# a measured value may be a rounding beside, up to {said(BESIDE)} of a unit"] * any(name not in model.exact for name, *_ in model.states)
         lines.append(f"# coefficients are whole numbers over {self.denominator}")
-        if self.flow:
-            steps = f", in {self.flow.count} steps" if self.flow.count > 1 else ""
-            lines.append(f"# sampled with {said(model.sample)} by a Taylor polynomial of order {self.flow.order}{steps}")
+        lines += self.sampling_said()
         kinds = {self.room.variables[name].kind for name in self.room.curves.values()}
         if "listed" in kinds:
             lines.append("# functions of one input alone are taken at its listed values")
@@ -165,131 +225,27 @@ class Planting:
         return lines
 
 
-def planted(model):
-    """The plant of a model, its functions in as many pieces as fit; raises Trouble. Differential equations are sampled by the order and in the
-    steps, where the model gives none, whose boxes are the least beside the cells."""
-    check_wraps(model)
-    if not model.flows:
-        return with_pieces(model)
-    best = best_order(model, orders_of(model), model.steps or 1)
-    if model.steps:
-        return best
-    for steps in STEPS:
-        finer = finer_than(best, model, steps) if best.is_rest_wide() else None
-        if not finer:
-            break
-        best = finer
-    return best
-
-
-def finer_than(best, model, steps):
-    """The plant in so many steps where its boxes are less than those of another one by enough, else None."""
-    try:
-        finer = best_order(model, [order for order in orders_of(model) if order in (best.flow.order - 1, best.flow.order)], steps)
-    except Trouble:
-        return None
-    return finer if box_size(finer) <= WORTH * box_size(best) else None
-
-
-def orders_of(model):
-    """The orders of the Taylor polynomial that a model allows."""
-    return [model.order] if model.order else ORDERS if all(is_smooth(node, held_names(model)) for node in model.flows) else ORDERS[:1]
-
-
-def best_order(model, orders, steps):
-    """The plant of a model with differential equations, in so many steps, by the order whose boxes are the least beside the cells."""
-    found, faults = [], []
-    for order in orders:
-        try:
-            found.append(with_pieces(model, flow_of(model, order, steps)))
-        except Trouble as trouble:
-            faults.append(trouble)
-    if not found:
-        raise faults[0]
-    return min(found, key=box_size)
-
-
-def check_wraps(model):
-    """Whether the equations are the same a turn on for each state that comes round and isn't exact, at some random points by floats."""
-    draws = random.Random(1)
-    for name, line in model.wraps.items():
-        if name in model.exact:
-            continue
-        with at_line(line):
-            if model.version == 1:
-                raise Trouble(f"`wrap {name}` needs a plant of version 2, whose boxes lie within the spans")
-            (low, high), = [state[1:3] for state in model.states if state[0] == name]
-            for _ in range(20):
-                values = {one: float(least + (most - least) * draws.random()) for one, least, most, *_ in model.states + model.noises}
-                values |= {one: float(draws.choice(choices)) for one, _, choices in model.inputs}
-                ends = [sides_at(model, values | {name: float(end)}) for end in (low, high)]
-                check_turn(model, name, float(high - low), *ends)
-
-
-def sides_at(model, values):
-    """The right sides of all equations at a point, by floats."""
-    return [float(polynomial.value_of(side, values)) if isinstance(side, dict) else value_of(side, values, Floats)
-            for side in model.flows or model.equations]
-
-
-def check_turn(model, name, turn, before, after):
-    """Whether right sides a turn apart are the same, but for a turn that a `next` line itself adds to the state."""
-    for (state, *_), one, other in zip(model.states, before, after):
-        difference = other - one
-        turns = round(difference / turn) if state == name and not model.flows else 0
-        if abs(difference - turns * turn) > 1e-7 * max(1.0, abs(one)):
-            raise Trouble(f"`wrap {name}`: the equation of {state} isn't the same a turn, {turn:g}, on: it differs by {difference:.3g}. Count an angle in "
-                          "degrees or turns, as in cos(pi/180 * h) with h from -180 to 180")
-
-
-FLOWS = {}
-
-
-def flow_of(model, order, steps):
-    """The Flow of a model by an order and in steps, which doesn't rest on its cells: the same one is made once."""
-    key = (*(tuple(state[:3]) for state in model.states), *((name, tuple(values)) for name, _, values in model.inputs), *map(tuple, model.noises),
-           *model.flows, model.sample, order, steps)
-    if key not in FLOWS:
-        FLOWS[key] = Flow(model, intervals(), order, steps)
-    return FLOWS[key]
-
-
-def box_size(planting):
-    """The sum of the greatest deviations beside the widths of cells; of a state that comes round the noise's share of it."""
-    plant, wraps = planting.plant, planting.model.wraps
-    return sum((ends[1] - ends[0]) / 2 / state[3] if state[0] in wraps else
-               max(plant.bounds(i, vector)[2] for vector in range(plant.vectors)) / state[3]
-               for i, (state, ends) in enumerate(zip(plant.states, planting.ranges)))
-
-
-def with_pieces(model, flow=None):
-    """The plant with as many straight pieces as fit; raises Trouble."""
-    pieces = [model.pieces] if model.pieces else PIECES[model.version]
-    for number in pieces:
-        try:
-            return Planting(model, number, flow)
-        except Refused as refusal:
-            # The points of a lut are no nodes.
-            is_helped = refusal.answer == "limit: plant text" or model.version == 1 and "nodes" in refusal.reason
-            if number == pieces[-1] or not is_helped:
-                if refusal.model_line and refusal.line:
-                    raise Trouble(f"line {refusal.model_line}: the plant would be refused, in what becomes of this line: {refusal.reason}"
-                                  + "; coarser units help" * ("digits" in refusal.reason)) from None
-                with at_line(refusal.model_line):
-                    raise Trouble(f"the plant would be refused, {refusal.answer}: {refusal.reason}") from None
+def reason_of(failure):
+    """Why something that was tried isn't, without the line."""
+    return re.sub(r"^(line \d+: )?(the plant would be refused, )?(in what becomes of this line: )?", "", " ".join(failure.said().split()))[:160]
 
 
 def denominator_of(model, room, equations):
-    """The model's denominator, or the least power of ten whose rounding is at most a tenth of a unit."""
+    """The model's denominator; else the least power of ten over which no rounding is more than a tenth of a unit, or that of the least rounding."""
     if model.denominator:
         return model.denominator
-    for power in range(0, 16):
-        scaled = [Scaled(room, equation, state[-1], 10 ** power) for equation, state in zip(equations, model.states)]
-        if all(one.rounding <= Fraction(1, 10) for one in scaled):
-            return 10 ** power
-    worst = max(range(len(scaled)), key=lambda i: scaled[i].rounding)
-    with model.at_equation(worst):
-        raise Trouble(no_denominator(scaled[worst], f"the equation of {model.states[worst][0]}"))
+    plain = [Terms(room, equation, state[-1]) for equation, state in zip(equations, model.states) if room.form_of(equation) is Scaled]
+    best, least = 1, None
+    for places in range(MOST_PLACES + 1):
+        scaled = [Scaled(terms, 10 ** places) for terms in plain]
+        worst = max([one.rounding for one in scaled], default=Fraction(0))
+        if least is not None and not all(one.is_short() for one in scaled):
+            break
+        if least is None or worst < least:
+            best, least = 10 ** places, worst
+        if least <= Fraction(1, 10):
+            break
+    return best
 
 
 def noise_name(state, taken):
@@ -303,7 +259,9 @@ def noise_name(state, taken):
 def box_text(model, keyword, box):
     """A target holds the whole numbers whose unit lies in it, an obstacle those whose unit meets it."""
     words = [keyword]
-    for (low, high), (name, *_, unit) in zip(box, model.states):
+    for (low, high), (name, least, most, _, unit) in zip(box, model.states):
+        if keyword == "target" and (high <= least or low >= most):
+            raise Trouble(f"the target's {name}, {decimal(low)} to {decimal(high)}, is outside of the range of {name}, {decimal(least)} to {decimal(most)}")
         if keyword == "target":
             first, last = math.ceil(low / unit), math.floor(high / unit) - 1
         else:
@@ -313,6 +271,11 @@ def box_text(model, keyword, box):
                           f"which is {decimal(unit)}")
         words += [str(first), str(last)]
     return " ".join(words)
+
+
+def about(value):
+    """A number of any size in few digits."""
+    return f"{float(value):.3g}" if abs(value) < 10 ** 300 else "more than 10^300"
 
 
 def unit_said(model, name, unit):

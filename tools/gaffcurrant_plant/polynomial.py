@@ -5,8 +5,10 @@ A polynomial is a dict from a monomial to its coefficient; a monomial is the sor
 import re
 from fractions import Fraction
 
+from .refused import Failure
 
-class Fault(Exception):
+
+class Fault(Failure):
     """Why a text is no number or no formula, in words."""
 
 

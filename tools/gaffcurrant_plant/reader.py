@@ -5,7 +5,7 @@ import re
 
 from . import expression
 from .plant import Plant
-from .refused import Refused
+from .refused import Failure, Refused
 
 TEXT_LIMIT = 65536
 MOST = {"state": 6, "input": 3, "noise": 6, "target": 64, "obstacle": 64}
@@ -29,7 +29,7 @@ def too_long():
     return Refused("limit: plant text", f"the text has more than {TEXT_LIMIT} bytes")
 
 
-class Wrong(Exception):
+class Wrong(Failure):
     """Why a line doesn't fit, in words."""
 
 

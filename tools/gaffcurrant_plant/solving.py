@@ -43,7 +43,7 @@ def program() -> str:
 def scale(model_text: Union[str, bytes], version: Optional[int] = None) -> str:
     """The plant text of a model, as tools/scale makes it; raises Trouble where the model can't be read or scaled."""
     from .model import read_model
-    from .planting import planted
+    from .choosing import planted
     model = read_model(model_text.encode() if isinstance(model_text, str) else bytes(model_text))
     model.version = version or model.version
     planting = planted(model)

@@ -92,6 +92,8 @@ class Spans:
         return widened(numpy.minimum.reduce(corners), numpy.maximum.reduce(corners))
 
     def call(self, function, value, _):
+        if function[0] == "lut":
+            return pieces(function[1], value)
         if not isinstance(function, str):
             return self.power(function[1], value)
         if function in ("sin", "cos"):
@@ -113,6 +115,19 @@ class Spans:
             raise Trouble("a quotient's divisor, or what stands in a power, may be 0 on the way")
         ends = [value.low ** float(exponent), value.high ** float(exponent)]
         return widened(numpy.minimum(*ends), numpy.maximum(*ends))
+
+
+def pieces(points, value):
+    """Straight pieces between points: the values at the ends, and those of the points between."""
+    columns = [[float(end) for end in column] for column in zip(*points)]
+    low, high = (numpy.interp(end, *columns) for end in (value.low, value.high))
+    least, most = numpy.minimum(low, high), numpy.maximum(low, high)
+    for x, y in zip(*columns):
+        is_met = (value.low <= x) & (x <= value.high)
+        least, most = numpy.where(is_met, numpy.minimum(least, y), least), numpy.where(is_met, numpy.maximum(most, y), most)
+    # What is rounded is a difference of values too.
+    room = max(map(abs, columns[1])) * SHARE
+    return widened(least - room, most + room)
 
 
 def wave(function, value):

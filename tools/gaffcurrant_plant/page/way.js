@@ -10,8 +10,18 @@ const REALS = {
   atan2: (node, a, b) => (v) => Math.atan2(a(v), b(v)),
   abs: (node, a) => (v) => Math.abs(a(v)),
   call: (node, a) => (v) => Math[node[1]](a(v)),
+  lut: (node, a) => (v) => onPieces(node.slice(2), a(v)),
   power: (node, a) => (v) => Math.pow(a(v), node[1]),
 };
+
+/** The value of straight pieces between points, whose numbers are listed as x0, y0, x1, y1, ..; beyond them the first or the last one's. */
+function onPieces(numbers, x) {
+  let k = 0;
+  while (k < numbers.length && numbers[k] <= x) k += 2;
+  if (k === 0 || k === numbers.length) return numbers[k === 0 ? 1 : k - 1];
+  const [before, y, after, next] = numbers.slice(k - 2, k + 2);
+  return y + ((next - y) * (x - before)) / (after - before);
+}
 
 /** A function from the list of the model's variables to the value of a real expression. */
 function realFunction(node) {
