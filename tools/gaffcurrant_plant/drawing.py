@@ -1,6 +1,11 @@
 """Draws a table with matplotlib along one or two states: the cells' colours, targets, obstacles, runs and successor boxes."""
 
+import math
+from fractions import Fraction
+
 from .command import Trouble
+
+NAN = math.nan
 
 TARGET, OBSTACLE, RUN, BOX, PLAIN = "#d0006f", "#555555", "#111111", "#e06000", "#3b6ea5"
 COLUMNS, BOXES, NAMED, MARKED = 2000, 64, 16, 120
@@ -151,9 +156,47 @@ def draw_boxes(axes, view, turn=None):
     return entries
 
 
+class Course:
+    """The way of a run on the axes. places: of its samples, in the middles of their units; line: the points that are joined, NAN between the edges at
+    which a state that comes round leaves and comes in; ends: for each sample the number of its point."""
+
+    def __init__(self, view, cells, states):
+        self.places = along(view, cells, states)
+        periods = [view.period(place) for place in range(len(view.axes))] + [None] * (len(self.places) - len(view.axes))
+        ranges = [view.range(place) if period else None for place, period in enumerate(periods)]
+        samples, points, self.ends = list(zip(*self.places)), [], []
+        for number, sample in enumerate(samples):
+            if number:
+                for crossing in crossings(samples[number - 1], sample, periods, ranges):
+                    points += [crossing[0], (NAN,) * len(sample), crossing[1]]
+            self.ends.append(len(points))
+            points.append(sample)
+        self.line = [list(column) for column in zip(*points)]
+
+    def upto(self, sample):
+        """The line up to a sample."""
+        return [column[:self.ends[sample] + 1] for column in self.line]
+
+
+def crossings(start, end, periods, ranges):
+    """The points at which the way between two samples leaves the range of a state that comes round, each with that at which it comes in. The way is the
+    shorter one round."""
+    ways = [move if period is None else (move + period / 2) % period - period / 2 for move, period in zip((b - a for a, b in zip(start, end)), periods)]
+    cuts = []
+    for i, (way, span) in enumerate(zip(ways, ranges)):
+        if span and not span[0] <= start[i] + way <= span[1]:
+            edge = span[way > 0]
+            cuts.append(((edge - start[i]) / way, i))
+    shifts = [0.0] * len(start)
+    for share, i in sorted(cuts):
+        left = [a + share * way + shift for a, way, shift in zip(start, ways, shifts)]
+        shifts[i] -= math.copysign(periods[i], ways[i])
+        yield tuple(left), tuple(left[:i] + [ranges[i][ways[i] < 0]] + left[i + 1:])
+
+
 def along(view, cells, states):
     """The places of a run's states on the axes: the middles of their units."""
-    places = [[view.at(place, state[i] + 0.5) for state in states] for place, i in enumerate(view.axes)]
+    places = [[view.at(place, state[i] + Fraction(1, 2)) for state in states] for place, i in enumerate(view.axes)]
     if len(places) > 1:
         return places
     if view.plant.goal == "keep":
@@ -183,10 +226,11 @@ def draw_runs(axes, view, cells, runs, asked):
     style = dict(color=RUN, linewidth=0.9, marker="o", markersize=2.4, markeredgewidth=0)
     most = 1
     for states in runs:
-        places = along(view, cells, states)
+        course = Course(view, cells, states)
+        places = course.places
         every = -(-len(states) // MARKED)
         most = max(most, every)
-        axes.plot(*places, **style | {"marker": "", "linewidth": 0.9 if every == 1 else 0.6}, path_effects=halo(), zorder=5)
+        axes.plot(*course.line, **style | {"marker": "", "linewidth": 0.9 if every == 1 else 0.6}, path_effects=halo(), zorder=5)
         axes.plot(*places, **style | {"linewidth": 0, "markevery": every}, zorder=5)
         axes.plot(places[0][:1], places[1][:1], marker="s", markersize=5, markerfacecolor="white", markeredgecolor=RUN, zorder=6)
     label = "run, from the square" if asked == 1 else f"{asked} runs, from the squares"

@@ -90,8 +90,8 @@ def draw_edges(axes, view):
 def draw_solid_runs(axes, view, cells, runs):
     from matplotlib.lines import Line2D
     for states in runs:
-        places = drawing.along(view, cells, states)
-        axes.plot(*places, color=drawing.RUN, linewidth=1.2, zorder=30)
-        axes.plot(*(place[:1] for place in places), marker="s", markersize=5, markerfacecolor="white", markeredgecolor=drawing.RUN, zorder=31)
+        course = drawing.Course(view, cells, states)
+        axes.plot(*course.line, color=drawing.RUN, linewidth=1.2, zorder=30)
+        axes.plot(*(place[:1] for place in course.places), marker="s", markersize=5, markerfacecolor="white", markeredgecolor=drawing.RUN, zorder=31)
     label = "run, from the square" if len(runs) == 1 else f"{len(runs)} runs, from the squares"
     return [Line2D([], [], color=drawing.RUN, linewidth=1.2, label=label)] if runs else []
