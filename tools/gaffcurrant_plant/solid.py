@@ -14,7 +14,7 @@ def blocks_of(colouring, counts):
     """How many places a block has along each state, and for each block its colour's number and whether half of its cells have a row."""
     import numpy
     sizes = [-(-count // BLOCKS) for count in counts]
-    shown = colouring.shown.astype(float).filled(numpy.nan)
+    shown = colouring.numbers().astype(float).filled(numpy.nan)
     padded = numpy.full([-(-count // size) * size for count, size in zip(counts, sizes)], numpy.nan)
     padded[tuple(slice(count) for count in counts)] = shown
     shape = [number for count, size in zip(padded.shape, sizes) for number in (count // size, size)]
@@ -28,7 +28,6 @@ def blocks_of(colouring, counts):
 def draw_solid(figure, axes, view, colouring):
     """The blocks with a row but for the corner towards the viewer; answers the legend's entries."""
     import numpy
-    from matplotlib.patches import Patch
     counts = [view.plant.counts[i] for i in view.axes]
     sizes, numbers, filled = blocks_of(colouring, counts)
     halves = [size // 2 for size in filled.shape]
@@ -42,8 +41,8 @@ def draw_solid(figure, axes, view, colouring):
     for block, face in faces.items():
         face.set_zorder(1 + sum(part * (place + 0.5) / size for part, place, size in zip(towards_viewer(), block, filled.shape)))
     if colouring.is_named:
-        return [Patch(facecolor=palette(i), label=view.input_said(number)) for i, number in enumerate(colouring.present)]
-    drawing.draw_bar(figure, axes, (low, high), colouring.label(), not colouring.is_share, 0.12)
+        return colouring.entries()
+    drawing.draw_bar(figure, axes, (low, high), colouring.label(), colouring.is_whole(), 0.12)
     return []
 
 
