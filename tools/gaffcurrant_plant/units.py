@@ -63,6 +63,11 @@ class Units:
         return f"{name} = {short(whole * self.size(name))}{self.word(name)}"
 
 
+def units_of(model):
+    """The units of a model."""
+    return Units({state[0]: state[4] for state in model.states} | {name: unit for name, unit, _ in model.inputs}, model.words, model.exact)
+
+
 def short(value):
     """A fraction as a decimal number, of six digits where it isn't short."""
     said = decimal(value)
@@ -132,7 +137,7 @@ def read_units(path, data):
             model = read_model(data)
         except Trouble as trouble:
             raise Trouble(f"{path}: {trouble}", trouble.status) from None
-        return Units({state[0]: state[4] for state in model.states} | {name: unit for name, unit, _ in model.inputs}, model.words, model.exact)
+        return units_of(model)
     found = [found.groups() for found in map(COMMENT.match, lines) if found]
     exact = {line.split()[2] for line in lines if COMMENT.match(line) and line.endswith(BY_ITSELF)}
     if not found:
