@@ -71,7 +71,9 @@ def need(what, *modules):
 
 
 def is_there(module):
-    """Whether a module can be imported, and not only found."""
+    """Whether a module can be loaded; matplotlib, which makes a folder for its settings when it is, has to be found alone."""
+    if module == "matplotlib":
+        return importlib.util.find_spec(module) is not None
     try:
         importlib.import_module(module)
     except ImportError:

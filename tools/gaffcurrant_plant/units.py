@@ -81,10 +81,10 @@ def units_for(path, plant):
     """The units of a plant by the file that --model names, none without one; raises Trouble where it is of another plant."""
     if path is None:
         return Units()
-    units = read_units(path, read_bytes(path))
-    for name in [entry[0] for entry in plant.states + plant.inputs]:
-        if name not in units.sizes:
-            raise Trouble(f"{path}: it has no `{name}`, which the text's plant has; is it the model of another one?")
+    from .matching import check_variables_of
+    data = read_bytes(path)
+    units = read_units(path, data)
+    check_variables_of(path, data, plant)
     return units
 
 
