@@ -67,7 +67,7 @@ def need(what, *modules):
     prefer(*modules)
     if missing := [module for module in modules if not is_there(module)]:
         packages = " ".join(PACKAGES[module] for module in missing)
-        raise Trouble(f"{what} needs {' and '.join(missing)}; on Debian: apt-get install {packages}")
+        raise Trouble(f"{what} needs {', '.join(missing[:-1])}{' and ' * (len(missing) > 1)}{missing[-1]}; on Debian: apt-get install {packages}")
 
 
 def is_there(module):
