@@ -112,14 +112,15 @@ class Run(NamedTuple):
 
 
 def run_of(samples, units=None, plant=None):
-    """The Run of what `simulate` gives. With a plant's units states and inputs are in these: states at the middles of their units."""
+    """The Run of what `simulate` gives. With a plant's units states and inputs are in these: states at the middles of their units, what is a whole number by
+    itself as it is."""
     states = numpy.array([sample.state for sample in samples])
     wide = max((len(sample.inputs) for sample in samples if sample.inputs is not None), default=0)
     inputs = numpy.ma.masked_array([sample.inputs or (0,) * wide for sample in samples], [[sample.inputs is None] * wide for sample in samples])
     ranks, turns = (numpy.array([NONE if value is None else value for value in column]) for column in
                     ([sample.rank for sample in samples], [sample.turn for sample in samples]))
     if units:
-        states = (states + 0.5) * [float(units.size(name)) for name, *_ in plant.states]
+        states = (states + [0.5 * (name not in units.exact) for name, *_ in plant.states]) * [float(units.size(name)) for name, *_ in plant.states]
         inputs = inputs * numpy.array([float(units.size(name)) for name, _ in plant.inputs][:wide])
     return Run(numpy.array([sample.time for sample in samples]), states, ranks, inputs, turns)
 

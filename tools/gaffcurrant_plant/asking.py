@@ -6,8 +6,10 @@ import math
 from fractions import Fraction
 from typing import TYPE_CHECKING, Any, Iterable, Optional
 
+from .table import NoRow
+
 if TYPE_CHECKING:
-    from .table import Table
+    from .table import Patrol, Row, Table
     from .units import Units
 
 
@@ -31,12 +33,35 @@ class Real:
 
     def rank(self, state: Iterable[Any]) -> Optional[int]:
         """The number of samples that suffice from a real state, or None with goal keep; raises NoRow."""
-        return self.table.rank(self.whole(state))
+        return self.row(state)[0]
 
     def choice(self, state: Iterable[Any]) -> Optional[tuple[float, ...]]:
         """The values to apply at a real state, in the model's units, or None in a target; raises NoRow."""
-        values = self.table.choice(self.whole(state))
-        return None if values is None else tuple(float(value * self.units.size(name)) for value, (name, _) in zip(values, self.table.plant.inputs))
+        number = self.row(state)[1]
+        if number is None:
+            return None
+        plant = self.table.plant
+        return tuple(float(value * self.units.size(name)) for value, (name, _) in zip(plant.vector(number), plant.inputs))
+
+    def row(self, state: Iterable[Any]) -> Row:
+        """Rank and input of the row of a real state's cell; raises NoRow, which says the state in the model's units."""
+        whole, plant = self.whole(state), self.table.plant
+        row = self.table.rows.get(plant.cell_of(whole))
+        if row is None:
+            said = ", ".join(self.units.said(name, value) for (name, *_), value in zip(plant.states, whole))
+            raise NoRow(f"{said} has no row")
+        return row
+
+
+class RealPatrol:
+    """A patrol asked with real states. turns: a Real for each of its turns."""
+
+    def __init__(self, patrol: Patrol, units: Units) -> None:
+        self.patrol, self.turns = patrol, [Real(turn, units) for turn in patrol.turns]
+
+    def turn_after(self, number: int, state: Iterable[Any]) -> int:
+        """The turn after a sample in a real state: the next one where the state has come to the turn's target, else the same."""
+        return self.patrol.turn_after(number, self.turns[number].whole(state))
 
 
 def exact(value: Any) -> Fraction:

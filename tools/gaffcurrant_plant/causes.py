@@ -251,3 +251,55 @@ class Rounds:
             cell, vector = max(cuts, key=lambda cut: self.number[cut[0]])
             way.append((cell, vector))
         return way
+
+
+class Round:
+    """Why a patrol without rows has none. alone: for each target which of its cells can be left, and reached again for sure; cells: how many lie in it
+    whole and in no obstacle."""
+
+    def __init__(self, lost, progress=None):
+        self.lost, self.plant, self.progress = lost, lost.plant, progress
+        goals = [self.whole(box) for box in self.plant.targets]
+        self.cells = [int(numpy.count_nonzero(goal)) for goal in goals]
+        self.alone = [self.returning(goal) for goal in goals]
+
+    def whole(self, box):
+        """Which cells lie whole in a box, and in no obstacle."""
+        mask, ends = numpy.zeros(self.plant.counts, dtype=bool), zip(box, self.plant.states)
+        sides = [(-((least - max(low, least)) // width), (min(high, most) + 1 - least) // width) for (low, high), (_, least, most, width) in ends]
+        mask[tuple(slice(first, max(first, end)) for first, end in sides)] = True
+        return mask.reshape(-1) & ~self.lost.blocked
+
+    def returning(self, goal):
+        """Which cells of a goal have a strategy that leads back to such cells again and again, after a sample or more each time."""
+        while numpy.any(goal):
+            kept = goal & self.led(goal)
+            if numpy.array_equal(kept, goal):
+                break
+            goal = kept
+        return goal
+
+    def led(self, goal):
+        """Which cells have a strategy that leads into a goal for sure, after a sample or more."""
+        led, reached, new = numpy.zeros(self.plant.cells, dtype=bool), goal.copy(), goal
+        standing = numpy.flatnonzero(numpy.any(self.lost.fan > 0, axis=1))
+        while numpy.any(new):
+            met = self.lost.touching(standing, Sums(new, self.plant.counts))
+            inside = Sums(reached, self.plant.counts).over(self.lost.sides(met)) if len(met) else numpy.zeros((0, self.plant.vectors))
+            found = met[numpy.any((inside == self.lost.fan[met]) & (self.lost.fan[met] > 0), axis=1)]
+            led[self.lost.cells[found]] = True
+            new = led & ~reached
+            reached |= new
+            standing = numpy.setdiff1d(standing, found, assume_unique=True)
+            if self.progress:
+                self.progress.say("following the targets back")
+        return led
+
+    def first_without(self):
+        """The first target that can't be reached from itself, or None."""
+        return next((number for number, cells in enumerate(self.alone) if not numpy.any(cells)), None)
+
+    def first_apart(self):
+        """The first target from whose cells, of those that can be reached again, the next target's can't be reached, or None."""
+        behind = self.alone[1:] + self.alone[:1]
+        return next((number for number, (cells, others) in enumerate(zip(self.alone, behind)) if not numpy.any(cells & self.led(others))), None)

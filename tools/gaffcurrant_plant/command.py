@@ -1,6 +1,7 @@
 """What every program of tools/ does alike: its words, its input, its output, and one line for what is wrong."""
 
 import argparse
+import importlib
 import importlib.util
 import os
 import sys
@@ -10,6 +11,8 @@ from contextlib import contextmanager
 
 from .refused import Failure
 
+# Seconds from line to line of what takes long, off a terminal.
+EVERY = 10
 DEBIAN, DEBIAN_MODULES = "/usr/bin/python3", ("/usr/lib/python3/dist-packages", "/usr/local/lib/python3/dist-packages")
 
 
@@ -55,19 +58,37 @@ def is_in_debian(module):
     return any(os.path.isdir(os.path.join(folder, module)) for folder in DEBIAN_MODULES)
 
 
-def need_numpy(what):
-    """Goes over to a Python with numpy, or raises Trouble."""
-    prefer("numpy")
-    if not importlib.util.find_spec("numpy"):
-        raise Trouble(f"{what} needs numpy; on Debian: apt-get install python3-numpy")
+# What Debian calls the packages of modules.
+PACKAGES = {"numpy": "python3-numpy", "mpmath": "python3-mpmath", "matplotlib": "python3-matplotlib", "PIL": "python3-pil"}
+
+
+def need(what, *modules):
+    """Goes over to a Python that has some modules, or raises Trouble with the names of all that are missing."""
+    prefer(*modules)
+    if missing := [module for module in modules if not is_there(module)]:
+        packages = " ".join(PACKAGES[module] for module in missing)
+        raise Trouble(f"{what} needs {', '.join(missing[:-1])}{' and ' * (len(missing) > 1)}{missing[-1]}; on Debian: apt-get install {packages}")
+
+
+def is_there(module):
+    """Whether a module can be loaded; matplotlib, which makes a folder for its settings when it is, has to be found alone."""
+    if module == "matplotlib":
+        return importlib.util.find_spec(module) is not None
+    try:
+        importlib.import_module(module)
+    except ImportError:
+        return False
+    return True
 
 
 class Progress:
-    """How far something is that takes more than two seconds, or for how long it goes on, in one line on a terminal; nothing anywhere else."""
+    """How far something is that takes more than two seconds, or for how long it goes on, in one line on a terminal; anywhere else nothing, or where has_lines
+    says so a line every ten seconds."""
 
-    def __init__(self, name):
+    def __init__(self, name, has_lines=False):
         self.name, self.begun, self.told = name, time.monotonic(), 0.0
         self.is_on = sys.stderr is not None and sys.stderr.isatty()
+        self.has_lines = has_lines and sys.stderr is not None and not self.is_on
         self.is_shown = False
 
     def show(self, share):
@@ -77,9 +98,18 @@ class Progress:
             left = (now - self.begun) * (1 - share) / share if share > 0 else 0
             self.put(f"{share:.0%}, about {left:.0f} s left", now)
 
+    def say(self, said):
+        """Tells what goes on and for how long so far: some times a second on a terminal, elsewhere every ten seconds."""
+        now = time.monotonic()
+        if self.is_on and now - self.begun > 2 and now - self.told > 0.2:
+            self.put(f"{said}, {now - self.begun:.0f} s so far", now)
+        elif self.has_lines and now - max(self.begun, self.told) > EVERY:
+            self.told = now
+            print(f"{self.name}: {said}, {now - self.begun:.0f} s so far", file=sys.stderr, flush=True)
+
     def put(self, said, now):
         self.told, self.is_shown = now, True
-        print(f"\r{self.name}: {said} ", end="", file=sys.stderr, flush=True)
+        print(f"\r{self.name}: {said}\033[K", end="", file=sys.stderr, flush=True)
 
     @contextmanager
     def during(self, what):

@@ -1,9 +1,16 @@
 """Draws a table with matplotlib along one or two states: the cells' colours, targets, obstacles, runs and successor boxes."""
 
+import math
+from fractions import Fraction
+
 from .command import Trouble
 
+NAN = math.nan
+
 TARGET, OBSTACLE, RUN, BOX, PLAIN = "#d0006f", "#555555", "#111111", "#e06000", "#3b6ea5"
-COLUMNS, BOXES, NAMED, MARKED = 2000, 64, 16, 120
+COLUMNS, BOXES, MARKED = 2000, 64, 120
+# So many input vectors, or values of one input, have a colour each; more are a scale.
+NAMED, DISTINCT = 16, 10
 # Colours that can be told apart: up to seven also by the colour-blind (Okabe and Ito), past these sixteen.
 FEW = ("#56b4e9", "#e69f00", "#009e73", "#f0e442", "#0072b2", "#d55e00", "#cc79a7")
 MANY = ("#4363d8", "#f58231", "#3cb44b", "#ffe119", "#42d4f4", "#800000", "#f032e6", "#469990", "#9a6324", "#bfef45", "#911eb4",
@@ -23,12 +30,16 @@ def distinct(count):
 
 
 class Colouring:
-    """What the colour of a place tells: shown has its numbers, with those masked that have none."""
+    """What the colour of a place tells: the rank, the input vector, the value of one input (variable: its number, which is 0 where there is one alone), or
+    with goal keep the share that is kept. shown has its numbers, with those masked that have none, and known what the colours are of: few values or
+    vectors have a colour of their own each, which is_named tells."""
 
-    def __init__(self, cells, view, by_input):
+    def __init__(self, cells, view, by_input, variable=None):
         import numpy
+        self.view, self.plant = view, cells.plant
         self.ranks, inputs, self.won = cells.seen(view.axes, view.fixed)
         self.by_input = by_input or cells.plant.goal == "keep"
+        self.variable = 0 if self.by_input and len(self.plant.inputs) == 1 else variable
         self.is_share = cells.plant.goal == "keep" and not by_input and bool(view.projected())
         if self.is_share:
             share = cells.share(view.axes, view.fixed)
@@ -36,42 +47,79 @@ class Colouring:
         else:
             shown = inputs if self.by_input else self.ranks
             self.shown = numpy.ma.masked_where(~self.won | (shown < 0), shown)
-        self.present = [] if self.is_share else [int(value) for value in numpy.unique(self.shown.compressed())]
-        self.is_named = self.by_input and not self.is_share and len(self.present) <= NAMED
-        if self.is_named:
-            self.shown = numpy.ma.masked_array(numpy.searchsorted(self.present, self.shown.filled(0)), self.shown.mask)
+        if self.by_input and not self.is_share and self.variable is not None:
+            values = numpy.array([self.plant.vector(number)[self.variable] for number in range(self.plant.vectors)], dtype=float)
+            self.shown = numpy.ma.masked_array(values[self.shown.filled(0)], self.shown.mask)
+        self.present = [] if self.is_share else sorted(int(value) for value in numpy.unique(self.shown.compressed()))
+        self.take(self.present)
+
+    def take(self, vectors):
+        """Takes the input vectors of which one of all panels shows each, so that a colour means one vector in all of them."""
+        self.known = sorted(set(vectors)) if self.variable is None else sorted(set(self.plant.inputs[self.variable][1]))
+        self.is_named = self.by_input and not self.is_share and len(self.known) <= (NAMED if self.variable is None else DISTINCT)
+
+    def numbers(self):
+        """What is shown as numbers between the limits: of named values their places in the list."""
+        import numpy
+        if not self.is_named:
+            return self.shown * self.size()
+        return numpy.ma.masked_array(numpy.searchsorted(self.known, self.shown.filled(0)), self.shown.mask)
+
+    def size(self):
+        """What the number 1 of a scale stands for in the units of the picture."""
+        if self.variable is None or not self.by_input or self.is_share or not self.view.units.sizes:
+            return 1
+        return float(self.view.units.size(self.plant.inputs[self.variable][0]))
 
     def palette(self):
-        return distinct(len(self.present)) if self.is_named else sequence()
+        return distinct(len(self.known)) if self.is_named else sequence()
 
     def limits(self):
         """The least and the greatest number that has a colour."""
         if self.is_share:
             return 0, 1
         if self.is_named:
-            return 0, max(len(self.present) - 1, 1) if len(self.present) > 1 else 1
+            return 0, max(len(self.known) - 1, 1)
+        if self.by_input and self.variable is not None:
+            return self.known[0] * self.size(), self.known[-1] * self.size()
         return 0, max(self.present[-1] if self.present else 1, 1)
+
+    def is_whole(self):
+        """Whether a scale has whole numbers alone."""
+        return not self.is_share and self.size() == 1
 
     def label(self):
         if self.is_share:
             return "share that is kept"
+        if self.by_input and self.variable is not None:
+            return self.view.units.label(self.plant.inputs[self.variable][0])
         return "number of the input" if self.by_input else "rank: samples that suffice"
+
+    def entries(self):
+        """The legend's entries for the values or vectors that have a colour each, as far as they are shown."""
+        from matplotlib.patches import Patch
+        palette = self.palette()
+        return [Patch(facecolor=palette(place), label=self.said(value)) for place, value in enumerate(self.known) if value in self.present]
+
+    def said(self, value):
+        if self.variable is None:
+            return self.view.input_said(value)
+        return self.view.units.said(self.plant.inputs[self.variable][0], value)
 
 
 def draw_cells(figure, axes, view, colouring, equal=False):
     """The cells' colours; answers the legend's entries for few inputs, and draws a bar for all else."""
-    from matplotlib.patches import Patch
     palette, limits = colouring.palette(), colouring.limits()
     if len(view.axes) == 2:
-        axes.imshow(colouring.shown.T, origin="lower", aspect="auto", interpolation="nearest", cmap=palette, vmin=limits[0],
+        axes.imshow(colouring.numbers().T, origin="lower", aspect="auto", interpolation="nearest", cmap=palette, vmin=limits[0],
                     vmax=limits[1], extent=(*view.range(0), *view.range(1)), zorder=1)
     else:
         draw_columns(axes, view, colouring, palette, limits)
     if colouring.is_named:
-        return [Patch(facecolor=palette(i), label=view.input_said(number)) for i, number in enumerate(colouring.present)]
+        return colouring.entries()
     if colouring.present or colouring.is_share:
         if len(view.axes) == 2 or colouring.by_input:
-            draw_bar(figure, axes, limits, colouring.label(), not colouring.is_share, beside=equal)
+            draw_bar(figure, axes, limits, colouring.label(), colouring.is_whole(), beside=equal)
     return []
 
 
@@ -87,7 +135,7 @@ def draw_columns(axes, view, colouring, palette, limits):
     heights = numpy.where(colouring.won, numpy.maximum(colouring.ranks, 0) + 0.4 if has_heights else 1.0, 0.0)[chosen]
     span = (limits[1] - limits[0]) or 1
     is_plain = not colouring.by_input
-    colour = PLAIN if is_plain else palette((colouring.shown.filled(0)[chosen] - limits[0]) / span)
+    colour = PLAIN if is_plain else palette((colouring.numbers().filled(0)[chosen] - limits[0]) / span)
     axes.bar(at, heights, (end - low) / columns, align="edge", color=colour, linewidth=0, zorder=1)
 
 
@@ -151,9 +199,47 @@ def draw_boxes(axes, view, turn=None):
     return entries
 
 
+class Course:
+    """The way of a run on the axes. places: of its samples, in the middles of their units; line: the points that are joined, NAN between the edges at
+    which a state that comes round leaves and comes in; ends: for each sample the number of its point."""
+
+    def __init__(self, view, cells, states):
+        self.places = along(view, cells, states)
+        periods = [view.period(place) for place in range(len(view.axes))] + [None] * (len(self.places) - len(view.axes))
+        ranges = [view.range(place) if period else None for place, period in enumerate(periods)]
+        samples, points, self.ends = list(zip(*self.places)), [], []
+        for number, sample in enumerate(samples):
+            if number:
+                for crossing in crossings(samples[number - 1], sample, periods, ranges):
+                    points += [crossing[0], (NAN,) * len(sample), crossing[1]]
+            self.ends.append(len(points))
+            points.append(sample)
+        self.line = [list(column) for column in zip(*points)]
+
+    def upto(self, sample):
+        """The line up to a sample."""
+        return [column[:self.ends[sample] + 1] for column in self.line]
+
+
+def crossings(start, end, periods, ranges):
+    """The points at which the way between two samples leaves the range of a state that comes round, each with that at which it comes in. The way is the
+    shorter one round."""
+    ways = [move if period is None else (move + period / 2) % period - period / 2 for move, period in zip((b - a for a, b in zip(start, end)), periods)]
+    cuts = []
+    for i, (way, span) in enumerate(zip(ways, ranges)):
+        if span and not span[0] <= start[i] + way <= span[1]:
+            edge = span[way > 0]
+            cuts.append(((edge - start[i]) / way, i))
+    shifts = [0.0] * len(start)
+    for share, i in sorted(cuts):
+        left = [a + share * way + shift for a, way, shift in zip(start, ways, shifts)]
+        shifts[i] -= math.copysign(periods[i], ways[i])
+        yield tuple(left), tuple(left[:i] + [ranges[i][ways[i] < 0]] + left[i + 1:])
+
+
 def along(view, cells, states):
     """The places of a run's states on the axes: the middles of their units."""
-    places = [[view.at(place, state[i] + 0.5) for state in states] for place, i in enumerate(view.axes)]
+    places = [[view.at(place, state[i] + Fraction(1, 2)) for state in states] for place, i in enumerate(view.axes)]
     if len(places) > 1:
         return places
     if view.plant.goal == "keep":
@@ -183,10 +269,11 @@ def draw_runs(axes, view, cells, runs, asked):
     style = dict(color=RUN, linewidth=0.9, marker="o", markersize=2.4, markeredgewidth=0)
     most = 1
     for states in runs:
-        places = along(view, cells, states)
+        course = Course(view, cells, states)
+        places = course.places
         every = -(-len(states) // MARKED)
         most = max(most, every)
-        axes.plot(*places, **style | {"marker": "", "linewidth": 0.9 if every == 1 else 0.6}, path_effects=halo(), zorder=5)
+        axes.plot(*course.line, **style | {"marker": "", "linewidth": 0.9 if every == 1 else 0.6}, path_effects=halo(), zorder=5)
         axes.plot(*places, **style | {"linewidth": 0, "markevery": every}, zorder=5)
         axes.plot(places[0][:1], places[1][:1], marker="s", markersize=5, markerfacecolor="white", markeredgecolor=RUN, zorder=6)
     label = "run, from the square" if asked == 1 else f"{asked} runs, from the squares"

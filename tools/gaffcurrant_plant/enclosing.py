@@ -14,10 +14,18 @@ from .flows import BESIDE
 from .formula import polynomial_of, value_of
 from .polynomial import added
 from .spans import Span, Spans, around, down, up
+from .units import short, units_of
 
 # Substeps that are tried one after the other, each of the cells that the one before leaves, and the trials for a box.
 SUBSTEPS, TRIALS = (1, 4, 16), 12
 WIDER = 1 / 16
+# A box comes to rest where errors grow by less than this factor in a substep; cells at which that is looked at.
+AT_REST, SAMPLED = 0.8, 64
+# Cells along each state that are enclosed together, where these boxes are fewer than the cells by this factor; columns that are enclosed at once, so that
+# arrays stay in a processor's cache, and so few that aren't halved any more.
+SIZES, FEWER = (8, 4, 2), 2
+COLUMNS, FEWEST = 2 ** 14, 2 ** 8
+UNKNOWN = -1
 # More than the rounding of how many turns on a state that comes round is.
 ROUNDED = 2.0 ** -40
 
@@ -51,6 +59,34 @@ class Ways:
 
         polynomial = equation if isinstance(equation, dict) else polynomial_of(equation, named)
         return added(polynomial, {(name,): Fraction(-1)}), functions
+
+    def substeps(self, plant):
+        """The numbers of substeps that are tried: without those at which boxes can't be expected to come to rest."""
+        if not self.is_flow:
+            return SUBSTEPS
+        growth = float(self.model.sample) * self.growth(plant)
+        return [count for count in SUBSTEPS if growth <= AT_REST * count] or SUBSTEPS[-1:]
+
+    def growth(self, plant):
+        """About how fast errors grow at some cells: the spectral radius of the matrix of how much wider each slope is over cells that are wider in a state."""
+        draws = numpy.random.default_rng(1)
+        places = numpy.array([draws.integers(0, count, SAMPLED) for count in plant.counts])
+        lows = numpy.array([low for _, low, *_ in plant.states]).reshape(-1, 1) + places * numpy.array([state[3] for state in plant.states]).reshape(-1, 1)
+        highs = lows + numpy.array([state[3] - 1 for state in plant.states]).reshape(-1, 1)
+        inputs = {name: around(values[0]) for name, _, values in self.model.inputs} | self.noises
+        area, widths = self.areas(lows, highs), [float(state[3]) for state in self.model.states]
+        try:
+            before = self.sizes(area, inputs)
+            wider = [self.sizes(area[:j] + [Span(one.low - width, one.high + width)] + area[j + 1:], inputs) for j, (one, width) in enumerate(zip(area, widths))]
+        except Trouble:
+            return 0.0
+        rates = numpy.array([[numpy.max(after[i] - before[i]) / (2 * width) for after, width in zip(wider, widths)] for i in range(len(widths))])
+        return float(max(abs(numpy.linalg.eigvals(rates)))) if numpy.isfinite(rates).all() else 0.0
+
+    def sizes(self, area, values):
+        """How wide the slopes over an area are."""
+        slopes = [self.value(side, values | dict(zip(self.names, area))) for side in self.sides]
+        return [slope.high - slope.low for slope in slopes]
 
     def value(self, side, values):
         return self.sum_of(side, values) if isinstance(side, dict) else value_of(side, values, self.maths)
@@ -120,16 +156,37 @@ class Ways:
 
 
 class Walls:
-    """Where a way may not come: the obstacles as the model has them, and outside of its domain. What lies in them by no more than a measurement may be
-    beside isn't counted: so cells beside an obstacle don't touch it. A state that comes round meets an obstacle in each turn of its range."""
+    """Where a way may not come: the obstacles as the model has them, and outside of its domain where has_bounds says so. What lies in them by no more than a
+    measurement may be beside isn't counted: so cells beside an obstacle don't touch it. A state that comes round meets an obstacle in each turn of its range."""
 
-    def __init__(self, model):
+    def __init__(self, model, has_bounds=True):
         grazes = [unit * 2 * BESIDE for *_, unit in model.states]
         self.boxes = [[(around(low + graze).low, around(high - graze).high) for (low, high), graze in zip(box, grazes)]
                       for keyword, box in model.boxes if keyword == "obstacle"]
         self.ranges = [float(high - low) if name in model.wraps else None for name, low, high, *_ in model.states]
         self.domain = [(-numpy.inf, numpy.inf) if name in model.wraps else (around(low - graze).high, around(high + graze).low)
-                       for (name, low, high, *_), graze in zip(model.states, grazes)]
+                       for (name, low, high, *_), graze in zip(model.states, grazes)] if has_bounds else []
+        self.count = len(self.boxes) + 2 * len(self.domain)
+        self.model, self.units = model, units_of(model)
+
+    def name(self, number):
+        """A wall in words, by its number: an obstacle, or behind all of them a bound."""
+        at = number - len(self.boxes)
+        return f"obstacle {number + 1}" if at < 0 else f"the {('low', 'high')[at % 2]} bound of {self.model.states[at // 2][0]}"
+
+    def said(self, number):
+        """The same with where it lies, along the states that an obstacle doesn't take up whole."""
+        at = number - len(self.boxes)
+        if at >= 0:
+            name, *ends = self.model.states[at // 2][:3]
+            return f"{self.name(number)}, {short(ends[at % 2])}{self.units.word(name)}"
+        box = [box for keyword, box in self.model.boxes if keyword == "obstacle"][number]
+        ends = [f"{name} {short(low)} to {short(high)}{self.units.word(name)}" for (name, least, most, *_), (low, high) in zip(self.model.states, box) if low > least or high < most]
+        return self.name(number) + (f" ({', '.join(ends)})" if ends else "")
+
+    def met(self, box):
+        """For each obstacle, and behind them for each side of the domain, which columns of a box may touch it."""
+        return numpy.array(self.touched(box) + self.left(box)).reshape(self.count, -1)
 
     def touched(self, box):
         """For each obstacle which columns of a box may touch it."""
@@ -156,37 +213,94 @@ class Touch:
         self.cells, self.walls, self.lost, self.turn = cells, walls, lost, turn
 
 
-def touching(model, rows, turn=0):
-    """The Touch of a text's rows in a turn, by their inputs."""
-    plant, ways, walls = rows.plant, Ways(model), Walls(model)
-    cells, found, lost = [], [], []
-    for vector in range(plant.vectors):
-        todo = numpy.flatnonzero(rows.won[turn, :-1] & (rows.inputs[turn, :-1] == vector))
-        inputs = {name: value * unit for (name, unit, _), value in zip(model.inputs, plant.vector(vector))}
-        for count in SUBSTEPS:
-            if todo.size:
-                touches, known = touches_of(ways, walls, rows, todo, inputs, count)
-                kept = ~known | touches.any(axis=0)
-                todo, touches, known = todo[kept], touches[:, kept], known[kept]
-        if todo.size:
-            cells.append(todo)
-            found.append(touches)
-            lost.append(~known)
-    if not cells:
-        return Touch(numpy.zeros(0, dtype=int), numpy.zeros((len(walls.boxes) + 2 * len(plant.states), 0), dtype=bool), numpy.zeros(0, dtype=bool), turn)
-    order = numpy.argsort(numpy.concatenate(cells))
-    return Touch(numpy.concatenate(cells)[order], numpy.concatenate(found, axis=1)[:, order], numpy.concatenate(lost)[order], turn)
+class Looked:
+    """What the ways of pairs, of a cell and an input, may touch. Each pair is enclosed once, whichever tables have it as a row: first together with its
+    neighbours, and alone where these together may touch something. kinds: for each pair the number of what it may touch in `patterns`, whose first
+    is nothing, or UNKNOWN; a pattern tells of each wall, and behind them whether no enclosure was found."""
 
+    def __init__(self, model, plant, has_bounds=True, tell=lambda: None):
+        self.model, self.plant, self.tell = model, plant, tell
+        self.ways, self.walls = Ways(model), Walls(model, has_bounds)
+        self.counts = self.ways.substeps(plant)
+        self.kinds = numpy.full((plant.vectors, plant.cells), UNKNOWN, dtype=numpy.int32)
+        self.patterns = numpy.zeros((1, self.walls.count + 1), dtype=bool)
+        self.numbers = {numpy.packbits(self.patterns[0]).tobytes(): 0}
+        self.low, self.high, self.width = (numpy.array([state[k] for state in plant.states]).reshape(-1, 1) for k in (1, 2, 3))
 
-def touches_of(ways, walls, rows, cells, inputs, count):
-    """For each obstacle and side of the domain which cells' ways may touch it, and for which cells there is an enclosure."""
-    places = numpy.array(numpy.unravel_index(cells, rows.plant.counts))
-    lows = rows.low + places * rows.width
-    touches, known = None, None
-    try:
-        for box, known in ways.boxes(ways.areas(lows, lows + rows.width - 1), inputs, count):
-            now = numpy.array(walls.touched(box) + walls.left(box)).reshape(-1, cells.size)
-            touches = now if touches is None else touches | now
-    except Trouble:
-        return numpy.ones((len(walls.boxes) + 2 * len(rows.plant.states), cells.size), dtype=bool), numpy.zeros(cells.size, dtype=bool)
-    return touches, known
+    def touch(self, won, inputs, turn=0):
+        """The Touch of rows: for each cell whether it has one, and its input."""
+        cells = numpy.flatnonzero(won[:self.plant.cells])
+        vectors = inputs[cells]
+        for vector in range(self.plant.vectors):
+            mine = cells[vectors == vector]
+            self.look(mine[self.kinds[vector, mine] == UNKNOWN], vector)
+        kinds = self.kinds[vectors, cells]
+        found = self.patterns[kinds[kinds > 0]].T
+        return Touch(cells[kinds > 0], found[:-1], found[-1], turn)
+
+    def look(self, cells, vector):
+        """Encloses the ways of cells under an input."""
+        inputs = {name: value * unit for (name, unit, _), value in zip(self.model.inputs, self.plant.vector(vector))}
+        self.kinds[vector, cells] = 0
+        for size in SIZES:
+            cells = self.left_together(cells, inputs, size)
+        for count in self.counts:
+            if not cells.size:
+                return
+            places = self.places(cells)
+            found = self.patterns_of(places, places, inputs, count)
+            is_left = found.any(axis=0)
+            cells, found = cells[is_left], found[:, is_left]
+        if cells.size:
+            self.kinds[vector, cells] = self.numbers_of(found)
+
+    def left_together(self, cells, inputs, size):
+        """Those of some cells whose ways may touch something when they are enclosed together, in boxes of so many cells along each state."""
+        blocks = self.places(cells) // size
+        counts = [-(-count // size) for count in self.plant.counts]
+        numbers, at = numpy.unique(numpy.ravel_multi_index(tuple(blocks), counts), return_inverse=True)
+        if numbers.size * FEWER > cells.size:
+            return cells
+        firsts = numpy.array(numpy.unravel_index(numbers, counts)) * size
+        lasts = numpy.minimum(firsts + size, numpy.array(self.plant.counts).reshape(-1, 1)) - 1
+        return cells[self.patterns_of(firsts, lasts, inputs, self.counts[0]).any(axis=0)[at]]
+
+    def places(self, cells):
+        return numpy.array(numpy.unravel_index(cells, self.plant.counts))
+
+    def patterns_of(self, firsts, lasts, inputs, count):
+        """For each wall which ways from boxes of cells may touch it, by so many substeps, and behind these for which no enclosure was found. firsts and
+        lasts: the places of the boxes' corners, in columns."""
+        found = numpy.zeros((self.walls.count + 1, firsts.shape[1]), dtype=bool)
+        for begin in range(0, firsts.shape[1], COLUMNS):
+            part = slice(begin, begin + COLUMNS)
+            lows, highs = self.low + firsts[:, part] * self.width, self.low + (lasts[:, part] + 1) * self.width - 1
+            self.enclose(lows, highs, inputs, count, found[:, part])
+            self.tell()
+        return found
+
+    def enclose(self, lows, highs, inputs, count, found):
+        """Puts what the ways may touch into `found`. Where something can't be evaluated at a column, the columns are halved until they are few."""
+        size = lows.shape[1]
+        try:
+            found[:-1] = False
+            for box, known in self.ways.boxes(self.ways.areas(lows, highs), inputs, count):
+                found[:-1] |= self.walls.met(box)
+            found[-1] = ~known
+        except Trouble:
+            found[...] = True
+            for part in (slice(0, size // 2), slice(size // 2, size)) if size > FEWEST else ():
+                self.enclose(lows[:, part], highs[:, part], inputs, count, found[:, part])
+
+    def numbers_of(self, found):
+        """The numbers of patterns, in columns, that a pair may touch; new ones are added."""
+        packed = numpy.ascontiguousarray(numpy.packbits(found, axis=0).T)
+        _, firsts, at = numpy.unique(packed.view(f"V{packed.shape[1]}").reshape(-1), return_index=True, return_inverse=True)
+        numbers = []
+        for first in firsts:
+            key = packed[first].tobytes()
+            if key not in self.numbers:
+                self.numbers[key] = len(self.patterns)
+                self.patterns = numpy.vstack([self.patterns, found[:, first]])
+            numbers.append(self.numbers[key])
+        return numpy.array(numbers, dtype=numpy.int32)[at.reshape(-1)]

@@ -13,11 +13,11 @@ FRAMES, RATE = 240, 12
 class Scene:
     """A drawn figure, and the artists that change from frame to frame."""
 
-    def __init__(self, figure, axes, places, turn, dpi):
-        self.figure, self.axes, self.places = figure, axes, places
+    def __init__(self, figure, axes, courses, turn, dpi):
+        self.figure, self.axes, self.courses = figure, axes, courses
         self.said = "" if turn is None else f", turn {turn}"
-        self.trails = [axes.plot([], [], color=drawing.RUN, linewidth=1.1, path_effects=drawing.halo(), zorder=20)[0] for _ in places]
-        self.heads = [axes.plot([], [], marker="o", markersize=6, color=drawing.TARGET, markeredgecolor="white", zorder=21)[0] for _ in places]
+        self.trails = [axes.plot([], [], color=drawing.RUN, linewidth=1.1, path_effects=drawing.halo(), zorder=20)[0] for _ in courses]
+        self.heads = [axes.plot([], [], marker="o", markersize=6, color=drawing.TARGET, markeredgecolor="white", zorder=21)[0] for _ in courses]
         self.title = axes.set_title("sample 0", fontsize=9)
         figure.set_dpi(dpi)
         self.artists = self.trails + self.heads + [self.title]
@@ -33,10 +33,10 @@ class Scene:
         """The picture with the ways up to a sample, as an image of Pillow."""
         from PIL import Image
         self.figure.canvas.restore_region(self.ground)
-        for trail, head, (across, upwards) in zip(self.trails, self.heads, self.places):
-            last = min(sample, len(across) - 1)
-            trail.set_data(across[:last + 1], upwards[:last + 1])
-            head.set_data(across[last:last + 1], upwards[last:last + 1])
+        for trail, head, course in zip(self.trails, self.heads, self.courses):
+            last = min(sample, len(course.ends) - 1)
+            trail.set_data(*course.upto(last))
+            head.set_data(*(column[last:last + 1] for column in course.places))
         self.title.set_text(f"sample {sample}{self.said}")
         for artist in self.artists:
             self.axes.draw_artist(artist)

@@ -75,6 +75,18 @@ def check_units(path, data, plant):
     return {name.decode() for name in EXACT.findall(data)}
 
 
+def check_variables_of(path, data, plant):
+    """Raises Trouble where the states and inputs of a model, or of a plant text that tools/scale made of one, aren't those of a table's plant."""
+    if not is_plant_text(data):
+        check_model(path, read_model(data), plant)
+        return
+    try:
+        other = read_plant(data)
+    except Refused as refusal:
+        raise Trouble(f"{path}: {refusal.answer}: {refusal.reason}") from None
+    check_variables(path, "plant text", other.states, other.inputs, plant)
+
+
 def is_plant_text(data):
     lines = [line.split() for line in data.decode("utf-8", "replace").lstrip("\ufeff").splitlines()]
     first = next((words for words in lines if words and not words[0].startswith("#")), [""])

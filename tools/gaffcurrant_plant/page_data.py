@@ -25,7 +25,8 @@ def plant_data(plant):
             "noises": [[name, *map(number, ends)] for name, *ends in plant.noises],
             "equations": [tree(node, number) for node in plant.equations],
             "targets": [box_data(plant, box, number) for box in plant.targets],
-            "obstacles": [box_data(plant, box, number) for box in plant.obstacles]}
+            "obstacles": [box_data(plant, box, number) for box in plant.obstacles],
+            "comesRound": [period is not None for period in plant.periods]}
 
 
 def box_data(plant, box, number):

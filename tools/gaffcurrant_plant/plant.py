@@ -3,11 +3,13 @@
 import importlib.util
 import math
 import random
+from functools import cached_property
 
 from .bounds import TOP, Overflow, bounds_of, compiled, compiled_span
 from .counting import TooMuch, edges_of
 from .expression import text_of, uses_of
 from .units import Units
+from .wrapping import periods_of, rolled_out
 
 CELLS, VECTORS, PAIRS, EDGES = 2 ** 20, 4096, 2 ** 22, 2 ** 25
 
@@ -49,6 +51,19 @@ class Plant:
             lines += [" ".join([keyword] + [f"{low} {high}" for low, high in box]) for box in boxes]
         return "\n".join(lines + ["goal " + self.goal, "end", ""])
 
+    # States that come round
+
+    @cached_property
+    def periods(self):
+        """For each state after how many numbers it comes round, None of a state that doesn't."""
+        return periods_of(self)
+
+    @cached_property
+    def rolled(self):
+        """The same plant with states that come round counted on behind their ranges' ends; the plant itself where there are none."""
+        equations = rolled_out(self)
+        return self if equations == self.equations else Rolled(self, equations)
+
     # Inputs and steps
 
     def vector(self, number):
@@ -66,7 +81,17 @@ class Plant:
 
     def ranges_said(self, low, high):
         """Two corners in words: p 200 to 209, v 80 to 89; or in the model's units."""
-        return ", ".join(f"{name} {self.units.span_said(name, *ends)}" for (name, *_), *ends in zip(self.states, low, high))
+        return ", ".join(f"{state[0]} {self.range_said(state, period, *ends)}" for state, period, *ends in zip(self.states, self.periods, low, high))
+
+    def range_said(self, state, period, low, high):
+        """A state's numbers from low to high; of a state that comes round `170 to -170 round the end` where they lie across its range's end."""
+        name, least, most, _ = state
+        if period is None or least <= low <= high <= most:
+            return self.units.span_said(name, low, high)
+        if high - low + 1 >= period:
+            return self.units.span_said(name, least, most)
+        low, high = (least + (end - least) % period for end in (low, high))
+        return self.units.span_said(name, low, high) + " round the end" * (low > high)
 
     def cell_said(self, cell):
         return f"cell {cell} ({self.ranges_said(self.low(cell), self.high(cell))})"
@@ -247,6 +272,18 @@ class Plant:
             if not self.leaves(low, high):
                 total += self.fan(low, high)
         return total * self.pairs // sample, False
+
+
+class Rolled(Plant):
+    """A plant whose states that come round are counted on behind their ranges' ends: there its boxes leave no domain."""
+
+    def __init__(self, plant, equations):
+        super().__init__(plant.states, plant.inputs, plant.noises, equations, plant.targets, plant.obstacles, plant.goal, plant.version)
+        self.periods = plant.periods
+        self.is_rolled = [one is not other for one, other in zip(equations, plant.equations)]
+
+    def leaves(self, low, high):
+        return [i for i in super().leaves(low, high) if not self.is_rolled[i]]
 
 
 def corners(sides):

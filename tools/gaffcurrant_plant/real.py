@@ -8,6 +8,7 @@ from .doubles import NEAR, RealPlant, column, numpy
 from .matching import check_model
 from .model import Model, read_model
 from .starting import PUSHES, STARTS, Pushes, Starts
+from .table import read_text
 
 # Samples behind the greatest rank in which a plant is watched in its targets, those with goal keep, and the most of any run.
 STAYED, KEPT, MOST = 50, 200, 2000
@@ -176,16 +177,25 @@ class Loop:
 
 
 def real_runs(model, text, runs=2000, samples=None, seed=1, state=None, turn=None):
-    """The Outcome of so many runs of a model's own equations by a Table, a Stay or a Patrol, in doubles. model is a Model, or its text; samples is the
-    most of a run, as many as the ranks ask for where it is left out; state is the first state of all runs in the model's units. Raises Trouble where
-    the text is of another model."""
+    """The Outcome of so many runs of a model's own equations by a Table, a Stay or a Patrol, in doubles. model is a Model, or its text; text may be str or
+    bytes too; samples is the most of a run, as many as the ranks ask for where it is left out; state is the first state of all runs in the model's units,
+    and turn the turn of a patrol with which they all begin, where else they begin with all turns. Raises Trouble where the text is of another model, and
+    Refused where it is none."""
     if not isinstance(model, Model):
-        model = read_model(model.encode() if isinstance(model, str) else bytes(model))
+        model = read_model(bytes_of(model))
+    if isinstance(text, (str, bytes, bytearray)):
+        text = read_text(bytes_of(text))
     if not 1 <= runs <= MOST_RUNS:
         raise Trouble(f"runs are from 1 to {MOST_RUNS}", 2)
     check_model("the model", model, text.plant)
     loop = Loop(model, text, runs, seed)
     if turn is not None:
+        if not 0 <= turn < len(loop.rows.won):
+            raise Trouble(f"there are {len(loop.rows.won)} turns, from 0; {turn} is none", 2)
         loop.turns[:] = turn
     first = None if state is None else column(state) + numpy.zeros((1, runs))
     return loop.drive(first, loop.rows.longest() if samples is None else samples)
+
+
+def bytes_of(text):
+    return text.encode() if isinstance(text, str) else bytes(text)

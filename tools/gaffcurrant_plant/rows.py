@@ -48,6 +48,8 @@ def wrong_head(data, kinds, kind):
     due = f"it begins with {' or '.join(heads)}"
     if not data:
         return f"the text is empty, and a run that is refused leaves such a file: {due}"
+    if data.startswith(b"\xef\xbb\xbf"):
+        return "the text begins with a byte order mark; save it without one, as the program writes it"
     if b"\r\n" in data[:80]:
         return f"the lines end as on Windows; {kinds[0]} lines end with a line feed alone, as the program writes them"
     if data.lstrip().startswith((b"plant ", b"#")):

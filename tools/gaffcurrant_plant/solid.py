@@ -14,7 +14,7 @@ def blocks_of(colouring, counts):
     """How many places a block has along each state, and for each block its colour's number and whether half of its cells have a row."""
     import numpy
     sizes = [-(-count // BLOCKS) for count in counts]
-    shown = colouring.shown.astype(float).filled(numpy.nan)
+    shown = colouring.numbers().astype(float).filled(numpy.nan)
     padded = numpy.full([-(-count // size) * size for count, size in zip(counts, sizes)], numpy.nan)
     padded[tuple(slice(count) for count in counts)] = shown
     shape = [number for count, size in zip(padded.shape, sizes) for number in (count // size, size)]
@@ -28,7 +28,6 @@ def blocks_of(colouring, counts):
 def draw_solid(figure, axes, view, colouring):
     """The blocks with a row but for the corner towards the viewer; answers the legend's entries."""
     import numpy
-    from matplotlib.patches import Patch
     counts = [view.plant.counts[i] for i in view.axes]
     sizes, numbers, filled = blocks_of(colouring, counts)
     halves = [size // 2 for size in filled.shape]
@@ -42,8 +41,8 @@ def draw_solid(figure, axes, view, colouring):
     for block, face in faces.items():
         face.set_zorder(1 + sum(part * (place + 0.5) / size for part, place, size in zip(towards_viewer(), block, filled.shape)))
     if colouring.is_named:
-        return [Patch(facecolor=palette(i), label=view.input_said(number)) for i, number in enumerate(colouring.present)]
-    drawing.draw_bar(figure, axes, (low, high), colouring.label(), not colouring.is_share, 0.12)
+        return colouring.entries()
+    drawing.draw_bar(figure, axes, (low, high), colouring.label(), colouring.is_whole(), 0.12)
     return []
 
 
@@ -90,8 +89,8 @@ def draw_edges(axes, view):
 def draw_solid_runs(axes, view, cells, runs):
     from matplotlib.lines import Line2D
     for states in runs:
-        places = drawing.along(view, cells, states)
-        axes.plot(*places, color=drawing.RUN, linewidth=1.2, zorder=30)
-        axes.plot(*(place[:1] for place in places), marker="s", markersize=5, markerfacecolor="white", markeredgecolor=drawing.RUN, zorder=31)
+        course = drawing.Course(view, cells, states)
+        axes.plot(*course.line, color=drawing.RUN, linewidth=1.2, zorder=30)
+        axes.plot(*(place[:1] for place in course.places), marker="s", markersize=5, markerfacecolor="white", markeredgecolor=drawing.RUN, zorder=31)
     label = "run, from the square" if len(runs) == 1 else f"{len(runs)} runs, from the squares"
     return [Line2D([], [], color=drawing.RUN, linewidth=1.2, label=label)] if runs else []

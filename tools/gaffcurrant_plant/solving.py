@@ -9,6 +9,7 @@ from itertools import repeat
 from pathlib import Path
 from typing import Any, Callable, Iterable, NamedTuple, Optional, Sequence, Union
 
+from .command import Progress, Trouble
 from .loop import noises
 from .reader import Refused, read_plant
 from .table import NoRow, Patrol, Stay, Table, read_text
@@ -31,6 +32,8 @@ def program() -> str:
     """The program: what GAFFCURRANT names, else the launcher of the repository in which this module lies or from which it was installed, which
     builds it where that is due, else the one that was installed with the module, else `gaffcurrant` as the shell finds it."""
     if named := os.environ.get("GAFFCURRANT"):
+        if not shutil.which(named):
+            raise Trouble(f"the environment variable GAFFCURRANT names `{named}`, and there is no such program")
         return named
     origin = HERE / "scripts" / "ORIGIN"
     top = Path(origin.read_text().strip()) if origin.exists() else HERE.parents[1]
@@ -49,7 +52,7 @@ def scale(model_text: Union[str, bytes], version: Optional[int] = None) -> str:
     planting = planted(model)
     if model.between:
         from .widening import text_between
-        return str(text_between(planting, model.between, model.has_bounds))
+        return str(text_between(planting, model.between, model.has_bounds, Progress("scale")))
     return str(planting.text)
 
 

@@ -9,7 +9,7 @@ from .rows import Lines, front_of
 
 if TYPE_CHECKING:
     from .plant import Plant
-    from .asking import Real
+    from .asking import Real, RealPatrol
     from .units import Units
 
 Row = tuple[Optional[int], Optional[int]]
@@ -118,6 +118,11 @@ class Patrol:
     def behind(self, number, turns=None):
         """The turn behind a turn."""
         return (number + 1) % len(self.turns if turns is None else turns)
+
+    def in_units(self, units: Units) -> RealPatrol:
+        """The same turns, asked in a model's units, by what `read_units` reads."""
+        from .asking import RealPatrol
+        return RealPatrol(self, units)
 
     def turn_after(self, number: int, state: Sequence[int]) -> int:
         """The turn after a sample: the one behind where the state has come to the turn's target, else the same."""

@@ -63,6 +63,11 @@ class Units:
         return f"{name} = {short(whole * self.size(name))}{self.word(name)}"
 
 
+def units_of(model):
+    """The units of a model."""
+    return Units({state[0]: state[4] for state in model.states} | {name: unit for name, unit, _ in model.inputs}, model.words, model.exact)
+
+
 def short(value):
     """A fraction as a decimal number, of six digits where it isn't short."""
     said = decimal(value)
@@ -76,10 +81,10 @@ def units_for(path, plant):
     """The units of a plant by the file that --model names, none without one; raises Trouble where it is of another plant."""
     if path is None:
         return Units()
-    units = read_units(path, read_bytes(path))
-    for name in [entry[0] for entry in plant.states + plant.inputs]:
-        if name not in units.sizes:
-            raise Trouble(f"{path}: it has no `{name}`, which the text's plant has; is it the model of another one?")
+    from .matching import check_variables_of
+    data = read_bytes(path)
+    units = read_units(path, data)
+    check_variables_of(path, data, plant)
     return units
 
 
@@ -132,7 +137,7 @@ def read_units(path, data):
             model = read_model(data)
         except Trouble as trouble:
             raise Trouble(f"{path}: {trouble}", trouble.status) from None
-        return Units({state[0]: state[4] for state in model.states} | {name: unit for name, unit, _ in model.inputs}, model.words, model.exact)
+        return units_of(model)
     found = [found.groups() for found in map(COMMENT.match, lines) if found]
     exact = {line.split()[2] for line in lines if COMMENT.match(line) and line.endswith(BY_ITSELF)}
     if not found:

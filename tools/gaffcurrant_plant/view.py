@@ -1,5 +1,7 @@
 """What a picture shows of a table: which states are its axes, where the others are fixed, and in which units."""
 
+from fractions import Fraction
+
 from .command import Trouble
 from .units import decimal
 
@@ -42,8 +44,14 @@ class View:
         return self.units.label(self.name(place))
 
     def at(self, place, whole):
-        """A number of the state along an axis, as it stands on the axis."""
-        return self.units.value(self.name(place), whole)
+        """Where on an axis the unit of a number of its state begins. What is a whole number by itself is a point, and has its number in the middle."""
+        name = self.name(place)
+        return self.units.value(name, whole - Fraction(1, 2) if name in self.units.exact else whole)
+
+    def period(self, place):
+        """After how much along an axis its state comes round, or None."""
+        period = self.plant.periods[self.axes[place]]
+        return period and self.units.value(self.name(place), period)
 
     def range(self, place):
         _, low, high, _ = self.plant.states[self.axes[place]]
@@ -92,7 +100,7 @@ class View:
         if not self.units.sizes:
             return f"{low} to {high} in the plant's whole units; --model makes these numbers those of the model"
         word = self.units.words.get(name)
-        return f"{self.said_at(name, low)} to {self.said_at(name, high + 1)} in the units of the model{f', {word}' if word else ''}"
+        return f"{self.said_at(name, low)} to {self.said_at(name, high + (name not in self.units.exact))} in the units of the model{f', {word}' if word else ''}"
 
     def input_said(self, number):
         """An input vector in words, in the model's units."""

@@ -2,16 +2,17 @@
 ways, widens by a layer of cells where ways touch, and begins again. Needs numpy and the program."""
 
 import math
+from collections import Counter
 
-from .command import Trouble
+from .arrays import Turns
+from .command import Progress, Trouble
 from .doubles import need_numpy, numpy
-from .enclosing import touching
+from .enclosing import Looked
 from .model import said
 from .planting import box_text
 from .reader import MOST, Refused
-from .real import Rows
 from .solving import written
-from .table import read_text
+from .units import units_of
 
 MOST_ROUNDS = 100
 # By how much dearer a side is that has layers, by their number squared; and whether a way asks for a layer where it ends, and not only where it begins. All
@@ -29,6 +30,7 @@ class Layers:
         self.about, self.inside = numpy.zeros((len(self.obstacles), states, 2), dtype=int), numpy.zeros((states, 2), dtype=int)
         self.lows, self.widths = [state[1] for state in model.states], [state[3] for state in model.states]
         self.counts = [int((state[2] - state[1]) / state[3]) for state in model.states]
+        self.comes_round = [state[0] in model.wraps for state in model.states]
         self.taken = numpy.array([[self.places(i, *ends) for i, ends in enumerate(box)] for box in self.obstacles]).reshape(-1, states, 2)
 
     def places(self, i, low, high):
@@ -37,10 +39,7 @@ class Layers:
 
     def boxes(self):
         """The obstacles of the text, in the model's units."""
-        boxes = []
-        for box, layers, taken in zip(self.obstacles, self.about, self.taken):
-            boxes.append([(self.end(i, taken[i][0] - layers[i][0]) if layers[i][0] else low, self.end(i, taken[i][1] + 1 + layers[i][1]) if layers[i][1] else high)
-                          for i, (low, high) in enumerate(box)])
+        boxes = [part for box in self.widened() for part in self.in_range(box)]
         whole = [(low, high) for _, low, high, *_ in self.model.states]
         for i, (low, high) in enumerate(whole):
             if self.inside[i][0]:
@@ -48,6 +47,25 @@ class Layers:
             if self.inside[i][1]:
                 boxes.append(whole[:i] + [(self.end(i, self.counts[i] - self.inside[i][1]), high)] + whole[i + 1:])
         return boxes
+
+    def widened(self):
+        """The obstacles with their layers, also where they go on behind the end of a range that comes round."""
+        for box, layers, taken in zip(self.obstacles, self.about, self.taken):
+            yield [(self.end(i, taken[i][0] - layers[i][0]) if layers[i][0] else low, self.end(i, taken[i][1] + 1 + layers[i][1]) if layers[i][1] else high)
+                   for i, (low, high) in enumerate(box)]
+
+    def in_range(self, box):
+        """The parts of a box that goes on behind the ends of ranges that come round, each in the ranges."""
+        parts = [[]]
+        for i, (low, high) in enumerate(box):
+            least, most = self.lows[i], self.end(i, self.counts[i])
+            ends = [(low, high)]
+            if self.comes_round[i] and (low < least or high > most):
+                period = most - least
+                first = least + (low - least) % period
+                ends = [(least, most)] if high - low >= period else [(first, most), (least, first + high - low - period)]
+            parts = [part + [end] for part in parts for end in ends]
+        return parts
 
     def end(self, i, place):
         return self.lows[i] + self.widths[i] * int(place)
@@ -60,16 +78,25 @@ class Layers:
             mine = numpy.concatenate([places[:, walls[number]]] + [ends[:, walls[number]]] * self.has_ends, axis=1)
             first, last = self.taken[number][:, 0] - self.about[number][:, 0], self.taken[number][:, 1] + self.about[number][:, 1]
             size = numpy.minimum(last, numpy.array(self.counts) - 1) - numpy.maximum(first, 0) + 1
-            votes = numpy.array([[(mine[i] < first[i]).sum(), (mine[i] > last[i]).sum()] for i in range(len(size))])
+            votes = numpy.array([self.votes(i, mine[i], first[i], last[i]) for i in range(len(size))])
             costs = (numpy.prod(size) / size)[:, None] * (1 + self.dear * self.about[number] ** 2)
             i, side = numpy.unravel_index(numpy.argmax(votes / costs), votes.shape)
             self.about[number][i][side] += 1
         for at in numpy.flatnonzero(walls[len(self.obstacles):].any(axis=1)):
             self.inside[at // 2][at % 2] += 1
 
+    def votes(self, i, places, first, last):
+        """How many places lie below and above an obstacle's first and last one; of a state that comes round at the side that is nearer."""
+        if not self.comes_round[i]:
+            return (places < first).sum(), (places > last).sum()
+        above = (places - last) % self.counts[i]
+        is_beside = above < self.counts[i] - (last - first)
+        is_above = above <= (first - places) % self.counts[i]
+        return (is_beside & ~is_above & (above > 0)).sum(), (is_beside & is_above & (above > 0)).sum()
+
     def said(self):
         """Comments on what was widened."""
-        for number, (box, widened) in enumerate(zip(self.obstacles, self.boxes()), 1):
+        for number, (box, widened) in enumerate(zip(self.obstacles, self.widened()), 1):
             parts = [f"{name} {said(low)} to {said(high)}" for (name, *_), (low, high), own in zip(self.model.states, widened, box) if (low, high) != own]
             if parts:
                 yield f"#   obstacle {number} is widened to {', '.join(parts)}"
@@ -78,71 +105,112 @@ class Layers:
                 yield f"#   along the bounds of {name} what lies outside of {said(self.end(i, first))} to {said(self.end(i, self.counts[i] - last))} is an obstacle"
 
 
-def text_between(planting, word, has_bounds):
+def text_between(planting, word, has_bounds, progress=None):
     """The plant text whose table keeps the ways off the model's obstacles, and in its domain where that is asked for."""
     need_numpy()
-    found, faults, known = [], [], {}
-    for choice in CHOICES:
+    found, faults, looks = [], [], Looks(planting, word, has_bounds, progress or Progress("scale", has_lines=True))
+    for number, choice in enumerate(CHOICES, 1):
+        looks.choice = number
         try:
-            found.append(Widened(planting, word, has_bounds, known, *choice))
+            found.append(Widened(looks, *choice))
         except Trouble as trouble:
             faults.append(trouble)
         if found and found[0].rounds == 0:
             break
+    looks.progress.end()
     if not found:
         raise faults[0]
     return max(found, key=lambda one: one.rows).text
 
 
-def ends_of(rows, touch):
-    """The places, in columns, at which the middles of a Touch's cells are a sample later, without disturbances."""
-    batch = rows.plant.batch()
-    middles = batch.middles(batch.lows(batch.places(touch.cells)), rows.inputs[touch.turn, touch.cells])
-    return numpy.array([numpy.broadcast_to((middle - low) // width, touch.cells.shape) for middle, (_, low, _, width) in zip(middles, rows.plant.states)], dtype=int)
+class Look:
+    """What a plant's table shows. rows: how many there are; places and ends: those of the cells where touching ways begin and end, in columns; vectors:
+    their inputs; walls: what they may touch."""
+
+    def __init__(self, rows, places, ends, vectors, walls):
+        self.rows, self.places, self.ends, self.vectors, self.walls = rows, places, ends, vectors, walls
+
+
+class Looks:
+    """Looks at plants, at each once, since several choices begin alike, and tells how far that is."""
+
+    def __init__(self, planting, word, has_bounds, progress):
+        self.planting, self.model, self.word, self.has_bounds = planting, planting.model, word, has_bounds
+        self.known, self.choice = {}, 1
+        self.progress = progress
+        self.ways = Looked(self.model, planting.plant, has_bounds, lambda: self.progress.say(f"{self.said}; enclosing ways"))
+        self.said = "between: the plant as it is"
+
+    def at(self, text):
+        """The Look at a plant text."""
+        if text not in self.known:
+            self.progress.say(f"{self.said}; solving")
+            self.known[text] = self.look(text)
+        look = self.known[text]
+        self.said = f"between: way {self.choice} of {len(CHOICES)} to widen obstacles, {len(self.known)} plants solved; the last has {look.rows} rows, of which the ways " \
+                    f"of {look.walls.shape[1]} may touch"
+        return look
+
+    def look(self, text):
+        try:
+            turns = Turns(written(self.word, text, 2))
+            turns = [turns.cells(turn) for turn in range(turns.count)]
+        except Refused as refusal:
+            raise Trouble(f"between: the program answers `{refusal.answer}`: {refusal.reason}") from None
+        found = [self.ways.touch(cells.won, cells.inputs) for cells in turns]
+        if any(one.lost.any() for one in found):
+            raise Trouble("between: no enclosure of the ways was found; the sample is long beside the fastest time of the model")
+        walls, cells = (numpy.concatenate(parts, axis=-1) for parts in ([one.walls for one in found], [one.cells for one in found]))
+        vectors = numpy.concatenate([one.inputs[touch.cells] for one, touch in zip(turns, found)])
+        places = numpy.array(numpy.unravel_index(cells, self.planting.plant.counts))
+        return Look(sum(int(one.won.sum()) for one in turns), places, ends_of(self.planting.plant, cells, vectors), vectors, walls)
+
+
+def ends_of(plant, cells, vectors):
+    """The places, in columns, at which the middles of cells are a sample later, without disturbances."""
+    batch = plant.batch()
+    middles = batch.middles(batch.lows(batch.places(cells)), vectors)
+    return numpy.array([numpy.broadcast_to((middle - low) // width, cells.shape) for middle, (_, low, _, width) in zip(middles, plant.states)], dtype=int)
 
 
 class Widened:
-    """text: the plant text; before and rows: the rows of its table without widened obstacles and with them; rounds: how often they were widened. known: by
-    their texts the plants that were looked at, since several choices begin alike."""
+    """text: the plant text; before and rows: the rows of its table without widened obstacles and with them; rounds: how often they were widened."""
 
-    def __init__(self, planting, word, has_bounds, known, dear, has_ends):
-        self.planting, self.model, self.word, self.has_bounds = planting, planting.model, word, has_bounds
-        self.layers, self.before = Layers(planting.model, dear, has_ends), None
+    def __init__(self, looks, dear, has_ends):
+        self.looks, self.planting, self.model = looks, looks.planting, looks.model
+        self.layers, self.before, last = Layers(self.model, dear, has_ends), None, None
         for self.rounds in range(MOST_ROUNDS):
             self.text = self.text_of()
-            if self.text not in known:
-                known[self.text] = self.looked_at(self.rows_of_text())
-            self.rows, places, ends, walls = known[self.text]
+            look = looks.at(self.text)
+            self.rows = look.rows
             self.before = self.rows if self.before is None else self.before
             if not self.rows:
-                raise Trouble(f"between: no row is left of {self.before} where all ways between samples keep off the obstacles")
-            if not walls.any():
+                raise Trouble(self.nothing_left(last))
+            if not look.walls.any():
                 self.text = self.text_of(list(self.comments()))
                 return
-            self.layers.widen(places, ends, walls)
+            self.layers.widen(look.places, look.ends, look.walls)
+            last = look
         raise Trouble(f"between: ways still touch after {MOST_ROUNDS} rounds")
 
-    def looked_at(self, rows):
-        """How many rows there are, the places of the cells where touching ways begin and end, in columns, and what they touch."""
-        found = [touching(self.model, rows, turn) for turn in range(len(rows.won))]
-        if any(one.lost.any() for one in found):
-            raise Trouble("between: no enclosure of the ways was found; the sample is long beside the fastest time of the model")
-        walls = numpy.concatenate([one.walls for one in found], axis=1)
-        places = numpy.concatenate([numpy.array(numpy.unravel_index(one.cells, rows.plant.counts)) for one in found], axis=1)
-        ends = numpy.concatenate([ends_of(rows, one) for one in found], axis=1)
-        return int(rows.won.sum()), places, ends, walls if self.has_bounds else walls[:len(self.layers.obstacles)]
-
-    def rows_of_text(self):
-        try:
-            return Rows(read_text(written(self.word, self.text, 2)))
-        except Refused as refusal:
-            raise Trouble(f"between: the program answers `{refusal.answer}`: {refusal.reason}") from None
+    def nothing_left(self, last):
+        """What to say where no row is left: which wall the most ways of the last rows touch, under which input most of these, and what may help."""
+        if last is None:
+            return f"between: `{self.looks.word}` finds no row by the obstacles as they are; a line `between` is for a plant that has some"
+        counts = last.walls.sum(axis=1)
+        wall, plant = int(numpy.argmax(counts)), self.planting.plant
+        vector, many = Counter(last.vectors[last.walls[wall]].tolist()).most_common(1)[0]
+        plant.units = units_of(self.model)
+        where, under = self.looks.ways.walls.said(wall), plant.input_said(vector)
+        others = f", or no input {under}" if plant.vectors > 1 else ""
+        return (f"between: no row is left of {self.before} where all ways between samples keep off the obstacles. Of the last {last.rows} rows the ways of "
+                f"{counts[wall]} touch {where}, of {many} under {under}. A smaller `sample`, more room beside it{others} may help")
 
     def comments(self):
-        bounds = " or leaves its domain" * self.has_bounds
+        bounds = " or leaves its domain" * self.looks.has_bounds
         yield f"# no way between two samples touches an obstacle of the model{bounds}: tools/between encloses the ways, tested and not proved"
         yield from self.layers.said()
-        yield f"#   this leaves {self.rows} of {self.before} rows, by `{self.word}`"
+        yield f"#   this leaves {self.rows} of {self.before} rows, by `{self.looks.word}`"
 
     def text_of(self, comments=()):
         """The text with the widened obstacles, and comments before its first line."""
@@ -154,5 +222,3 @@ class Widened:
         last = next(k for k, line in enumerate(lines) if line.startswith("goal "))
         obstacles = [box_text(self.model, "obstacle", box) for box in boxes]
         return "\n".join(lines[:first] + list(comments) + lines[first:last] + obstacles + lines[last:]) + "\n"
-
-

@@ -29,7 +29,7 @@ class Chart {
   }
 
   scale(points, least) {
-    const values = points.map(([, value]) => value);
+    const values = points.map(([, value]) => value).filter(Number.isFinite);
     const reduced = (choose) => values.reduce((a, b) => choose(a, b));
     [this.low, this.top] = [least ?? reduced(Math.min), reduced(Math.max)];
     if (this.top === this.low) this.top = this.low + 1;
@@ -70,7 +70,10 @@ class Chart {
   drawLine(line, colour, dash) {
     const pen = this.pen;
     pen.beginPath();
-    for (const [time, value] of line) pen.lineTo(this.x(time), this.y(value));
+    line.forEach(([time, value], k) => {
+      const isNew = k === 0 || Number.isNaN(line[k - 1][1]);
+      if (!Number.isNaN(value)) pen[isNew ? "moveTo" : "lineTo"](this.x(time), this.y(value));
+    });
     pen.setLineDash(dash ? [6, dash] : []);
     [pen.strokeStyle, pen.lineWidth] = [colour, 1.8];
     pen.stroke();
@@ -95,7 +98,11 @@ function ranksOf(run) {
 
 /** A state of a run over its samples and on the way between them. */
 function valuesOf(run, i, units) {
-  const state = run.text.plant.states[i], value = (parts) => units.valueAt(state, parts[i]);
+  const { plant } = run.text, state = plant.states[i], periods = [plant.periods[i], 0];
   if (!run.ways.length) return [[0, units.middle(state[0], run.samples[0].state[i])]];
-  return run.ways.flatMap((way, k) => way.map((parts, j) => [k + j / (way.length - 1), value(parts)]));
+  const timed = (way, k) => way.map((parts, j) => [parts[i], k + j / (way.length - 1)]);
+  const pieces = run.ways.flatMap((way, k) => piecesOf(timed(way, k), periods).map((piece, at) => [piece, at]));
+  // A gap, which has no number, parts the pieces of a way.
+  return pieces.flatMap(([piece, at]) => [...(at ? [[piece[0][1], NaN]] : []),
+    ...piece.map(([part, time]) => [time, units.valueAt(state, part)])]);
 }

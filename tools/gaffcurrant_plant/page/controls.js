@@ -28,10 +28,13 @@ class Controls {
     document.querySelectorAll(".several").forEach((label) => { label.hidden = view.texts.length < 2; });
     this.on("left", (value) => { view.left = Number(value); }, "maps");
     this.on("right", (value) => { view.right = Number(value); }, "maps");
-    byId("by").addEventListener("change", (event) => {
-      view.by = event.target.value;
+    byId("by").addEventListener("change", ({ target }) => {
+      Object.assign(view, target.id === "input" ? { input: Number(target.value), by: "input" } : { by: target.value });
       changed();
     });
+    optionsOf(byId("input"), ["all inputs", ...view.plant.inputs.map(([name]) => view.units.label(name))],
+      [-1, ...view.plant.inputs.keys()]);
+    byId("input").parentElement.hidden = view.plant.inputs.length < 2;
     byId("controls").addEventListener("submit", (event) => event.preventDefault());
     byId("share").textContent = `${view.texts[0].good} share`;
   }
@@ -72,6 +75,7 @@ class Controls {
     const { view } = this;
     view.axes.forEach((i, which) => { byId(`axis-${which}`).value = i; });
     [byId("left").value, byId("right").value] = [view.left, view.right];
+    byId("input").value = view.input;
     for (const radio of byId("by").querySelectorAll("input")) radio.checked = radio.value === view.by;
     byId("by").querySelector("[value=rank]").disabled = view.shown.every((text) => text.keeps);
     const labels = [...byId("sliders").children];

@@ -111,7 +111,7 @@ class Desk {
 
   /** Gives a map its size, its name and its legend where these are others than before. */
   prepare(map) {
-    const { view } = this, key = [view.by, view.turn, view.axes, view.left, view.right].join(" ");
+    const { view } = this, key = [view.by, view.input, view.turn, view.axes, view.left, view.right].join(" ");
     if (map.key === key) return;
     if (map.fitted !== String(view.axes)) map.fit(map.width, view);
     [map.key, map.fitted] = [key, String(view.axes)];

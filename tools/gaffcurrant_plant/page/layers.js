@@ -60,7 +60,10 @@ function withCodes(pixel, pixels) {
 }
 
 function inputPixels(text, view, slice) {
-  text.inputTable ??= withCodes(TARGET_PIXEL, Uint32Array.from(inputColours(text.plant).map(pixelOf)));
+  if (text.inputKey !== view.input) {
+    text.inputTable = withCodes(TARGET_PIXEL, Uint32Array.from(inputColours(text.plant, view.input).map(pixelOf)));
+    text.inputKey = view.input;
+  }
   return paintCodes(slice, text.turn(view.turn).inputs, text.inputTable);
 }
 
@@ -140,17 +143,21 @@ function greatestDifference(one, other, view) {
   return one.difference;
 }
 
-/** A function from a cell with a row in both to the pixel of whether they apply the same values. */
+/** A function from a cell with a row in both to the pixel of whether they apply the same values, or the same one of the
+ * input that is chosen. */
 function inputDifference(one, other, view) {
-  const keys = [one, other].map(({ plant }) => plant.inputKeys ??= inputKeysOf(plant));
+  const keys = [one, other].map(({ plant }) => inputKeysOf(plant, view.input));
   const { inputs } = one.turn(view.turn), others = other.turn(view.turn).inputs;
   const same = pixelOf(SAME), differs = pixelOf(OTHER);
   return (cell) => (keys[0][inputs[cell]] === keys[1][others[cell]] ? same : differs);
 }
 
-/** For each input vector its values in one word. */
-function inputKeysOf(plant) {
-  return Array.from({ length: plant.vectors }, (_, k) => plant.vector(k).join(" "));
+/** For each input vector its values in one word, or that of the input that is chosen; kept with the plant. */
+function inputKeysOf(plant, input) {
+  plant.inputKeys ??= new Map();
+  const word = (k) => (input < 0 ? plant.vector(k).join(" ") : String(plant.vector(k)[input]));
+  if (!plant.inputKeys.has(input)) plant.inputKeys.set(input, Array.from({ length: plant.vectors }, (_, k) => word(k)));
+  return plant.inputKeys.get(input);
 }
 
 function shareDifference(one, other, view, slice) {

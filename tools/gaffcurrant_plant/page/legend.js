@@ -33,12 +33,22 @@ function legendOf(text, view, greatest) {
 }
 
 function inputKeys(text, view) {
-  const ordered = orderedInputs(text.plant), colours = inputColours(text.plant);
-  const name = (k) => inputSaid(text.plant, view.units, k);
-  const last = ordered[ordered.length - 1], isMany = ordered.length > MOST_KEYS;
-  const keys = isMany ? [barOf(LIGHT_TO_DARK, name(ordered[0]), name(last))]
-    : ordered.map((k) => keyOf(colours[k], name(k)));
+  const keys = view.input < 0 ? vectorKeys(text, view) : valueKeys(text, view);
   return text.kind === "table" && !text.keeps ? [...keys, keyOf(GOAL, "nothing to apply")] : keys;
+}
+
+function vectorKeys({ plant }, view) {
+  const ordered = orderedInputs(plant), colours = inputColours(plant, -1), name = (k) => inputSaid(plant, view.units, k);
+  if (ordered.length > MOST_KEYS) return [barOf(LIGHT_TO_DARK, name(ordered[0]), name(ordered[ordered.length - 1]))];
+  return ordered.map((k) => keyOf(colours[k], name(k)));
+}
+
+/** The values of the input that is chosen. */
+function valueKeys({ plant }, { input, units }) {
+  const [name] = plant.inputs[input], known = [...valueColours(plant, input)];
+  const said = ([value]) => `${name} = ${units.said(name, value)}`;
+  if (known.length > FEW.length) return [barOf(LIGHT_TO_DARK, said(known[0]), said(known[known.length - 1]))];
+  return known.map(([value, colour]) => keyOf(colour, said([value])));
 }
 
 function boxKeys(text, view) {
@@ -64,5 +74,6 @@ function differenceLegend(one, other, view) {
       : keyOf(stops[3], "the same rank in both");
     return [bar, ...alone, neither];
   }
-  return [keyOf(SAME, "the same input in both"), keyOf(OTHER, "another input"), ...alone, neither];
+  const what = view.by === "input" && view.input >= 0 ? view.plant.inputs[view.input][0] : "input";
+  return [keyOf(SAME, `the same ${what} in both`), keyOf(OTHER, `another ${what}`), ...alone, neither];
 }

@@ -14,6 +14,8 @@ class Plant {
     const two = this.number(2), one = this.number(1), zero = this.number(0);
     this.one = one;
     this.counts = this.states.map(([, low, high, width]) => Number((high - low + one) / width));
+    // After how many places a state comes round, 0 where it doesn't.
+    this.periods = this.counts.map((count, i) => (data.comesRound[i] ? count : 0));
     this.strides = this.counts.map((_, i) => this.counts.slice(i + 1).reduce((a, b) => a * b, 1));
     this.cells = this.counts.reduce((a, b) => a * b, 1);
     this.vectors = this.inputs.reduce((product, [, values]) => product * values.length, 1);

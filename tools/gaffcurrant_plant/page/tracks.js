@@ -23,11 +23,13 @@ Object.assign(CellMap.prototype, {
   },
 
   trackAlong(path, way) {
-    way.forEach((parts, k) => {
-      const point = this.pointOf(parts);
-      if (k) path.lineTo(...point);
-      else path.moveTo(...point);
-    });
+    for (const piece of piecesOf(way, this.plant.periods)) {
+      piece.forEach((parts, k) => {
+        const point = this.pointOf(parts);
+        if (k) path.lineTo(...point);
+        else path.moveTo(...point);
+      });
+    }
   },
 
   strokePath(path, colour, thickness) {
@@ -100,8 +102,8 @@ Object.assign(CellMap.prototype, {
 
   /** About so many numbers along an axis, each with its part of the way. */
   numbersOf(i, count) {
-    const [name, low, high] = this.plant.states[i], units = this.view.units;
-    const first = units.value(name, low), end = (Number(high) + 1) * units.size(name);
+    const state = this.plant.states[i], { units } = this.view;
+    const first = units.valueAt(state, 0), end = units.valueAt(state, this.plant.counts[i]);
     return ticksBetween(first, end, count).map((tick) => [decimal(tick), (tick - first) / (end - first)]);
   },
 });

@@ -17,19 +17,24 @@ class Units {
     return Number(number) * this.size(name);
   }
 
+  /** How far the middle of what a whole number stands for is above it: what is a whole number by itself is a point. */
+  half(name) {
+    return this.exact.includes(name) ? 0 : 0.5;
+  }
+
   /** The middle of what a whole number of a state stands for. */
   middle(name, number) {
-    return (Number(number) + 0.5) * this.size(name);
+    return (Number(number) + this.half(name)) * this.size(name);
   }
 
   /** The place of a value in the model's units along a state's axis, as a fraction. */
   partOf([name, low, , width], value) {
-    return (value / this.size(name) - Number(low)) / Number(width);
+    return (value / this.size(name) + 0.5 - this.half(name) - Number(low)) / Number(width);
   }
 
   /** The value in the model's units at a fraction of places along a state's axis. */
   valueAt([name, low, , width], part) {
-    return (Number(low) + part * Number(width)) * this.size(name);
+    return (Number(low) + part * Number(width) - 0.5 + this.half(name)) * this.size(name);
   }
 
   /** The whole number of a value in the model's units: that of the unit it lies in. A value beside a bound by a

@@ -12,6 +12,8 @@ class View {
     this.left = 0;
     this.right = texts.length > 1 ? 1 : -1;
     this.by = texts[0].keeps ? (plant.states.length > 2 ? "share" : "input") : "rank";
+    // The number of the input by whose values is coloured, or -1 for all of them together.
+    this.input = -1;
     this.isPinned = false;
     this.asked = 0;
     this.box = null;
@@ -68,6 +70,7 @@ class View {
     const name = (i) => (i < 0 ? "" : this.plant.states[i][0]);
     const [x, y] = this.axes.map(name);
     const words = { x, y, at: this.places.join("."), turn: this.turn, by: this.by,
+      input: this.input < 0 ? "all" : this.plant.inputs[this.input][0],
       left: this.left, right: this.right, asked: this.asked, pin: Number(this.isPinned),
       over: this.over < 0 ? "rank" : name(this.over), n: this.samples, seed: this.seed, noise: this.noise };
     const run = this.from ? { from: this.from.map(digits).join(","), begin: this.begin, sample: this.sample } : {};
@@ -78,6 +81,12 @@ class View {
   named(word, other) {
     const i = this.plant.states.findIndex(([name]) => name === word);
     return i < 0 ? other : i;
+  }
+
+  /** The number of an input by its name; -1 for all, and the one before where there is none. */
+  inputNamed(word) {
+    const i = this.plant.inputs.findIndex(([name]) => name === word);
+    return i < 0 && word !== "all" ? this.input : i;
   }
 
   /** Takes what a link says; what doesn't fit the texts is passed over. */
@@ -95,6 +104,7 @@ class View {
     this.turn = within(words.get("turn"), 0, this.turns - 1, this.turn);
     this.asked = within(words.get("asked"), 0, 1, this.asked);
     this.by = among(words.get("by"), COLOURS, this.by);
+    this.input = this.inputNamed(words.get("input"));
     this.isPinned = words.get("pin") === "1";
     this.over = words.get("over") === "rank" ? -1 : this.named(words.get("over"), this.over);
     this.samples = within(words.get("n"), 0, MOST_SAMPLES, this.samples);

@@ -57,18 +57,53 @@ class Flow {
   }
 
   /** The same bent so that it ends where the next sample was: what the disturbance and the rounding did is spread over
-   * the sample. */
-  between(state, values, next) {
+   * the sample, of a state that comes round the shorter way. */
+  between(state, values, next, periods) {
     const way = this.course(state, values), end = way[STEPS];
-    return way.map((at, k) => at.map((x, i) => x + (k / STEPS) * (next[i] - end[i])));
+    const beside = next.map((x, i) => shorter(x - end[i], periods[i]));
+    return way.map((at, k) => at.map((x, i) => x + (k / STEPS) * beside[i]));
   }
 }
 
-/** For each sample of a run but the last the states on the way to the next one, as fractions of places; without a flow
- * just the two. */
+/** A difference the shorter way round, where there is a period. */
+function shorter(difference, period) {
+  return period ? difference - period * Math.round(difference / period) : difference;
+}
+
+/** For each sample of a run but the last the states on the way to the next one, as fractions of places, which count on
+ * behind the end of a range that comes round; without a flow just the two. */
 function waysOf(run, units, flow) {
   const { plant } = run.text, ends = run.samples.map(({ state }) => state.map((value, i) => plant.partOf(i, value)));
-  return run.samples.slice(0, -1).map((_, k) => (flow && flowBetween(run, k, units, flow)) || [ends[k], ends[k + 1]]);
+  const next = (k) => ends[k].map((part, i) => part + shorter(ends[k + 1][i] - part, plant.periods[i]));
+  return run.samples.slice(0, -1).map((_, k) => (flow && flowBetween(run, k, units, flow)) || [ends[k], next(k)]);
+}
+
+/** The pieces of a way that lie in the ranges: it leaves at one edge of a state that comes round, and comes in at the
+ * other. */
+function piecesOf(way, periods) {
+  if (!periods.some(Boolean)) return [way];
+  const shifts = periods.map(() => 0), pieces = [[]];
+  const here = (point, i, edge) => point.map((x, j) => (j === i ? edge : x + shifts[j]));
+  way.forEach((point, k) => {
+    let from = way[Math.max(k - 1, 0)];
+    for (let cut = cutOf(here(from), here(point), periods); cut; cut = cutOf(here(from), here(point), periods)) {
+      const { i, share } = cut, isAbove = point[i] > from[i];
+      from = from.map((x, j) => x + share * (point[j] - x));
+      pieces[pieces.length - 1].push(here(from, i, isAbove ? periods[i] : 0));
+      shifts[i] += isAbove ? -periods[i] : periods[i];
+      pieces.push([here(from, i, isAbove ? 0 : periods[i])]);
+    }
+    pieces[pieces.length - 1].push(here(point));
+  });
+  return pieces;
+}
+
+/** Where a straight way first leaves a range that comes round: the state, and the share of the way; or null. */
+function cutOf(from, to, periods) {
+  const cuts = periods.map((period, i) => ({ i, edge: to[i] > from[i] ? period : 0 }))
+    .filter(({ i, edge }) => periods[i] && (to[i] > periods[i] || to[i] < 0) && to[i] !== edge)
+    .map(({ i, edge }) => ({ i, share: (edge - from[i]) / (to[i] - from[i]) }));
+  return cuts.length ? cuts.reduce((one, other) => (other.share < one.share ? other : one)) : null;
 }
 
 /** The way behind a sample by a flow, as fractions of places, or null where the flow has no number there. */
@@ -76,6 +111,7 @@ function flowBetween(run, k, units, flow) {
   const { plant } = run.text, real = ({ state }) => state.map((value, i) => units.middle(plant.states[i][0], value));
   const applied = plant.vector(run.samples[k].row.input);
   const values = applied.map((value, i) => units.value(plant.inputs[i][0], value));
-  const way = flow.between(real(run.samples[k]), values, real(run.samples[k + 1]));
+  const periods = plant.states.map(([name, , , width], i) => plant.periods[i] * Number(width) * units.size(name));
+  const way = flow.between(real(run.samples[k]), values, real(run.samples[k + 1]), periods);
   return way.flat().every(Number.isFinite) ? way.map((at) => at.map((x, i) => units.partOf(plant.states[i], x))) : null;
 }
