@@ -12,7 +12,6 @@ mod WrittenTerms
 mod LineBoxes
 mod CellBlocks
 mod CellLineLists
-mod Fitting
 mod ChangedElements
 mod BoxSums
 mod ListedTerms
