@@ -16,7 +16,7 @@ use Rattle.pair_boxes.proofs.PairDigits.{index_terms}
 -- what was found for each slot is a table of all extents
 module _ (p : Description) (plant : IsPlant p) (sound : IsSound p) (limit : pairs_of p ≤ 2 ^ 22) (i : ℕ) (t : ExtentTable) (slots : ℕ) (are : AreDigitsOf p i t.digits.items slots)
     (inputs_long : length t.inputs.items ≡ vectors_of p.inputs) (inputs_are : HoldSlots p t.digits.items t.inputs.items)
-    (moves : t.moves ≡ moves_along p i) (extents_long : length t.extents ≡ slots) (extents_are : HoldExtentsFrom p i t.digits.items 0 t.extents) where
+    (shifts : t.shifts ≡ moves_along p i) (extents_long : length t.extents ≡ slots) (extents_are : HoldExtentsFrom p i t.digits.items 0 t.extents) where
   -- a pair has the slot that its cell and its input bring
   slot_of_pair : (c u : ℕ) → u < vectors_of p.inputs → slot_at t.digits.items (index_in p c u) ≡ first_of p t.digits.items c + get_or t.inputs.items u 0
   slot_of_pair c u input =
@@ -30,7 +30,7 @@ module _ (p : Description) (plant : IsPlant p) (sound : IsSound p) (limit : pair
     digits = variables p i t.digits.items are.each;
     few = omega (arith, limit, extents_long, are.few);
     each = λ k d short. subst (IsRelativeExtent p i) (get_or_default t.extents k None d short) (extents_are k short).relative;
-    moves = moves;
+    shifts = shifts;
     inputs = inputs_long;
     slot = λ c u cell input. has_slot c u input;
     extent = λ c u cell input. (extents_are (first_of p t.digits.items c + get_or t.inputs.items u 0) (has_slot c u input)).each c u cell input (slot_of_pair c u input ∙ (let here : first_of p t.digits.items c + get_or t.inputs.items u 0 ≡ 0 + (first_of p t.digits.items c + get_or t.inputs.items u 0) = omega arith in here));

@@ -74,16 +74,16 @@ module _ (p : Description) (plant : IsPlant p) where
       same_slots (index_in p c 0) (index_in p d 0) ds
       (All-weaker (λ (e : Digit). e.variable ≢ last_state p) (λ (e : Digit). index_in p c 0 e.variable ≡ index_in p d 0 e.variable) (λ e other. same_slot c d e.variable same other) ds stays)
 
-  same_moves : (i c d : ℕ) (b : Bool) → i < length p.states → d / line_length p ≡ c / line_length p → (IsTrue b → i ≢ last_state p) → (if b then index_along (axes_of p) i c else 0) ≡ (if b then index_along (axes_of p) i d else 0)
-  same_moves i c d true lt same stays = state_slot p c 0 i lt ∙ same_slot c d i same (stays refl) ∙ sym (state_slot p d 0 i lt)
-  same_moves i c d false lt same stays = refl
+  same_shifts : (i c d : ℕ) (b : Bool) → i < length p.states → d / line_length p ≡ c / line_length p → (IsTrue b → i ≢ last_state p) → (if b then index_along (axes_of p) i c else 0) ≡ (if b then index_along (axes_of p) i d else 0)
+  same_shifts i c d true lt same stays = state_slot p c 0 i lt ∙ same_slot c d i same (stays refl) ∙ sym (state_slot p d 0 i lt)
+  same_shifts i c d false lt same stays = refl
 
   -- what brings to a table what a cell does, does so for its whole row
   pub brings_in_row : (i : ℕ) (t : TermTable) (first own c d : ℕ) → i < length p.states → IsTermTableOf p i t → StaysAlongLines (last_state p) i t → IsInLineOf p c d → Brings p i t first own c → Brings p i t first own d
   brings_in_row i t first own c d lt held stays row brought = record {
     cell = row.0;
     first = brought.first ∙ same_first c d t.digits.items row.1 stays.digits;
-    moves = brought.moves ∙ same_moves i c d (moves_along p i) lt row.1 (λ moves. stays.moves (subst IsTrue (sym held.moves) moves));
+    shifts = brought.shifts ∙ same_shifts i c d (moves_along p i) lt row.1 (λ shifts. stays.shifts (subst IsTrue (sym held.shifts) shifts));
   }
 
   -- the slot along another axis of a cell further in the row, and that along the last one
@@ -102,7 +102,7 @@ module _ (p : Description) (plant : IsPlant p) where
       (λ own. let is = eqb-true j (last_state p) own in omega (arith, later_place c k n row lt, ap (index_in p c 0) is, ap (index_in p (c + k) 0) is))
       (λ other. omega (arith, same_place c k n j row lt (eqb-false j (last_state p) other)))
 
-  -- what it brings to a table, and by how much it moves the extents
+  -- what it brings to a table, and by how much it shifts the extents
   first_in_line : (c k n : ℕ) (ds : List Digit) → AreInLine p c n → k < n → slot_at ds (index_in p (c + k) 0) ≡ slot_at ds (index_in p c 0) + k * slot_at ds (λ (j : ℕ). if j == last_state p then 1 else 0)
   first_in_line c k n [] row lt = omega arith
   first_in_line c k n (d ∷ ds) row lt =
@@ -110,15 +110,15 @@ module _ (p : Description) (plant : IsPlant p) where
       let here = ap (λ (m : ℕ). m * d.stride) (place_in_line c k n d.variable row lt) in
       omega (arith, here, first_in_line c k n ds row lt, next_digit (index_in p (c + k) 0) d ds, next_digit (index_in p c 0) d ds, ap (λ (m : ℕ). k * m) (next_digit unit d ds))
 
-  moved_in_line : (i c k n : ℕ) (b : Bool) → i < length p.states → AreInLine p c n → k < n →
+  shifted_in_line : (i c k n : ℕ) (b : Bool) → i < length p.states → AreInLine p c n → k < n →
       (if b then index_along (axes_of p) i c else 0) + k * (if b then (if i == last_state p then 1 else 0) else 0) ≡ (if b then index_along (axes_of p) i (c + k) else 0)
-  moved_in_line i c k n true lt row within = omega (arith, state_slot p c 0 i lt, state_slot p (c + k) 0 i lt, place_in_line c k n i row within)
-  moved_in_line i c k n false lt row within = omega arith
+  shifted_in_line i c k n true lt row within = omega (arith, state_slot p c 0 i lt, state_slot p (c + k) 0 i lt, place_in_line c k n i row within)
+  shifted_in_line i c k n false lt row within = omega arith
 
   -- where a row has one cell, the step is of no account
-  pub brings_in_line : (i : ℕ) (t : TermTable) (c k n first own step own_step : ℕ) → i < length p.states → t.moves ≡ moves_along p i → AreInLine p c n → k < n →
-      (1 < n → step ≡ step_of t (last_state p)) → own_step ≡ (if t.moves then (if i == last_state p then 1 else 0) else 0) → Brings p i t first own c → Brings p i t (first + k * step) (own + k * own_step) (c + k)
-  brings_in_line i t c k n first own step own_step lt moves row within step_is own_is brought =
+  pub brings_in_line : (i : ℕ) (t : TermTable) (c k n first own step own_step : ℕ) → i < length p.states → t.shifts ≡ moves_along p i → AreInLine p c n → k < n →
+      (1 < n → step ≡ step_of t (last_state p)) → own_step ≡ (if t.shifts then (if i == last_state p then 1 else 0) else 0) → Brings p i t first own c → Brings p i t (first + k * step) (own + k * own_step) (c + k)
+  brings_in_line i t c k n first own step own_step lt shifts row within step_is own_is brought =
       let steps : k * step ≡ k * step_of t (last_state p) =
       elim (cases_lt 1 n) [
         | inl more ↦ ap (λ (m : ℕ). k * m) (step_is more)
@@ -126,11 +126,11 @@ module _ (p : Description) (plant : IsPlant p) where
       ]
       in
       let unit : ℕ = if i == last_state p then 1 else 0 in
-      let own_by : own_step ≡ (if moves_along p i then unit else 0) = own_is ∙ ap (λ (b : Bool). if b then unit else 0) moves in
+      let own_by : own_step ≡ (if moves_along p i then unit else 0) = own_is ∙ ap (λ (b : Bool). if b then unit else 0) shifts in
       record {
         cell = omega (arith, row.within, within);
         first = omega (arith, brought.first, steps, first_in_line c k n t.digits.items row within);
-        moves = omega (arith, brought.moves, ap (λ (m : ℕ). k * m) own_by, moved_in_line i c k n (moves_along p i) lt row within);
+        shifts = omega (arith, brought.shifts, ap (λ (m : ℕ). k * m) own_by, shifted_in_line i c k n (moves_along p i) lt row within);
       }
 
   -- the indices of a cell further in the row

@@ -36,13 +36,13 @@ tables_more p tables n t long each here i d lt =
           subst (AreTermsOf p i) (sym found) (subst (λ (k : ℕ). AreTermsOf p k t) (sym last) here)
     ]
 
--- a cell moves an extent along by less than the axis is long
-pub moved_below : (p : Description) → IsSound p → (i c : ℕ) → i < length p.equations → shifted_by p i c < (get_or (axes_of p) i no_axis).count
-moved_below p sound i c lt =
+-- a cell shifts an extent along by less than the axis is long
+pub shifted_below : (p : Description) → IsSound p → (i c : ℕ) → i < length p.equations → shifted_by p i c < (get_or (axes_of p) i no_axis).count
+shifted_below p sound i c lt =
     let count : ℕ = (get_or (axes_of p) i no_axis).count in
     let within : i < length (axes_of p) = omega (arith, lt, sound.one_each, length-map p.states axis_of) in
     let some : 0 < count = (All-get_or IsAxis (axes_of p) i no_axis within sound.axes.each).some_cell in
-    cond_both (moves_along p i) (index_along (axes_of p) i c) 0 (λ (n : ℕ). n < count) (λ moves. index_along_below (axes_of p) i c sound.axes.each within) (λ fixed. some)
+    cond_both (moves_along p i) (index_along (axes_of p) i c) 0 (λ (n : ℕ). n < count) (λ shifts. index_along_below (axes_of p) i c sound.axes.each within) (λ fixed. some)
 
 -- what the indices of a cell bring is what the cell brings
 pub first_is : (p : Description) (t : TermTable) (c : ℕ) (indices : List ℕ) → All (HasVariable p) t.digits.items → AreIndicesOf p c indices → first_in t indices ≡ first_of p t.digits.items c
@@ -50,21 +50,21 @@ first_is p t c indices each are = slot_is p c 0 indices t.digits.items each are
 
 -- a cell's indices bring to each table what the cell does
 pub brings : (p : Description) → IsSound p → (i : ℕ) (t : TermTable) (c first own : ℕ) (indices : List ℕ) → i < length p.equations → IsTermTableOf p i t → c < cells_of (axes_of p) → AreIndicesOf p c indices →
-    first ≡ first_in t indices → own ≡ (if t.moves then get_or indices i 0 else 0) → Brings p i t first own c
+    first ≡ first_in t indices → own ≡ (if t.shifts then get_or indices i 0 else 0) → Brings p i t first own c
 brings p sound i t c first own indices lt held cell are first_by own_by =
     let state : i < length p.states = omega (arith, lt, sound.one_each) in
     let here : get_or indices i 0 ≡ index_along (axes_of p) i c = are i (omega (arith, state)) ∙ sym (state_slot p c 0 i state) in
     record {
       cell = cell;
       first = first_by ∙ first_is p t c indices held.digits are;
-      moves = own_by ∙ ap₂ (λ (b : Bool) (n : ℕ). if b then n else 0) held.moves here;
+      shifts = own_by ∙ ap₂ (λ (b : Bool) (n : ℕ). if b then n else 0) held.shifts here;
     }
 
 -- the variables are among the nine
 pub variables_few : (p : Description) → IsPlant p → (ds : List Digit) → All (HasVariable p) ds → All (λ (d : Digit). d.variable < 9) ds
 variables_few p plant ds each = All-weaker (HasVariable p) (λ (d : Digit). d.variable < 9) (λ d h. omega (arith, h, plant.states_bound, plant.inputs_bound)) ds each
 
--- what a cell brings is among the terms, and it moves the extents by no more than it is
+-- what a cell brings is among the terms, and it shifts the extents by no more than it is
 pub first_fits : (p : Description) → IsPlant p → (i : ℕ) (t : TermTable) (first own c : ℕ) → IsTermTableOf p i t → Brings p i t first own c → first < 2 ^ 32
 first_fits p plant i t first own c held brought = omega (arith, brought.first, held.slot c 0 brought.cell (some_vectors p plant), held.few)
 
@@ -72,7 +72,7 @@ pub own_few : (p : Description) (i : ℕ) (t : TermTable) (first own c : ℕ) �
 own_few p i t first own c brought =
     let later : ℕ = cells_of (drop (i + 1) (axes_of p)) in
     let along : index_along (axes_of p) i c ≤ c = omega (arith, index_along_is (axes_of p) i c, mod-le (c / later) (get_or (axes_of p) i no_axis).count, div-le_self c later) in
-    subst (λ (n : ℕ). n ≤ c) (sym brought.moves) (cond_both (moves_along p i) (index_along (axes_of p) i c) 0 (λ (n : ℕ). n ≤ c) (λ moves. along) (λ fixed. omega arith))
+    subst (λ (n : ℕ). n ≤ c) (sym brought.shifts) (cond_both (moves_along p i) (index_along (axes_of p) i c) 0 (λ (n : ℕ). n ≤ c) (λ shifts. along) (λ fixed. omega arith))
 
 -- in a free table each input brings nothing
 pub none_brought : (p : Description) (i : ℕ) (t : TermTable) (u : ℕ) → IsTermTableOf p i t → IsTrue t.free → u < vectors_of p.inputs → get_or t.inputs.items u 0 ≡ 0
@@ -90,4 +90,4 @@ module _ (p : Description) (sound : IsSound p) (i : ℕ) (lt : i < length p.equa
   slot_within c brought below = subst (λ (n : ℕ). n < count_of t.terms) (same_slot c input brought refl) (held.slot c input brought.cell below)
 
   pub own_below : (c : ℕ) → Brings p i t first own c → own < (get_or (axes_of p) i no_axis).count
-  own_below c brought = omega (arith, brought.moves, moved_below p sound i c lt)
+  own_below c brought = omega (arith, brought.shifts, shifted_below p sound i c lt)

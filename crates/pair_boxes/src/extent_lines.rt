@@ -2,15 +2,14 @@
 ghost use Rattle.std.specs.Prelude.{◌≡◌, ℕ, ◌+◌, ◌^◌, ◌≤◌, ◌<◌, length};
 ghost use Rattle.std.specs.List.{All};
 ghost use Rattle.fixed_expr.specs.declared.lanes.TheConstants.{LANES};
-ghost use Rattle.plant_record.specs.Limits.{IsWithinLimits};
 ghost use Rattle.pair_boxes.specs.inside.Digits.{AreDigitsOf, IsReadable, AreIndicesAt, LieAlong, LieInLines};
 ghost use Rattle.pair_boxes.specs.inside.ExtentTables.{HoldExtentsFrom};
 
 use crate::digits::{Digit, Digits};
+use crate::state_of::StateOf;
 use fixed_expr::LANES;
 use grid_quantiser::Extent;
-use plant_record::Plant;
-use successor_box::{CellLine, INDICES_LIMIT, Sampled, input_number};
+use successor_box::{CellLine, INDICES_LIMIT, input_number};
 
 /// To start a thread takes as long as to find so many extents.
 pub(crate) const EXTENTS_PER_TASK: usize = 1024;
@@ -24,45 +23,35 @@ struct SlotLines {
 
 /// The extents of a slot and of the next ones.
 pub(crate) fn fill_chunk(
-    sampled: &Sampled<'_>,
-    state: u32,
+    of: &StateOf<'_>,
     digits: &Digits,
     slot: u32,
     chunk: &mut [Option<Extent>],
 )
-    requires state { state < length sampled.now.plant.now.equations }
-    requires digits { AreDigitsOf sampled.now.plant.now state digits.now.each.items digits.now.slots }
+    requires digits { AreDigitsOf of.now.sampled.plant.now of.now.state digits.now.each.items digits.now.slots }
     requires capacity { slot + length chunk.old < 2 ^ 32 }
     ensures long { length chunk.new ≡ length chunk.old }
-    ensures each { HoldExtentsFrom sampled.now.plant.now state digits.now.each.items slot chunk.new }
+    ensures each { HoldExtentsFrom of.now.sampled.plant.now of.now.state digits.now.each.items slot chunk.new }
 {
-    let lines = lines_of(sampled.plant, digits);
+    let lines = lines_of(of, digits);
     let mut done: usize = 0;
     while done < chunk.len() {
         let slot = slot + done as u32;
         let left = (lines.count - slot % lines.count) as usize;
         let end = chunk.len().min(done + left.min(LANES));
-        fill_line(
-            sampled,
-            state,
-            digits,
-            lines.along,
-            slot,
-            &mut chunk[done..end],
-        );
+        fill_line(of, digits, lines.along, slot, &mut chunk[done..end]);
         done = end;
     }
 }
 
 /// The lines in which slots lie: along the state that has the lowest digit, or of one slot each where no state has it.
-fn lines_of(p: &Plant, digits: &Digits) -> SlotLines
-    requires plant { IsWithinLimits p.now }
-    requires digits { (i : ℕ) × AreDigitsOf p.now i digits.now.each.items digits.now.slots }
-    ensures { LieInLines p.now digits.now.each.items result }
+fn lines_of(of: &StateOf<'_>, digits: &Digits) -> SlotLines
+    requires { AreDigitsOf of.now.sampled.plant.now of.now.state digits.now.each.items digits.now.slots }
+    ensures { LieInLines of.now.sampled.plant.now digits.now.each.items result }
 {
     if digits.each.len() > 0 {
         let lowest = digits.each[0];
-        if lowest.variable < p.states() {
+        if lowest.variable < of.sampled.plant.states() {
             return SlotLines {
                 along: lowest.variable,
                 count: lowest.count,
@@ -74,27 +63,26 @@ fn lines_of(p: &Plant, digits: &Digits) -> SlotLines
 
 /// The extents of slots in a line, up to as many as there are lanes.
 fn fill_line(
-    sampled: &Sampled<'_>,
-    state: u32,
+    of: &StateOf<'_>,
     digits: &Digits,
     along: u32,
     slot: u32,
     line: &mut [Option<Extent>],
 )
-    requires state { state < length sampled.now.plant.now.equations }
-    requires digits { AreDigitsOf sampled.now.plant.now state digits.now.each.items digits.now.slots }
-    requires along { along < length sampled.now.plant.now.states }
+    requires digits { AreDigitsOf of.now.sampled.plant.now of.now.state digits.now.each.items digits.now.slots }
+    requires along { along < length of.now.sampled.plant.now.states }
     requires line { LieAlong digits.now.each.items along slot (length line.old) }
     requires some { 1 ≤ length line.old }
     requires few { length line.old ≤ LANES }
     ensures long { length line.new ≡ length line.old }
-    ensures each { HoldExtentsFrom sampled.now.plant.now state digits.now.each.items slot line.new }
+    ensures each { HoldExtentsFrom of.now.sampled.plant.now of.now.state digits.now.each.items slot line.new }
 {
-    let p = sampled.plant;
+    let p = of.sampled.plant;
     let indices = indices_at(&digits.each, slot);
     let mut cells = CellLine::new(p, &indices, along, line.len());
     let input = input_number(p, &indices);
-    sampled.extents_under(input, state, None, &mut cells, line);
+    of.sampled
+        .extents_under(input, of.state, None, &mut cells, line);
 }
 
 /// The indices of a slot, in each state and each input variable.

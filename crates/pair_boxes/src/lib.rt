@@ -11,6 +11,7 @@ mod extent_table;
 mod pair_box;
 mod pair_boxes;
 mod per_pair;
+mod state_of;
 mod terms;
 
 pub use pair_box::PairBox;

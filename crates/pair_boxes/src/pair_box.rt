@@ -40,24 +40,14 @@ impl Model for PairBox {
 }
 
 impl PairBox {
-    /// A box, or none.
-    #[inline]
-    pub(crate) fn new(b: Option<CellBox>) -> PairBox
-        requires ordered { IfSome b (λ b. b.first ≤ b.last) }
-        requires few { IfSome b (λ b. b.last < SUMS_LIMIT) }
-        ensures { result ≡ b }
-    {
-        match b {
-            Some(b) => PairBox {
-                first: b.first,
-                last: b.last,
-            },
-            None => PairBox {
-                first: NO_BOX,
-                last: NO_BOX,
-            },
-        }
-    }
+    /// The one cell on no axis, which adds nothing.
+    pub(crate) const ONE_CELL: PairBox = PairBox { first: 0, last: 0 };
+
+    /// No box.
+    const NONE: PairBox = PairBox {
+        first: NO_BOX,
+        last: NO_BOX,
+    };
 
     /// The box, where there is one.
     #[inline]
@@ -81,19 +71,19 @@ impl PairBox {
         self.first == 0 && self.last == 0
     }
 
-    /// What an extent adds to a box, along an axis of which one slot makes so many cells: none where the extent is missing.
+    /// What an extent adds to a box, along an axis of which one index makes so many cells: none where the extent is missing.
     #[inline]
     pub(crate) fn term(extent: Option<Extent>, stride: u32) -> PairBox
         requires { IfSome extent (λ s. (s.first ≤ s.last) × (s.last * stride < SUMS_LIMIT)) }
         ensures { result ≡ term stride extent }
     {
         let Some(extent) = extent else {
-            return PairBox::new(None);
+            return PairBox::NONE;
         };
-        PairBox::new(Some(CellBox {
+        PairBox {
             first: extent.first * stride,
             last: extent.last * stride,
-        }))
+        }
     }
 
     /// The sum of two boxes, end by end: none where one of the two is missing. Both ends are added at once, in one word,

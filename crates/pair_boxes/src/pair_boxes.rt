@@ -12,7 +12,6 @@ ghost use Rattle.pair_boxes.specs.inside.Terms.{AreTermTablesOf};
 use crate::cell_lines::boxes_in_line;
 use crate::pair_box::PairBox;
 use crate::terms::{StateTerms, build_tables};
-use grid_quantiser::CellBox;
 use raw_slots::RawList;
 use std::alloc::{AllocError, Global};
 use std::thread::Threads;
@@ -23,7 +22,7 @@ use successor_box::Sampled;
 const BOXES_PER_TASK: usize = 4096;
 
 /// So many cells share a call at least, where there are more calls than one: what the earlier states bring to a box is added once for
-/// those of a row.
+/// those of a line.
 const CELLS_PER_TASK: usize = 8;
 
 /// The box of each pair of a cell and an input. What the extents along each axis add to it is found first, once for
@@ -43,7 +42,7 @@ pub fn build_boxes<R: Threads + Sync>(
     RawList::by_chunks(
         rt,
         alloc,
-        PairBox::new(Some(CellBox { first: 0, last: 0 })),
+        PairBox::ONE_CELL,
         cells * inputs,
         cells_in_chunk(cells, inputs) * inputs,
         |at: usize, boxes: &mut [PairBox]|
@@ -73,7 +72,7 @@ fn cells_in_chunk(cells: usize, inputs: usize) -> usize
     (BOXES_PER_TASK / inputs).max(CELLS_PER_TASK)
 }
 
-/// The boxes of cells from one on, row by row.
+/// The boxes of cells from one on, line by line.
 fn boxes_of_cells(sampled: &Sampled<'_>, tables: &[StateTerms], c: u32, boxes: &mut [PairBox])
     requires tables { AreTermTablesOf sampled.now.plant.now tables.now }
     requires cells { AreInputsOfCells sampled.now.plant.now c boxes.old }
@@ -84,10 +83,10 @@ fn boxes_of_cells(sampled: &Sampled<'_>, tables: &[StateTerms], c: u32, boxes: &
     let p = sampled.plant;
     let inputs = p.vectors() as usize;
     let cells = boxes.len() / inputs;
-    let row = p.grid().count(p.states() - 1) as usize;
+    let line = p.grid().count(p.states() - 1) as usize;
     let mut done: usize = 0;
     while done < cells {
-        let end = cells.min(done + row - (c as usize + done) % row);
+        let end = cells.min(done + line - (c as usize + done) % line);
         boxes_in_line(
             sampled,
             tables,

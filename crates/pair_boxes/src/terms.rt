@@ -3,19 +3,18 @@ ghost use Rattle.std.specs.Prelude.{◌≡◌, ℕ, ◌+◌, ◌*◌, ◌^◌, �
 ghost use Rattle.std.specs.List.{All};
 ghost use Rattle.grid_quantiser.specs.Axes.{no_axis};
 ghost use Rattle.plant_record.specs.Description.{axes_of, vectors_of};
-ghost use Rattle.plant_record.specs.Limits.{IsWithinLimits};
 ghost use Rattle.successor_box.specs.PairExtents.{moves_along};
 ghost use Rattle.successor_box.specs.declared.indices_limit.TheConstants.{INDICES_LIMIT};
 ghost use Rattle.pair_boxes.specs.inside.CellLines.{StaysAlongLines};
 ghost use Rattle.pair_boxes.specs.inside.ExtentTables.{IsRelativeExtent, IsExtentTableOf};
-ghost use Rattle.pair_boxes.specs.inside.Terms.{first_in, step_of, stride_of, own_count, IsTermFrom, Brings, IsTermBrought, HoldTermsFrom, IsTermTableOf, AreTermsOf, AreTermTablesOf};
+ghost use Rattle.pair_boxes.specs.inside.Terms.{first_in, step_of, own_count, IsTermFrom, Brings, IsTermBrought, HoldTermsFrom, IsTermTableOf, AreTermsOf, AreTermTablesOf};
 ghost use Rattle.base.specs.declared.limits.TheConstants.{PAIRS_LIMIT};
 
 use crate::digits::{Digit, Digits, build_digits, slot_of};
 use crate::extent_table::{ExtentTable, build_table};
 use crate::pair_box::PairBox;
+use crate::state_of::StateOf;
 use grid_quantiser::Extent;
-use plant_record::Plant;
 use raw_slots::RawList;
 use std::alloc::{AllocError, Global};
 use std::thread::Threads;
@@ -38,21 +37,21 @@ pub(crate) enum StateTerms {
 /// What the extents along an axis add to boxes.
 #[derive(Drop)]
 pub(crate) enum Terms {
-    /// The terms, of each slot of a cell along the axis, where these move the extents, one slot after another.
+    /// The terms, for each index of a cell along the axis, where these shift the extents, one slot after another.
     Listed(Vec<PairBox>),
     /// The extents, of which each term is found as it is asked for.
-    Moved(RawList<Option<Extent>>),
+    Shifted(RawList<Option<Extent>>),
 }
 
 /// What the extents along the axis of a state add to boxes, by the digits that find them. Where the terms are listed and
-/// the extents move with a cell's own slot, that is one more digit. `stride` is how many cells one slot along the axis
+/// the extents shift with a cell's own index, that is one more digit. `stride` is how many cells one index along the axis
 /// makes, and in a `free` table no term depends on an input.
 #[derive(Drop)]
 pub(crate) struct TermTable {
     pub(crate) digits: Vec<Digit>,
     pub(crate) inputs: Vec<u32>,
     pub(crate) terms: Terms,
-    pub(crate) moves: bool,
+    pub(crate) shifts: bool,
     pub(crate) free: bool,
     pub(crate) stride: u32,
 }
@@ -82,16 +81,16 @@ impl TermTable {
         step
     }
 
-    /// How many indices a cell moves the extents, by its own slot along the axis.
+    /// How many indices a cell shifts the extents, by its own index along the axis.
     #[inline]
-    pub(crate) fn shifted_by(&self, slot: u32) -> u32
-        ensures { result ≡ (if self.now.moves then slot else 0) }
+    pub(crate) fn shifted_by(&self, index: u32) -> u32
+        ensures { result ≡ (if self.now.shifts then index else 0) }
     {
-        if self.moves { slot } else { 0 }
+        if self.shifts { index } else { 0 }
     }
 
-    /// Whether a state's terms are the same all along each row: they depend on no slot along the last state, nor
-    /// move with it.
+    /// Whether a state's terms are the same all along each line: they depend on no index along the last state, nor
+    /// shift with it.
     pub(crate) fn stays_along_lines(&self, state: u32, last: u32) -> bool
         ensures { IsTrue result → StaysAlongLines last state self.now }
     {
@@ -100,47 +99,34 @@ impl TermTable {
                 return false;
             }
         }
-        !(self.moves && state == last)
+        !(self.shifts && state == last)
     }
 
-    /// The term of the box of a cell that brings `first` and moves the extents so many indices, under an input.
+    /// The term of the box of a cell that brings `first` and shifts the extents so many indices, under an input.
     #[inline]
-    pub(crate) fn term(&self, p: &Plant, state: u32, first: u32, own: u32, input: u32) -> PairBox
-        requires plant { IsWithinLimits p.now }
-        requires table { IsTermTableOf p.now state self.now }
-        requires state { state < length p.now.equations }
-        requires cell { (c : ℕ) × Brings p.now state self.now first own c }
-        requires input { input < vectors_of p.now.inputs }
-        ensures { IsTermBrought p.now state self.now first own input result }
+    pub(crate) fn term(&self, of: &StateOf<'_>, first: u32, own: u32, input: u32) -> PairBox
+        requires table { IsTermTableOf of.now.sampled.plant.now of.now.state self.now }
+        requires cell { (c : ℕ) × Brings of.now.sampled.plant.now of.now.state self.now first own c }
+        requires input { input < vectors_of of.now.sampled.plant.now.inputs }
+        ensures { IsTermBrought of.now.sampled.plant.now of.now.state self.now first own input result }
     {
         let slot = first as usize + self.inputs[input as usize] as usize;
         match &self.terms {
             Terms::Listed(terms) => terms[slot],
-            Terms::Moved(extents) => {
-                let extent = extents.as_slice()[slot];
-                term_of(p, state, self.stride, extent, own)
-            }
+            Terms::Shifted(extents) => term_of(of, extents.as_slice()[slot], own),
         }
     }
 }
 
 /// What an extent adds to a box, so many indices further along the axis.
 #[inline]
-pub(crate) fn term_of(
-    p: &Plant,
-    state: u32,
-    stride: u32,
-    extent: Option<Extent>,
-    indices: u32,
-) -> PairBox
-    requires plant { IsWithinLimits p.now }
-    requires state { state < length p.now.equations }
-    requires stride { stride ≡ stride_of p.now state }
-    requires indices { indices < (slice_index_or (axes_of p.now) state no_axis).count }
-    requires extent { IsRelativeExtent p.now state extent }
-    ensures { IsTermFrom p.now state indices extent result }
+pub(crate) fn term_of(of: &StateOf<'_>, extent: Option<Extent>, indices: u32) -> PairBox
+    requires indices { indices < (slice_index_or (axes_of of.now.sampled.plant.now) of.now.state no_axis).count }
+    requires extent { IsRelativeExtent of.now.sampled.plant.now of.now.state extent }
+    ensures { IsTermFrom of.now.sampled.plant.now of.now.state indices extent result }
 {
-    PairBox::term(p.grid().shifted_extent(state, extent, indices), stride)
+    let grid = of.sampled.plant.grid();
+    PairBox::term(grid.shifted_extent(of.state, extent, indices), of.stride)
 }
 
 /// The terms of all boxes, state by state.
@@ -156,7 +142,12 @@ pub(crate) fn build_tables<R: Threads + Sync>(
     let mut stride = p.grid().cells();
     for state in 0..p.states() {
         stride /= p.grid().count(state);
-        tables.push(build_state(rt, alloc, sampled, state, stride)?)?;
+        let of = StateOf {
+            sampled: *sampled,
+            state,
+            stride,
+        };
+        tables.push(build_state(rt, alloc, &of)?)?;
     }
     Ok(tables)
 }
@@ -165,91 +156,76 @@ pub(crate) fn build_tables<R: Threads + Sync>(
 fn build_state<R: Threads + Sync>(
     rt: &R,
     alloc: Global,
-    sampled: &Sampled<'_>,
-    state: u32,
-    stride: u32,
+    of: &StateOf<'_>,
 ) -> Result<StateTerms, AllocError>
-    requires state { state < length sampled.now.plant.now.equations }
-    requires stride { stride ≡ stride_of sampled.now.plant.now state }
-    ensures { IfOk result (λ terms. AreTermsOf sampled.now.plant.now state terms) }
+    ensures { IfOk result (λ terms. AreTermsOf of.now.sampled.plant.now of.now.state terms) }
 {
-    let p = sampled.plant;
-    let digits = build_digits(alloc, p, state)?;
-    if has_slot_for_each_pair(p, state, &digits) {
-        let increments = sampled.input_increments(alloc, state)?;
-        return Ok(StateTerms::PerPair { stride, increments });
+    let digits = build_digits(alloc, of)?;
+    if has_slot_for_each_pair(of, &digits) {
+        return Ok(StateTerms::PerPair {
+            stride: of.stride,
+            increments: of.sampled.input_increments(alloc, of.state)?,
+        });
     }
-    let extents = build_table(rt, alloc, sampled, state, digits)?;
-    let table = build_terms(alloc, p, state, stride, extents)?;
-    Ok(StateTerms::Table(table))
+    let extents = build_table(rt, alloc, of, digits)?;
+    Ok(StateTerms::Table(build_terms(alloc, of, extents)?))
 }
 
-/// Whether a table of extents had a slot for each pair, and none were moved: then it would only be written and read once.
-fn has_slot_for_each_pair(p: &Plant, state: u32, digits: &Digits) -> bool
-    requires plant { IsWithinLimits p.now }
-    requires state { state < length p.now.equations }
-{
-    !p.equation(state).shifts_with(state) && digits.slots == p.grid().cells() * p.vectors()
+/// Whether a table of extents had a slot for each pair, and none were shifted: then it would only be written and read once.
+fn has_slot_for_each_pair(of: &StateOf<'_>, digits: &Digits) -> bool {
+    let p = of.sampled.plant;
+    !p.equation(of.state).shifts_with(of.state) && digits.slots == p.grid().cells() * p.vectors()
 }
 
 /// The terms along the axis of one state, listed if they are few.
 fn build_terms(
     alloc: Global,
-    p: &Plant,
-    state: u32,
-    stride: u32,
+    of: &StateOf<'_>,
     table: ExtentTable,
 ) -> Result<TermTable, AllocError>
-    requires plant { IsWithinLimits p.now }
-    requires state { state < length p.now.equations }
-    requires stride { stride ≡ stride_of p.now state }
-    requires table { IsExtentTableOf p.now state table }
-    ensures { IfOk result (λ terms. IsTermTableOf p.now state terms) }
+    requires { IsExtentTableOf of.now.sampled.plant.now of.now.state table }
+    ensures { IfOk result (λ terms. IsTermTableOf of.now.sampled.plant.now of.now.state terms) }
 {
-    let own = own_indices_along(p, state, table.moves);
+    let p = of.sampled.plant;
+    let own = own_indices_along(of, table.shifts);
     let pairs = p.grid().cells() as usize * p.vectors() as usize;
     if table.extents.as_slice().len() <= pairs / PAIRS_FOR_EACH_TERM / own as usize {
-        return build_listed(alloc, p, state, stride, own, table);
+        return build_listed(alloc, of, own, table);
     }
     let free = are_zero(&table.inputs);
     Ok(TermTable {
         digits: table.digits,
         inputs: table.inputs,
-        terms: Terms::Moved(table.extents),
-        moves: table.moves,
+        terms: Terms::Shifted(table.extents),
+        shifts: table.shifts,
         free,
-        stride,
+        stride: of.stride,
     })
 }
 
 /// The terms that extents make, for each of so many indices of a cell along the axis.
 fn build_listed(
     alloc: Global,
-    p: &Plant,
-    state: u32,
-    stride: u32,
+    of: &StateOf<'_>,
     own: u32,
     table: ExtentTable,
 ) -> Result<TermTable, AllocError>
-    requires plant { IsWithinLimits p.now }
-    requires state { state < length p.now.equations }
-    requires stride { stride ≡ stride_of p.now state }
-    requires own { own ≡ own_count p.now state }
+    requires own { own ≡ own_count of.now.sampled.plant.now of.now.state }
     requires few { own * length table.extents ≤ PAIRS_LIMIT }
-    requires table { IsExtentTableOf p.now state table }
-    ensures { IfOk result (λ terms. IsTermTableOf p.now state terms) }
+    requires table { IsExtentTableOf of.now.sampled.plant.now of.now.state table }
+    ensures { IfOk result (λ terms. IsTermTableOf of.now.sampled.plant.now of.now.state terms) }
 {
     let ExtentTable {
         mut digits,
         inputs,
         extents,
-        moves,
+        shifts,
     } = table;
     let extents = extents.as_slice();
-    let terms = build_term_list(alloc, p, state, stride, own, extents)?;
-    if moves {
+    let terms = build_term_list(alloc, of, own, extents)?;
+    if shifts {
         digits.push(Digit {
-            variable: state,
+            variable: of.state,
             count: own,
             stride: extents.len() as u32,
         })?;
@@ -259,9 +235,9 @@ fn build_listed(
         digits,
         inputs,
         terms: Terms::Listed(terms),
-        moves,
+        shifts,
         free,
-        stride,
+        stride: of.stride,
     })
 }
 
@@ -277,40 +253,37 @@ fn are_zero(numbers: &[u32]) -> bool
     true
 }
 
-/// How many indices of cells along the axis of a state there are, by which its extents move.
-fn own_indices_along(p: &Plant, state: u32, moves: bool) -> u32
-    requires plant { IsWithinLimits p.now }
-    requires state { state < length p.now.equations }
-    requires moves { moves ≡ moves_along p.now state }
-    ensures { result ≡ own_count p.now state }
+/// How many indices of cells along the axis of a state there are, by which its extents shift.
+fn own_indices_along(of: &StateOf<'_>, shifts: bool) -> u32
+    requires { shifts ≡ moves_along of.now.sampled.plant.now of.now.state }
+    ensures { result ≡ own_count of.now.sampled.plant.now of.now.state }
 {
-    if moves { p.grid().count(state) } else { 1 }
+    if shifts {
+        of.sampled.plant.grid().count(of.state)
+    } else {
+        1
+    }
 }
 
-/// The terms of extents, moved by each of so many indices, one slot after another.
+/// The terms of extents, shifted by each of so many indices, one slot after another.
 fn build_term_list(
     alloc: Global,
-    p: &Plant,
-    state: u32,
-    stride: u32,
+    of: &StateOf<'_>,
     own: u32,
     extents: &[Option<Extent>],
 ) -> Result<Vec<PairBox>, AllocError>
-    requires plant { IsWithinLimits p.now }
-    requires state { state < length p.now.equations }
-    requires stride { stride ≡ stride_of p.now state }
-    requires own { own ≡ own_count p.now state }
+    requires own { own ≡ own_count of.now.sampled.plant.now of.now.state }
     requires few { own * length extents.now ≤ PAIRS_LIMIT }
-    requires extents { All (IsRelativeExtent p.now state) extents.now }
+    requires extents { All (IsRelativeExtent of.now.sampled.plant.now of.now.state) extents.now }
     ensures long { IfOk result (λ terms. length terms.items ≡ own * length extents.now) }
-    ensures each { IfOk result (λ terms. HoldTermsFrom p.now state own extents.now terms.items) }
+    ensures each { IfOk result (λ terms. HoldTermsFrom of.now.sampled.plant.now of.now.state own extents.now terms.items) }
 {
-    let indices = extents.len();
-    let all = own as usize * indices;
+    let slots = extents.len();
+    let all = own as usize * slots;
     let mut terms = Vec::with_capacity(alloc, all)?;
     for n in 0..all {
-        let moved = (n / indices) as u32;
-        terms.push(term_of(p, state, stride, extents[n % indices], moved))?;
+        let index = (n / slots) as u32;
+        terms.push(term_of(of, extents[n % slots], index))?;
     }
     Ok(terms)
 }

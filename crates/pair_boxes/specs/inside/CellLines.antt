@@ -106,7 +106,7 @@ abbrev pub KeepsOtherInputs : Description → ℕ → List (Option CellBox) → 
 KeepsOtherInputs p u old new =
     (k w : ℕ) → w < vectors_of p.inputs → w ≢ u → slice_index_or new (k * vectors_of p.inputs + w) None ≡ slice_index_or old (k * vectors_of p.inputs + w) None
 
--- The terms of a state's table depend on no slot along the last state, nor move with it.
+-- The terms of a state's table depend on no index along the last state, nor shift with it.
 pub record StaysAlongLines (last i : ℕ) (t : TermTable) : Type 0 where
   pub digits : All (λ (d : Digit). d.variable ≢ last) t.digits.items
-  pub moves : IsTrue t.moves → i ≢ last
+  pub shifts : IsTrue t.shifts → i ≢ last

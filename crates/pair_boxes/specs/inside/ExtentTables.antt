@@ -23,17 +23,17 @@ extent_in t first u = slice_index_or t.extents (first + slice_index t.inputs.ite
 abbrev pub IsRelativeExtent : Description → ℕ → Option Extent → Type 0
 IsRelativeExtent p i extent = (low : ℤ) × (high : ℤ) × (low ≤ℤ high) × IsExtentOf (extended_axis (slice_index_or (axes_of p) i no_axis)) low high extent
 
--- A table holds the extents of all pairs along the axis of a state, as many indices before as their cells move them.
+-- A table holds the extents of all pairs along the axis of a state, as many indices before as their cells shift them.
 pub record IsExtentTableOf (p : Description) (i : ℕ) (t : ExtentTable) : Type 0 where
   pub digits : All (λ (d : Digit). d.variable < length p.states + length p.inputs) t.digits.items
   pub few : length t.extents ≤ PAIRS_LIMIT
   pub each : All (IsRelativeExtent p i) t.extents
-  pub moves : t.moves ≡ moves_along p i
+  pub shifts : t.shifts ≡ moves_along p i
   pub inputs : length t.inputs.items ≡ vectors_of p.inputs
   pub slot : (c u : ℕ) → c < cells_of (axes_of p) → u < vectors_of p.inputs → first_of p t.digits.items c + slice_index t.inputs.items u < length t.extents
   pub extent : (c u : ℕ) → c < cells_of (axes_of p) → u < vectors_of p.inputs → IsExtentBeforeAt p c u i (shifted_by p i c) (extent_in t (first_of p t.digits.items c) u)
 
--- An extent is that of all pairs that have a slot, as many indices before as their cells move it.
+-- An extent is that of all pairs that have a slot, as many indices before as their cells shift it.
 pub record IsExtentFor (p : Description) (i : ℕ) (digits : List Digit) (slot : ℕ) (extent : Option Extent) : Type 0 where
   pub relative : IsRelativeExtent p i extent
   pub each : (c u : ℕ) → c < cells_of (axes_of p) → u < vectors_of p.inputs → slot_at digits (index_in p c u) ≡ slot → IsExtentBeforeAt p c u i (shifted_by p i c) extent

@@ -9,7 +9,7 @@ use Rattle.successor_box.specs.AdditiveInputs.{AreInputIncrements}
 use Rattle.successor_box.specs.PairExtents.{index_in, moves_along, shifted_by, IsExtentAt, IsExtentBeforeAt, IsBoxAlong}
 use Rattle.pair_boxes.specs.declared.digits.Digit.{Digit}
 use Rattle.pair_boxes.specs.declared.terms.Terms.{Terms}
-use Rattle.pair_boxes.specs.declared.terms.Terms.TheVariants.{Listed, Moved}
+use Rattle.pair_boxes.specs.declared.terms.Terms.TheVariants.{Listed, Shifted}
 use Rattle.pair_boxes.specs.declared.terms.TermTable.{TermTable}
 use Rattle.pair_boxes.specs.declared.terms.StateTerms.{StateTerms}
 use Rattle.pair_boxes.specs.declared.terms.StateTerms.TheVariants.{Table, PerPair}
@@ -22,7 +22,7 @@ use Rattle.base.specs.declared.limits.TheConstants.{CELLS_LIMIT, PAIRS_LIMIT}
 abbrev pub stride_of : Description → ℕ → ℕ
 stride_of p i = cells_of (drop (i + 1) (axes_of p))
 
--- how many indices along an axis its extents move by: one where they don't
+-- how many indices along an axis its extents shift by: one where they don't
 abbrev pub own_count : Description → ℕ → ℕ
 own_count p i = if moves_along p i then (slice_index_or (axes_of p) i no_axis).count else 1
 
@@ -34,7 +34,7 @@ IsTermAt p c u i b = (extent : Option Extent) × IsExtentAt p c u i extent × (b
 abbrev pub IsTermFrom : Description → ℕ → ℕ → Option Extent → Option CellBox → Type 0
 IsTermFrom p i indices extent b = (c u : ℕ) → IsExtentBeforeAt p c u i indices extent → IsTermAt p c u i b
 
--- the terms of extents, moved by each of so many indices, one after another
+-- the terms of extents, shifted by each of so many indices, one after another
 abbrev pub HoldTermsFrom : Description → ℕ → ℕ → List (Option Extent) → List (Option CellBox) → Type 0
 HoldTermsFrom p i own extents terms =
     (o k : ℕ) → o < own → k < length extents → IsTermFrom p i o (slice_index_or extents k None) (slice_index_or terms (o * length extents + k) None)
@@ -66,18 +66,18 @@ step_of t last = slot_at t.digits.items (λ k. if k == last then 1 else 0)
 -- how many indices terms have
 abbrev pub count_of : Terms → ℕ
 count_of (Listed terms) = length terms.items
-count_of (Moved extents) = length extents
+count_of (Shifted extents) = length extents
 
 -- the term of a pair stands at a slot, or the extent that makes it, so many indices before
 abbrev pub HasTermAt : Description → ℕ → ℕ → ℕ → Terms → ℕ → Type 0
 HasTermAt p c u i (Listed terms) slot = IsTermAt p c u i (slice_index_or terms.items slot None)
-HasTermAt p c u i (Moved extents) slot = IsExtentBeforeAt p c u i (shifted_by p i c) (slice_index_or extents slot None)
+HasTermAt p c u i (Shifted extents) slot = IsExtentBeforeAt p c u i (shifted_by p i c) (slice_index_or extents slot None)
 
 -- A table holds the terms of all pairs along the axis of a state.
 pub record IsTermTableOf (p : Description) (i : ℕ) (t : TermTable) : Type 0 where
   pub digits : All (λ (d : Digit). d.variable < length p.states + length p.inputs) t.digits.items
   pub few : count_of t.terms ≤ PAIRS_LIMIT
-  pub moves : t.moves ≡ moves_along p i
+  pub shifts : t.shifts ≡ moves_along p i
   pub free : IsTrue t.free → All (λ n. n ≡ 0) t.inputs.items
   pub stride : t.stride ≡ stride_of p i
   pub inputs : length t.inputs.items ≡ vectors_of p.inputs
@@ -94,11 +94,11 @@ pub record AreTermTablesOf (p : Description) (tables : List StateTerms) : Type 0
   pub one_each : length tables ≡ length p.equations
   pub each : (i : ℕ) (d : StateTerms) → i < length p.equations → AreTermsOf p i (slice_index_or tables i d)
 
--- A cell brings so much to a state's table, and moves its extents so many indices.
+-- A cell brings so much to a state's table, and shifts its extents so many indices.
 pub record Brings (p : Description) (i : ℕ) (t : TermTable) (brought own c : ℕ) : Type 0 where
   pub cell : c < cells_of (axes_of p)
   pub first : brought ≡ first_of p t.digits.items c
-  pub moves : own ≡ shifted_by p i c
+  pub shifts : own ≡ shifted_by p i c
 
 -- a box is what the extents of all pairs add whose cells bring so much, under each input that has the slot of this one
 abbrev pub IsTermBrought : Description → ℕ → TermTable → ℕ → ℕ → ℕ → Option CellBox → Type 0

@@ -17,10 +17,10 @@ use Rattle.pair_boxes.proofs.cell_lines.add_bases.Goals.{In-loop-cell}
 use Rattle.base.proofs.Products.{part_fits}
 
 -- the cell is one of them, and its boxes are among all
-here : (c : goal.In-loop-cell) → (c.loop-cell.cell < c.requires.cells.1) × (c.loop-cell.cell * c.vectors-inputs.result + c.vectors-inputs.result ≤ length c.loop-cell.boxes)
+here : (c : goal.In-loop-cell) → (c.loop-cell.cell < c.requires.1) × (c.loop-cell.cell * c.vectors-inputs.result + c.vectors-inputs.result ≤ length c.loop-cell.boxes)
 here c =
-    let p = c.args.p.now in
-    let cells = c.requires.cells in
+    let p = c.args.sampled.now.plant.now in
+    let cells = c.requires in
     let v : ℕ = c.vectors-inputs.result in
     let count = cell_count (length c.args.boxes.now) cells.1 v (vectors_of p.inputs) cells.2.one_each c.vectors-inputs.ensures.count c.vectors-inputs.ensures.some in
     let lt : c.loop-cell.cell < cells.1 = omega (arith, c.loop-cell-test.true, count) in
@@ -29,9 +29,9 @@ here c =
 
 pub add_base-requires-clause-base : goal.add_base-requires-clause-base
 add_base-requires-clause-base c =
-    let p = c.args.p.now in
-    let plant = c.requires.plant.plant in
-    let cells = c.requires.cells in
+    let p = c.args.sampled.now.plant.now in
+    let plant = c.args.sampled.now.within.plant in
+    let cells = c.requires in
     let cell : ℕ = c.loop-cell.cell in
     let lt = (here (goal.at.add_base-requires-clause-base c).In-loop-cell).0 in
     let short : cell < length c.args.bases.now = omega (arith, lt, cells.2.few, c.type_inv.bases) in
@@ -40,9 +40,9 @@ add_base-requires-clause-base c =
 
 pub add_base-requires-clause-boxes : goal.add_base-requires-clause-boxes
 add_base-requires-clause-boxes c = λ u d short.
-    let p = c.args.p.now in
-    let plant = c.requires.plant.plant in
-    let cells = c.requires.cells in
+    let p = c.args.sampled.now.plant.now in
+    let plant = c.args.sampled.now.within.plant in
+    let cells = c.requires in
     let v : ℕ = c.vectors-inputs.result in
     let cell : ℕ = c.loop-cell.cell in
     let at : ℕ = cell * v in
@@ -63,7 +63,7 @@ add_base-requires-clause-boxes c = λ u d short.
 
 pub loop-cell-preserved : goal.loop-cell-preserved
 loop-cell-preserved c =
-    let cells = c.requires.cells in
+    let cells = c.requires in
     let v : ℕ = c.vectors-inputs.result in
     let cell : ℕ = c.loop-cell.cell in
     let at : ℕ = cell * v in
@@ -93,7 +93,7 @@ loop-cell-preserved c =
 
 pub returns-clause-each : goal.returns-clause-each
 returns-clause-each c = λ d n sums k u input short.
-    let p = c.args.p.now in
+    let p = c.args.sampled.now.plant.now in
     let so_far = c.loop-cell.invariant in
     let v : ℕ = c.vectors-inputs.result in
     let count = c.vectors-inputs.ensures.count in
@@ -105,4 +105,4 @@ returns-clause-each c = λ d n sums k u input short.
     ∙ so_far.added k u (omega (arith, lt, cells, c.loop-cell-test.false)) (omega (arith, input, count))
     ∙ ap (λ (m : ℕ). plus (get_or c.args.bases.now k None) (get_or c.args.boxes.now m None)) place
     in
-    subst (IsBoxOf p (d + k) u) (sym is) (sum_all p (d + k) u (get_or c.args.bases.now k None) (get_or c.args.boxes.now (k * vectors_of p.inputs + u) None) (sound_plant p c.requires.plant.plant) (sums.each k u lt input))
+    subst (IsBoxOf p (d + k) u) (sym is) (sum_all p (d + k) u (get_or c.args.bases.now k None) (get_or c.args.boxes.now (k * vectors_of p.inputs + u) None) (sound_plant p c.args.sampled.now.within.plant) (sums.each k u lt input))

@@ -18,29 +18,32 @@ loop-state-init c = record {
   long = refl;
   along = λ cell other below are row u input.
       let is = All-get_or (λ b. b ≡ one_cell) c.args.boxes.now u None (omega (arith, input, c.requires.one_each)) c.requires.start in
-      subst (IsSumAlong c.args.p.now 0 other u one_cell) (sym is) (sum_start c.args.p.now other u);
+      subst (IsSumAlong c.args.sampled.now.plant.now 0 other u one_cell) (sym is) (sum_start c.args.sampled.now.plant.now other u);
 }
 
 -- the state has a table
-held : (c : goal.In-Table) → IsTermTableOf c.args.p.now c.loop-state.state c.in-Table.table
+held : (c : goal.In-Table) → IsTermTableOf c.args.sampled.now.plant.now c.loop-state.state c.in-Table.table
 held c =
-    let equation : c.loop-state.state < length c.args.p.now.equations = omega (arith, c.loop-state-test.true, c.requires.tables.one_each) in
-    subst (AreTermsOf c.args.p.now c.loop-state.state) (sym c.index-tables-state.is ∙ c.in-Table.is) (c.requires.tables.each c.loop-state.state c.index-tables-state.result equation)
+    let equation : c.loop-state.state < length c.args.sampled.now.plant.now.equations = omega (arith, c.loop-state-test.true, c.requires.tables.one_each) in
+    subst (AreTermsOf c.args.sampled.now.plant.now c.loop-state.state) (sym c.index-tables-state.is ∙ c.in-Table.is) (c.requires.tables.each c.loop-state.state c.index-tables-state.result equation)
+
+pub invariant_of-of : goal.invariant_of-of
+invariant_of-of c = record { equation = omega (arith, c.loop-state-test.true, c.requires.tables.one_each); stride_is = (held (goal.at.invariant_of-of c).In-Table).stride }
 
 -- what a cell of the indices brings to it
-brought : (c : goal.In-Table) (cell first own : ℕ) → cell < cells_of (axes_of c.args.p.now) → AreIndicesOf c.args.p.now cell c.args.indices.now → first ≡ first_in c.in-Table.table c.args.indices.now →
-    own ≡ (if c.in-Table.table.moves then get_or c.args.indices.now c.loop-state.state 0 else 0) → Brings c.args.p.now c.loop-state.state c.in-Table.table first own cell
+brought : (c : goal.In-Table) (cell first own : ℕ) → cell < cells_of (axes_of c.args.sampled.now.plant.now) → AreIndicesOf c.args.sampled.now.plant.now cell c.args.indices.now → first ≡ first_in c.in-Table.table c.args.indices.now →
+    own ≡ (if c.in-Table.table.shifts then get_or c.args.indices.now c.loop-state.state 0 else 0) → Brings c.args.sampled.now.plant.now c.loop-state.state c.in-Table.table first own cell
 brought c cell first own below are =
-    brings c.args.p.now (sound_plant c.args.p.now c.requires.plant.plant) c.loop-state.state c.in-Table.table cell first own c.args.indices.now (omega (arith, c.loop-state-test.true, c.requires.tables.one_each)) (held c) below are
+    brings c.args.sampled.now.plant.now (sound_plant c.args.sampled.now.plant.now c.args.sampled.now.within.plant) c.loop-state.state c.in-Table.table cell first own c.args.indices.now (omega (arith, c.loop-state-test.true, c.requires.tables.one_each)) (held c) below are
 
 pub first-first-requires-clause-variables : goal.first-first-requires-clause-variables
-first-first-requires-clause-variables c = variables_few c.args.p.now c.requires.plant.plant c.in-Table.table.digits.items (held (goal.at.first-first-requires-clause-variables c).In-Table).digits
+first-first-requires-clause-variables c = variables_few c.args.sampled.now.plant.now c.args.sampled.now.within.plant c.in-Table.table.digits.items (held (goal.at.first-first-requires-clause-variables c).In-Table).digits
 
 pub first-first-requires-clause-fits : goal.first-first-requires-clause-fits
 first-first-requires-clause-fits c =
     let place = (goal.at.first-first-requires-clause-fits c).In-Table in
     let cell = c.requires.cell in
-    first_fits c.args.p.now c.requires.plant.plant c.loop-state.state c.in-Table.table _ _ cell.0 (held place) (brought place cell.0 _ _ cell.1 cell.2 refl refl)
+    first_fits c.args.sampled.now.plant.now c.args.sampled.now.within.plant c.loop-state.state c.in-Table.table _ _ cell.0 (held place) (brought place cell.0 _ _ cell.1 cell.2 refl refl)
 
 pub add_terms-requires-clause-table : goal.add_terms-requires-clause-table
 add_terms-requires-clause-table c = held (goal.at.add_terms-requires-clause-table c).In-Table
@@ -52,10 +55,10 @@ add_terms-requires-clause-cell c =
 
 pub loop-state-preserved : goal.loop-state-preserved
 loop-state-preserved c =
-    let p = c.args.p.now in
+    let p = c.args.sampled.now.plant.now in
     let state : ℕ = c.loop-state.state in
     let t = c.in-Table.table in
-    let plant = c.requires.plant.plant in
+    let plant = c.args.sampled.now.within.plant in
     let place = (goal.at.loop-state-preserved c).In-Table in
     let stays : StaysAlongLines (last_state p) state t = subst (λ (last : ℕ). StaysAlongLines last state t) (ap (λ (n : ℕ). n - 1) c.states-last.ensures) (c.stays_along_lines.ensures c.if-not-stays_along_lines.false) in
     record {
@@ -69,4 +72,4 @@ loop-state-preserved c =
 pub returns-clause-along : goal.returns-clause-along
 returns-clause-along c = λ cell other below are row.
     let all : c.loop-state.state ≡ length c.args.tables.now = omega (arith, c.loop-state-test.false, c.loop-state.auto.state-end) in
-    subst (λ (n : ℕ). AreSumsAlong c.args.p.now n other one_cell c.loop-state.boxes) all (c.loop-state.invariant.along cell other below are row)
+    subst (λ (n : ℕ). AreSumsAlong c.args.sampled.now.plant.now n other one_cell c.loop-state.boxes) all (c.loop-state.invariant.along cell other below are row)

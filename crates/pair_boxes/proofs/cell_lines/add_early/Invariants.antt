@@ -10,5 +10,5 @@ use Rattle.pair_boxes.proofs.cell_lines.add_early.Given as goal
 abbrev pub invariant-loop-state : goal.invariant-loop-state
 invariant-loop-state l = record {
   long : length l.boxes ≡ length l.fn.boxes;
-  along : (c d : ℕ) → c < cells_of (axes_of l.p) → AreIndicesOf l.p c l.indices → IsInLineOf l.p c d → AreSumsAlong l.p l.state d one_cell l.boxes;
+  along : (c d : ℕ) → c < cells_of (axes_of l.sampled.plant.now) → AreIndicesOf l.sampled.plant.now c l.indices → IsInLineOf l.sampled.plant.now c d → AreSumsAlong l.sampled.plant.now l.state d one_cell l.boxes;
 }

@@ -6,10 +6,10 @@ use Rattle.pair_boxes.proofs.ListedRows.{FindsTerms, found, first_within, inputs
 use Rattle.pair_boxes.proofs.cell_lines.add_terms.Goals as goal
 use Rattle.pair_boxes.proofs.cell_lines.add_terms.Goals.{After-deref-in-Listed}
 
-finds : (c : After-deref-in-Listed) → FindsTerms c.args.p.now c.args.state c.args.table.now c.deref-in-Listed.result.now
+finds : (c : After-deref-in-Listed) → FindsTerms c.args.of.now.sampled.plant.now c.args.of.now.state c.args.table.now c.deref-in-Listed.result.now
 finds c = record {
-  limits = c.requires.plant;
-  state = c.requires.state;
+  limits = c.args.of.now.sampled.within;
+  state = c.args.of.now.equation;
   held = c.requires.table;
   listed = c.in-Listed.terms;
   is = c.in-Listed.is;

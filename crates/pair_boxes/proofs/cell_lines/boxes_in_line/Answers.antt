@@ -36,11 +36,11 @@ bounds-indices-last c = omega (arith, c.states.ensures, c.args.sampled.now.withi
 
 module _ (c : After-vectors-inputs) where
   -- the boxes are those of the cells from the first on
-  are : AreCellBoxes c.args.sampled.now.plant.now c.args.c c.requires.row.0 c.vectors-inputs.result (length c.args.boxes.now)
-  are = record { limits = c.args.sampled.now.within; within = c.requires.row.2.within; long = c.requires.row.1; count = c.vectors-inputs.ensures.count; some = c.vectors-inputs.ensures.some }
+  are : AreCellBoxes c.args.sampled.now.plant.now c.args.c c.requires.line.0 c.vectors-inputs.result (length c.args.boxes.now)
+  are = record { limits = c.args.sampled.now.within; within = c.requires.line.2.within; long = c.requires.line.1; count = c.vectors-inputs.ensures.count; some = c.vectors-inputs.ensures.some }
 
   wide : c.vectors-inputs.result ≤ length c.args.boxes.now
-  wide = omega (arith, (cell_fits are 0 c.requires.row.2.some).1)
+  wide = omega (arith, (cell_fits are 0 c.requires.line.2.some).1)
 
 pub slice_bounds-add_early-end : goal.slice_bounds-add_early-end
 slice_bounds-add_early-end c = wide (goal.at.slice_bounds-add_early-end c).After-vectors-inputs
@@ -62,18 +62,18 @@ add_early-early-requires-clause-start c = λ k d short.
     get_or-take c.vectors-inputs.result c.args.boxes.now k d lt ∙ c.requires.start k d (omega (arith, lt, fits))
 
 pub add_early-early-requires-clause-cell : goal.add_early-early-requires-clause-cell
-add_early-early-requires-clause-cell c = let row = c.requires.row.2 in (c.args.c, omega (arith, row.some, row.within), c.indices_of-indices.ensures)
+add_early-early-requires-clause-cell c = let row = c.requires.line.2 in (c.args.c, omega (arith, row.some, row.within), c.indices_of-indices.ensures)
 
 pub loop-block-init : goal.loop-block-init
 loop-block-init c =
     let p = c.args.sampled.now.plant.now in
     let v : ℕ = c.vectors-inputs.result in
-    let n : ℕ = c.requires.row.0 in
+    let n : ℕ = c.requires.line.0 in
     let size : ℕ = c.cells_at_once-size.result in
     let boxes = c.args.boxes.now in
     let early = c.add_early-early.new.boxes in
     let cells = are (goal.at.loop-block-init c).After-vectors-inputs in
-    let written = first_written cells c.requires.row.2.some early boxes refl c.add_early-early.ensures.long in
+    let written = first_written cells c.requires.line.2.some early boxes refl c.add_early-early.ensures.long in
     let ceil = div_ceil_times (length (early ++ drop v boxes) / v) size c.cells_at_once-size.ensures.some in
     let blocks = ap (λ (m : ℕ). m * size) c.div_ceil-block.ensures in
     record {
@@ -85,7 +85,7 @@ loop-block-init c =
       indices = λ k within other. c.indices_of-indices.ensures k within;
       first = λ some d u row input.
           subst (IsSumAlong p c.add_early-early.result d u one_cell) (sym (get_or_append_left early (drop v boxes) None u (omega (arith, input, written.0))))
-          (c.add_early-early.ensures.along c.args.c d (omega (arith, c.requires.row.2.some, c.requires.row.2.within)) c.indices_of-indices.ensures row u (omega (arith, input, c.vectors-inputs.ensures.count)));
+          (c.add_early-early.ensures.along c.args.c d (omega (arith, c.requires.line.2.some, c.requires.line.2.within)) c.indices_of-indices.ensures row u (omega (arith, input, c.vectors-inputs.ensures.count)));
       done = λ k u from input short.
           let past : n ≤ k = omega (arith, from, ceil.0, blocks, written.2) in
           absurd (omega (arith, short, written.1, long_by cells, mul-le n v k v past (omega arith)));
@@ -97,7 +97,7 @@ pub overflow_add-indices : goal.overflow_add-indices
 overflow_add-indices c =
     let p = c.args.sampled.now.plant.now in
     let plant = c.args.sampled.now.within.plant in
-    let row = c.requires.row in
+    let row = c.requires.line in
     let first : ℕ = get_or c.indices_of-indices.result (c.states.result - 1) 0 in
     let first_is : first ≡ index_in p c.args.c 0 (last_state p) = ap (λ (k : ℕ). get_or c.indices_of-indices.result (k - 1) 0) c.states.ensures ∙ c.indices_of-indices.ensures (last_state p) (last_among p plant) in
     let written = first_written (are (goal.at.overflow_add-indices c).After-vectors-inputs) row.2.some c.add_early-early.new.boxes c.args.boxes.now refl c.add_early-early.ensures.long in
@@ -108,7 +108,7 @@ module _ (c : After-copy_first) where
   v = c.vectors-inputs.result
 
   abbrev n : ℕ
-  n = c.requires.row.0
+  n = c.requires.line.0
 
   abbrev start : ℕ
   start = (c.loop-block.block - 1) * c.cells_at_once-size.result
@@ -117,10 +117,10 @@ module _ (c : After-copy_first) where
   end = c.min-end.result
 
   cells : AreCellBoxes c.args.sampled.now.plant.now c.args.c n v (length c.args.boxes.now)
-  cells = record { limits = c.args.sampled.now.within; within = c.requires.row.2.within; long = c.requires.row.1; count = c.vectors-inputs.ensures.count; some = c.vectors-inputs.ensures.some }
+  cells = record { limits = c.args.sampled.now.within; within = c.requires.line.2.within; long = c.requires.line.1; count = c.vectors-inputs.ensures.count; some = c.vectors-inputs.ensures.some }
 
   written : (length c.add_early-early.new.boxes ≡ v) × (length (c.add_early-early.new.boxes ++ drop v c.args.boxes.now) ≡ length c.args.boxes.now) × (length (c.add_early-early.new.boxes ++ drop v c.args.boxes.now) / v ≡ n)
-  written = first_written cells c.requires.row.2.some c.add_early-early.new.boxes c.args.boxes.now refl c.add_early-early.ensures.long
+  written = first_written cells c.requires.line.2.some c.add_early-early.new.boxes c.args.boxes.now refl c.add_early-early.ensures.long
 
   -- it begins with a cell of the line
   begins : start < n
@@ -152,7 +152,7 @@ module _ (c : After-copy_first) where
   from =
       let p = c.args.sampled.now.plant.now in
       let plant = c.args.sampled.now.within.plant in
-      let row = c.requires.row.2 in
+      let row = c.requires.line.2 in
       let so_far = c.loop-block.invariant in
       let first : ℕ = get_or c.indices_of-indices.result (c.states.result - 1) 0 in
       let first_is : first ≡ index_in p c.args.c 0 (last_state p) = ap (λ (k : ℕ). get_or c.indices_of-indices.result (k - 1) 0) c.states.ensures ∙ c.indices_of-indices.ensures (last_state p) (last_among p plant) in
@@ -180,7 +180,7 @@ module _ (c : After-copy_first) where
         in
         let one : get_or (replicate 32 one_cell) k None ≡ one_cell = get_or-replicate 32 k one_cell None (omega (arith, below, ends.2, c.cells_at_once-size.ensures.few)) in
         let here : c.args.c + (start + k) ≡ c.args.c + start + k = omega arith in
-        let in_line : IsInLineOf p c.args.c (c.args.c + start + k) = subst (IsInLineOf p c.args.c) here (further_in_line p c.args.sampled.now.within.plant c.args.c (start + k) n c.requires.row.2 (omega (arith, below, ends.1))) in
+        let in_line : IsInLineOf p c.args.c (c.args.c + start + k) = subst (IsInLineOf p c.args.c) here (further_in_line p c.args.sampled.now.within.plant c.args.c (start + k) n c.requires.line.2 (omega (arith, below, ends.1))) in
         subst₂ (λ (a b : Option CellBox). IsSumAlong p c.add_early-early.result (c.args.c + start + k) u a b) (sym one) (sym read) (c.loop-block.invariant.first c.loop-block-test.true (c.args.c + start + k) u in_line under);
   }
 
@@ -239,7 +239,7 @@ loop-block-preserved c =
                 let after : end * v ≤ k * v + u = omega (arith, mul-le end v k v beyond (omega arith)) in
                 let left = left_after are start end to.0 to.1 copied long late late_long (k * v + u) after ∙ c.copy_first.ensures.after (k * v + u) None after in
                 let old_short : k * v + u < length c.loop-block.boxes = omega (arith, short, after_long are start end to.0 to.1 copied long late late_long, c.copy_first.ensures.long) in
-                let among : k < c.requires.row.0 = cell_before k c.requires.row.0 v u (omega (arith, old_short, so_far.long, long_by are)) in
+                let among : k < c.requires.line.0 = cell_before k c.requires.line.0 v u (omega (arith, old_short, so_far.long, long_by are)) in
                 subst (IsBoxOf p (c.args.c + k) u) (sym left) (so_far.done k u (to.3 k beyond among) input old_short)
           ];
     }

@@ -16,7 +16,7 @@ loop-state-init c = record { nine = refl; done = λ k lt. absurd (omega (arith, 
 
 pub loop-state-preserved : goal.loop-state-preserved
 loop-state-preserved c =
-    let p = c.args.p.now in
+    let p = c.args.sampled.now.plant.now in
     let state : ℕ = c.loop-state.state in
     let so_far = c.loop-state.invariant in
     let v : ℕ = get_or c.indices-along.result state 0 in
@@ -33,7 +33,7 @@ loop-state-preserved c =
 
 pub returns : goal.returns
 returns c = λ k within.
-    let p = c.args.p.now in
+    let p = c.args.sampled.now.plant.now in
     elim (cases_lt k (length p.states)) [
       | inl state ↦ c.loop-state.invariant.done k (omega (arith, state)) ∙ state_slot p c.args.c 0 k state
       | inr past ↦ c.loop-state.invariant.left k (omega (arith, past)) ∙ no_value_index p c.args.c k past

@@ -7,6 +7,6 @@ use Rattle.pair_boxes.proofs.cell_lines.indices_of.Given as goal
 abbrev pub invariant-loop-state : goal.invariant-loop-state
 invariant-loop-state l = record {
   nine : length l.indices ≡ 9;
-  done : (k : ℕ) → k < l.state → get_or l.indices k 0 ≡ index_along (axes_of l.p) k l.c;
+  done : (k : ℕ) → k < l.state → get_or l.indices k 0 ≡ index_along (axes_of l.sampled.plant.now) k l.c;
   left : (k : ℕ) → l.state ≤ k → get_or l.indices k 0 ≡ 0;
 }

@@ -9,13 +9,13 @@ use Rattle.pair_boxes.proofs.digits.build_digits.Given as goal
 -- the digits of the last states
 abbrev pub invariant-loop-variable : goal.invariant-loop-variable
 invariant-loop-variable l = record {
-  so_far : AreDigitsBetween l.p l.state l.variable (length l.p.states) l.digits;
-  few : l.digits.slots ≤ size (drop l.variable (counts_of (axes_of l.p)));
+  so_far : AreDigitsBetween l.of.sampled.plant.now l.of.state l.variable (length l.of.sampled.plant.now.states) l.digits;
+  few : l.digits.slots ≤ size (drop l.variable (counts_of (axes_of l.of.sampled.plant.now)));
 }
 
 -- the digits of the states and of the first input variables
 abbrev pub invariant-loop-input : goal.invariant-loop-input
 invariant-loop-input l = record {
-  so_far : AreDigitsBetween l.p l.state 0 (length l.p.states + l.input) l.digits;
-  few : l.digits.slots * size (drop l.input (value_counts l.p.inputs)) ≤ pairs_of l.p;
+  so_far : AreDigitsBetween l.of.sampled.plant.now l.of.state 0 (length l.of.sampled.plant.now.states + l.input) l.digits;
+  few : l.digits.slots * size (drop l.input (value_counts l.of.sampled.plant.now.inputs)) ≤ pairs_of l.of.sampled.plant.now;
 }

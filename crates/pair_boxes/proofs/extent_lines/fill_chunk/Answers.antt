@@ -8,7 +8,7 @@ use Rattle.pair_boxes.proofs.extent_lines.fill_chunk.Goals as goal
 
 pub loop-done-preserved : goal.loop-done-preserved
 loop-done-preserved c =
-    let p = c.args.sampled.now.plant.now in
+    let p = c.args.of.now.sampled.plant.now in
     let digits = c.args.digits.now.each.items in
     let chunk = c.loop-done.chunk in
     let done : ℕ = c.loop-done.done in
@@ -23,13 +23,13 @@ loop-done-preserved c =
       long = all ∙ so_far.long;
       within = omega (arith, up_to, all);
       each = λ j lt. elim (cases_lt j done) [
-        | inl before ↦ subst (IsExtentFor p c.args.state digits (c.args.slot + j)) (sym (written_before done size chunk found None within long j before)) (so_far.each j before)
+        | inl before ↦ subst (IsExtentFor p c.args.of.now.state digits (c.args.slot + j)) (sym (written_before done size chunk found None within long j before)) (so_far.each j before)
         | inr past ↦
             let i : ℕ = j - done in
             let at : done + i ≡ j = omega (arith, past) in
             let slot : c.args.slot + done + i ≡ c.args.slot + j = omega (arith, past) in
             let inside : i < size = omega (arith, past, lt) in
-            subst₂ (λ (n : ℕ) (extent : Option Extent). IsExtentFor p c.args.state digits n extent) slot
+            subst₂ (λ (n : ℕ) (extent : Option Extent). IsExtentFor p c.args.of.now.state digits n extent) slot
             (sym (written_in done size chunk found None within long i inside) ∙ ap (λ (m : ℕ). get_or (written done size chunk found None within long) m None) at) (c.fill_line.ensures.each i (omega (arith, inside, long)))
       ];
     }

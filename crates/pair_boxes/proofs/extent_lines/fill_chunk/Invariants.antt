@@ -7,7 +7,7 @@ abbrev pub invariant-loop-done : goal.invariant-loop-done
 invariant-loop-done l = record {
   long : length l.chunk ≡ length l.fn.chunk;
   within : l.done ≤ length l.chunk;
-  each : (j : ℕ) → j < l.done → IsExtentFor l.sampled.plant.now l.state l.digits.each.items (l.slot + j) (get_or l.chunk j None);
+  each : (j : ℕ) → j < l.done → IsExtentFor l.of.sampled.plant.now l.of.state l.digits.each.items (l.slot + j) (get_or l.chunk j None);
 }
 
 abbrev pub decreases-loop-done : goal.decreases-loop-done

@@ -8,15 +8,15 @@ use Rattle.pair_boxes.proofs.extent_table.build_extents.Goals as goal
 
 pub by_chunks-requires-clause-accepts : goal.by_chunks-requires-clause-accepts
 by_chunks-requires-clause-accepts g c κs within = λ start chunk here.
-    (c.requires.state, (c.requires.digits, omega (arith, here.in_bounds, length-replicate {A = Option Extent} c.args.digits.now.slots None, c.requires.digits.few, c.args.sampled.now.within.pairs)))
+    (c.requires, omega (arith, here.in_bounds, length-replicate {A = Option Extent} c.args.digits.now.slots None, c.requires.few, c.args.of.now.sampled.within.pairs))
 
 pub returns-clause-each : goal.returns-clause-each
 returns-clause-each g c =
-    let p = c.args.sampled.now.plant.now in
+    let p = c.args.of.now.sampled.plant.now in
     let digits : List Digit = c.args.digits.now.each.items in
     let slots : ℕ = c.args.digits.now.slots in
     IfOk-both c.by_chunks.result _ _ _ c.by_chunks.ensures.len c.by_chunks.ensures.by_index (λ extents len by_index slot below.
     let found = (by_index slot None (omega (arith, below, len, length-replicate {A = Option Extent} slots None))).1 in
     let short : found.offset < length found.after_call.now = omega (arith, found.offset_in_chunk, found.call.0) in
     let from : found.start + found.offset ≡ 0 + slot = omega (arith, found.start_plus_offset) in
-    subst₂ (λ (n : ℕ) (extent : Option Extent). IsExtentFor p c.args.state digits n extent) from found.new_element (found.call.1 found.offset short))
+    subst₂ (λ (n : ℕ) (extent : Option Extent). IsExtentFor p c.args.of.now.state digits n extent) from found.new_element (found.call.1 found.offset short))

@@ -6,4 +6,4 @@ use Rattle.pair_boxes.proofs.extent_table.build_inputs.Given as goal
 
 -- the inputs so far
 abbrev pub invariant-loop-input : goal.invariant-loop-input
-invariant-loop-input l = l.inputs.items ≡ map (λ (u : ℕ). slot_at l.digits.each.items (index_in l.p 0 u)) (range_with_len 0 l.input)
+invariant-loop-input l = l.inputs.items ≡ map (λ (u : ℕ). slot_at l.digits.each.items (index_in l.of.sampled.plant.now 0 u)) (range_with_len 0 l.input)

@@ -12,11 +12,11 @@ use Rattle.pair_boxes.proofs.extent_table.build_table.Goals as goal
 
 pub returns : goal.returns
 returns g c =
-    let p = c.args.sampled.now.plant.now in
-    let within = c.args.sampled.now.within in
+    let p = c.args.of.now.sampled.plant.now in
+    let within = c.args.of.now.sampled.within in
     let digits = c.args.digits in
-    let table : ExtentTable = record { digits = digits.each; inputs = c.in_ok-inputs.inputs; extents = c.in_ok-extents.extents; moves = c.shifts_with.result } in
-    let equation-is : equation_at p c.args.state ≡ expression_of c.equation.result.now = get_or_from_slice_get p.equations c.args.state (expression_of c.equation.result.now) (NumExpr (pos 0)) c.equation.ensures in
-    let moves : c.shifts_with.result ≡ moves_along p c.args.state = c.shifts_with.ensures ∙ ap (λ (e : Expression). shifts_with e c.args.state) (sym equation-is) in
-    table_of p within.plant (sound_plant p within.plant) within.pairs c.args.state table digits.slots c.requires.digits
-    c.in_ok-inputs.ensures.long c.in_ok-inputs.ensures.each moves c.in_ok-extents.ensures.long c.in_ok-extents.ensures.each
+    let table : ExtentTable = record { digits = digits.each; inputs = c.in_ok-inputs.inputs; extents = c.in_ok-extents.extents; shifts = c.shifts_with.result } in
+    let equation-is : equation_at p c.args.of.now.state ≡ expression_of c.equation.result.now = get_or_from_slice_get p.equations c.args.of.now.state (expression_of c.equation.result.now) (NumExpr (pos 0)) c.equation.ensures in
+    let shifts : c.shifts_with.result ≡ moves_along p c.args.of.now.state = c.shifts_with.ensures ∙ ap (λ (e : Expression). shifts_with e c.args.of.now.state) (sym equation-is) in
+    table_of p within.plant (sound_plant p within.plant) within.pairs c.args.of.now.state table digits.slots c.requires
+    c.in_ok-inputs.ensures.long c.in_ok-inputs.ensures.each shifts c.in_ok-extents.ensures.long c.in_ok-extents.ensures.each

@@ -9,14 +9,14 @@ use Rattle.pair_boxes.proofs.PairDigits.{some_value, next_among}
 use Rattle.pair_boxes.proofs.extent_table.indices_of_input.Goals as goal
 
 pub nonzero_rem-indices : goal.nonzero_rem-indices
-nonzero_rem-indices c = omega (arith, c.input_values-count.ensures, some_value c.args.p.now c.requires.plant (c.loop-variable.variable - 1) (omega (arith, c.loop-variable-test.true, c.loop-variable.auto.variable, c.input_variables-variable.ensures)))
+nonzero_rem-indices c = omega (arith, c.input_values-count.ensures, some_value c.args.sampled.now.plant.now c.args.sampled.now.within.plant (c.loop-variable.variable - 1) (omega (arith, c.loop-variable-test.true, c.loop-variable.auto.variable, c.input_variables-variable.ensures)))
 
 pub nonzero_div-rest : goal.nonzero_div-rest
-nonzero_div-rest c = omega (arith, c.input_values-count.ensures, some_value c.args.p.now c.requires.plant (c.loop-variable.variable - 1) (omega (arith, c.loop-variable-test.true, c.loop-variable.auto.variable, c.input_variables-variable.ensures)))
+nonzero_div-rest c = omega (arith, c.input_values-count.ensures, some_value c.args.sampled.now.plant.now c.args.sampled.now.within.plant (c.loop-variable.variable - 1) (omega (arith, c.loop-variable-test.true, c.loop-variable.auto.variable, c.input_variables-variable.ensures)))
 
 pub loop-variable-preserved : goal.loop-variable-preserved
 loop-variable-preserved c =
-    let p = c.args.p.now in
+    let p = c.args.sampled.now.plant.now in
     let n : ℕ = length p.states in
     let v : ℕ = c.loop-variable.variable in
     let k : ℕ = v - 1 in
@@ -32,7 +32,7 @@ loop-variable-preserved c =
     let within : k < length p.inputs = omega (arith, some, c.loop-variable.auto.variable, c.input_variables-variable.ensures) in
     let back : k + 1 ≡ v = omega (arith, some) in
     let after : size (drop (k + 1) (value_counts p.inputs)) ≡ later = ap (λ (j : ℕ). size (drop j (value_counts p.inputs))) back in
-    let short : at < length indices = omega (arith, here, within, so_far.nine, c.requires.plant.states_bound, c.requires.plant.inputs_bound) in
+    let short : at < length indices = omega (arith, here, within, so_far.nine, c.args.sampled.now.within.plant.states_bound, c.args.sampled.now.within.plant.inputs_bound) in
     let own : x ≡ value_index p.inputs k u = ap₂ (λ (m c : ℕ). m % c) (so_far.rest_is ∙ ap (λ (s : ℕ). u / s) (sym after)) c.input_values-count.ensures in
     record {
       nine = length-set indices at x ∙ so_far.nine;

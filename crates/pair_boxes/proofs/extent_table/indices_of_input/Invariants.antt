@@ -8,7 +8,7 @@ use Rattle.pair_boxes.proofs.extent_table.indices_of_input.Given as goal
 abbrev pub invariant-loop-variable : goal.invariant-loop-variable
 invariant-loop-variable l = record {
   nine : length l.indices ≡ 9;
-  rest_is : l.rest ≡ l.input / size (drop l.variable (value_counts l.p.inputs));
-  done : (j : ℕ) → l.variable ≤ j → j < length l.p.inputs → get_or l.indices (length l.p.states + j) 0 ≡ value_index l.p.inputs j l.input;
-  left : (k : ℕ) → k < length l.p.states → get_or l.indices k 0 ≡ 0;
+  rest_is : l.rest ≡ l.input / size (drop l.variable (value_counts l.sampled.plant.now.inputs));
+  done : (j : ℕ) → l.variable ≤ j → j < length l.sampled.plant.now.inputs → get_or l.indices (length l.sampled.plant.now.states + j) 0 ≡ value_index l.sampled.plant.now.inputs j l.input;
+  left : (k : ℕ) → k < length l.sampled.plant.now.states → get_or l.indices k 0 ≡ 0;
 }

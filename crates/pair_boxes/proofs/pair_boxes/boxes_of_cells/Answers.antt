@@ -21,8 +21,8 @@ nonzero_div-cells c = c.vectors-inputs.ensures.some
 pub overflow_sub-states : goal.overflow_sub-states
 overflow_sub-states c = omega (arith, c.states.ensures, c.args.sampled.now.within.plant.some_state)
 
-pub count-row-requires : goal.count-row-requires
-count-row-requires c = omega (arith, c.states.ensures, c.args.sampled.now.within.plant.some_state, ap length c.grid.ensures, length-map c.args.sampled.now.plant.now.states axis_of)
+pub count-line-requires : goal.count-line-requires
+count-line-requires c = omega (arith, c.states.ensures, c.args.sampled.now.within.plant.some_state, ap length c.grid.ensures, length-map c.args.sampled.now.plant.now.states axis_of)
 
 pub loop-done-init : goal.loop-done-init
 loop-done-init c = record { long = refl; within = omega arith; found = λ k u none input. nothing_below k none; left = λ i from. refl }
@@ -32,13 +32,13 @@ module _ (c : In-loop-done) where
   cells : AreCellBoxes c.args.sampled.now.plant.now c.args.c c.requires.cells.0 c.vectors-inputs.result (length c.args.boxes.now)
   cells = record { limits = c.args.sampled.now.within; within = c.requires.cells.2; long = c.requires.cells.1; count = c.vectors-inputs.ensures.count; some = c.vectors-inputs.ensures.some }
 
-  line_is : c.count-row.result ≡ line_length c.args.sampled.now.plant.now
+  line_is : c.count-line.result ≡ line_length c.args.sampled.now.plant.now
   line_is =
-      c.count-row.ensures
+      c.count-line.ensures
       ∙ ap (λ (k : ℕ). (get_or c.grid.result.now (k - 1) no_axis).count) c.states.ensures
       ∙ ap (λ (axes : List Axis). (get_or axes (length c.args.sampled.now.plant.now.states - 1) no_axis).count) c.grid.ensures
 
-  line_some : 1 ≤ c.count-row.result
+  line_some : 1 ≤ c.count-line.result
   line_some = omega (arith, line_is, some_line c.args.sampled.now.plant.now c.args.sampled.now.within)
 
   -- the next cell is among them, and so are its boxes
@@ -48,9 +48,9 @@ module _ (c : In-loop-done) where
       (fits.0, omega (arith, fits.1, boxes_few cells))
 
   -- the cells of its line
-  piece : (end : ℕ) → end ≡ min (length c.args.boxes.now / c.vectors-inputs.result) (c.loop-done.done + c.count-row.result - (c.args.c + c.loop-done.done) % c.count-row.result) →
+  piece : (end : ℕ) → end ≡ min (length c.args.boxes.now / c.vectors-inputs.result) (c.loop-done.done + c.count-line.result - (c.args.c + c.loop-done.done) % c.count-line.result) →
       (c.loop-done.done < end) × (end ≤ c.requires.cells.0) × AreInLine c.args.sampled.now.plant.now (c.args.c + c.loop-done.done) (end - c.loop-done.done)
-  piece end is = line_piece cells c.loop-done.done end c.count-row.result c.loop-done-test.true line_is is
+  piece end is = line_piece cells c.loop-done.done end c.count-line.result c.loop-done-test.true line_is is
 
 pub overflow_add-c : goal.overflow_add-c
 overflow_add-c c = omega (arith, (next (goal.at.overflow_add-c c).In-loop-done).0)
@@ -59,7 +59,7 @@ pub nonzero_rem-c : goal.nonzero_rem-c
 nonzero_rem-c c = line_some (goal.at.nonzero_rem-c c).In-loop-done
 
 pub overflow_sub-done : goal.overflow_sub-done
-overflow_sub-done c = omega (arith, mod_below (c.args.c + c.loop-done.done) c.count-row.result (line_some (goal.at.overflow_sub-done c).In-loop-done))
+overflow_sub-done c = omega (arith, mod_below (c.args.c + c.loop-done.done) c.count-line.result (line_some (goal.at.overflow_sub-done c).In-loop-done))
 
 pub overflow_cast-done : goal.overflow_cast-done
 overflow_cast-done c = omega (arith, (next (goal.at.overflow_cast-done c).In-loop-done).0)
@@ -89,9 +89,9 @@ slice_bounds-boxes_in_line-count c =
 pub boxes_in_line-requires-clause-tables : goal.boxes_in_line-requires-clause-tables
 boxes_in_line-requires-clause-tables c = c.requires.tables
 
-pub boxes_in_line-requires-clause-row : goal.boxes_in_line-requires-clause-row
-boxes_in_line-requires-clause-row c =
-    let at = (goal.at.boxes_in_line-requires-clause-row c).In-loop-done in
+pub boxes_in_line-requires-clause-line : goal.boxes_in_line-requires-clause-line
+boxes_in_line-requires-clause-line c =
+    let at = (goal.at.boxes_in_line-requires-clause-line c).In-loop-done in
     let done : ℕ = c.loop-done.done in
     let end : ℕ = c.min-end.result in
     let row = piece at end c.min-end.ensures in

@@ -10,7 +10,7 @@ use Rattle.pair_boxes.proofs.per_pair.add_extents.Given as goal
 abbrev pub invariant-loop-cell : goal.invariant-loop-cell
 invariant-loop-cell l = record {
   long : length l.boxes ≡ length l.fn.boxes;
-  added : (k : ℕ) → k < l.cell → (x : Option CellBox) × IsTermFrom l.p l.state 0 (get_or l.extents k None) x × (get_or l.boxes (k * vectors_of l.p.inputs + l.input) None ≡ plus (get_or l.fn.boxes (k * vectors_of l.p.inputs + l.input) None) x);
-  left : (k : ℕ) → l.cell ≤ k → get_or l.boxes (k * vectors_of l.p.inputs + l.input) None ≡ get_or l.fn.boxes (k * vectors_of l.p.inputs + l.input) None;
-  others : KeepsOtherInputs l.p l.input l.fn.boxes l.boxes;
+  added : (k : ℕ) → k < l.cell → (x : Option CellBox) × IsTermFrom l.of.sampled.plant.now l.of.state 0 (get_or l.extents k None) x × (get_or l.boxes (k * vectors_of l.of.sampled.plant.now.inputs + l.input) None ≡ plus (get_or l.fn.boxes (k * vectors_of l.of.sampled.plant.now.inputs + l.input) None) x);
+  left : (k : ℕ) → l.cell ≤ k → get_or l.boxes (k * vectors_of l.of.sampled.plant.now.inputs + l.input) None ≡ get_or l.fn.boxes (k * vectors_of l.of.sampled.plant.now.inputs + l.input) None;
+  others : KeepsOtherInputs l.of.sampled.plant.now l.input l.fn.boxes l.boxes;
 }

@@ -13,8 +13,8 @@ abbrev pub invariant-loop-input : goal.invariant-loop-input
 invariant-loop-input l = record {
   long : length l.boxes ≡ length l.fn.boxes;
   cells : length l.extents ≡ l.cells;
-  additive : IfSome l.additive (IsAdditiveLineOf l.sampled.plant.now l.line l.state);
-  centres : HaveCentresOf l.sampled.plant.now l.indices (last_state l.sampled.plant.now) l.cells l.line;
-  added : (bases : List (Option CellBox)) (c n : ℕ) → AreCellsFrom l.sampled.plant.now l.indices c n → AreSumsOfCells l.sampled.plant.now l.state c n bases l.fn.boxes → (k u : ℕ) → k < n → u < l.input → IsSumAlong l.sampled.plant.now (l.state + 1) (c + k) u (get_or bases k None) (get_or l.boxes (k * vectors_of l.sampled.plant.now.inputs + u) None);
-  left : (k u : ℕ) → l.input ≤ u → u < vectors_of l.sampled.plant.now.inputs → get_or l.boxes (k * vectors_of l.sampled.plant.now.inputs + u) None ≡ get_or l.fn.boxes (k * vectors_of l.sampled.plant.now.inputs + u) None;
+  additive : IfSome l.additive (IsAdditiveLineOf l.of.sampled.plant.now l.line l.of.state);
+  centres : HaveCentresOf l.of.sampled.plant.now l.indices (last_state l.of.sampled.plant.now) l.cells l.line;
+  added : (bases : List (Option CellBox)) (c n : ℕ) → AreCellsFrom l.of.sampled.plant.now l.indices c n → AreSumsOfCells l.of.sampled.plant.now l.of.state c n bases l.fn.boxes → (k u : ℕ) → k < n → u < l.input → IsSumAlong l.of.sampled.plant.now (l.of.state + 1) (c + k) u (get_or bases k None) (get_or l.boxes (k * vectors_of l.of.sampled.plant.now.inputs + u) None);
+  left : (k u : ℕ) → l.input ≤ u → u < vectors_of l.of.sampled.plant.now.inputs → get_or l.boxes (k * vectors_of l.of.sampled.plant.now.inputs + u) None ≡ get_or l.fn.boxes (k * vectors_of l.of.sampled.plant.now.inputs + u) None;
 }

@@ -26,14 +26,14 @@ loop-state-preserved g c =
       each = tables_more p c.loop-state.tables.items state t so_far.count so_far.each c.in_ok-build_state.ensures;
     })
 
-pub build_state-requires-clause-stride : goal.build_state-requires-clause-stride
-build_state-requires-clause-stride g c = λ κs within.
+pub invariant_of-of : goal.invariant_of-of
+invariant_of-of g c =
     let p = c.args.sampled.now.plant.now in
     let state : ℕ = c.loop-state.state in
     let plant = c.args.sampled.now.within.plant in
     let equation : state < length p.equations = omega (arith, c.loop-state-test.true, c.states-state-end.ensures, plant.one_each) in
     let count : c.count.result ≡ (get_or (axes_of p) state no_axis).count = c.count.ensures ∙ ap (λ (axes : List Axis). (get_or axes state no_axis).count) c.grid-in-loop-state.ensures in
-    stride_next p (sound_plant p plant) state equation c.loop-state.stride c.count.result c.loop-state.invariant.stride count
+    record { equation = equation; stride_is = stride_next p (sound_plant p plant) state equation c.loop-state.stride c.count.result c.loop-state.invariant.stride count }
 
 pub nonzero_div-stride : goal.nonzero_div-stride
 nonzero_div-stride g c =

@@ -6,5 +6,5 @@ use Rattle.pair_boxes.proofs.terms.build_term_list.Given as goal
 abbrev pub invariant-loop-n : goal.invariant-loop-n
 invariant-loop-n l = record {
   long : length l.terms.items ≡ l.n;
-  each : (m : ℕ) → m < l.n → IsTermFrom l.p l.state (m / length l.extents) (get_or l.extents (m % length l.extents) None) (get_or l.terms.items m None);
+  each : (m : ℕ) → m < l.n → IsTermFrom l.of.sampled.plant.now l.of.state (m / length l.extents) (get_or l.extents (m % length l.extents) None) (get_or l.terms.items m None);
 }
