@@ -22,12 +22,7 @@ struct SlotLines {
 }
 
 /// The extents of a slot and of the next ones.
-pub(crate) fn fill_chunk(
-    of: &StateOf<'_>,
-    digits: &Digits,
-    slot: u32,
-    chunk: &mut [Option<Extent>],
-)
+pub(crate) fn fill_chunk(of: &StateOf<'_>, digits: &Digits, slot: u32, chunk: &mut [Option<Extent>])
     requires digits { AreDigitsOf of.now.sampled.plant.now of.now.state digits.now.each.items digits.now.slots }
     requires capacity { slot + length chunk.old < 2 ^ 32 }
     ensures long { length chunk.new ≡ length chunk.old }
@@ -62,13 +57,7 @@ fn lines_of(of: &StateOf<'_>, digits: &Digits) -> SlotLines
 }
 
 /// The extents of slots in a line, up to as many as there are lanes.
-fn fill_line(
-    of: &StateOf<'_>,
-    digits: &Digits,
-    along: u32,
-    slot: u32,
-    line: &mut [Option<Extent>],
-)
+fn fill_line(of: &StateOf<'_>, digits: &Digits, along: u32, slot: u32, line: &mut [Option<Extent>])
     requires digits { AreDigitsOf of.now.sampled.plant.now of.now.state digits.now.each.items digits.now.slots }
     requires along { along < length of.now.sampled.plant.now.states }
     requires line { LieAlong digits.now.each.items along slot (length line.old) }

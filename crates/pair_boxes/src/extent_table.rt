@@ -46,11 +46,7 @@ pub(crate) fn build_table<R: Threads + Sync>(
 }
 
 /// What each input brings to the slot of an extent.
-fn build_inputs(
-    alloc: Global,
-    of: &StateOf<'_>,
-    digits: &Digits,
-) -> Result<Vec<u32>, AllocError>
+fn build_inputs(alloc: Global, of: &StateOf<'_>, digits: &Digits) -> Result<Vec<u32>, AllocError>
     requires { AreDigitsOf of.now.sampled.plant.now of.now.state digits.now.each.items digits.now.slots }
     ensures long { IfOk result (λ inputs. length inputs.items ≡ vectors_of of.now.sampled.plant.now.inputs) }
     ensures each { IfOk result (λ inputs. HoldSlots of.now.sampled.plant.now digits.now.each.items inputs.items) }

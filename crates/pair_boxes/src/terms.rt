@@ -178,11 +178,7 @@ fn has_slot_for_each_pair(of: &StateOf<'_>, digits: &Digits) -> bool {
 }
 
 /// The terms along the axis of one state, listed if they are few.
-fn build_terms(
-    alloc: Global,
-    of: &StateOf<'_>,
-    table: ExtentTable,
-) -> Result<TermTable, AllocError>
+fn build_terms(alloc: Global, of: &StateOf<'_>, table: ExtentTable) -> Result<TermTable, AllocError>
     requires { IsExtentTableOf of.now.sampled.plant.now of.now.state table }
     ensures { IfOk result (λ terms. IsTermTableOf of.now.sampled.plant.now of.now.state terms) }
 {

@@ -159,7 +159,7 @@ module _ (c : After-copy_first) where
       let step = line_step c.args.c start (line_length p) (omega (arith, row.row, begins)) in (
         record { some = omega (arith, ends.0); within = omega (arith, row.within, ends.0, ends.1); row = omega (arith, step.1, row.row, ends.0, ends.1) },
         subst (λ (k : ℕ). AreIndicesOf p (c.args.c + start) (set c.loop-block.indices (k - 1) (first + start))) (sym c.states.ensures)
-        (indices_in_line p plant c.args.c start n first c.loop-block.indices row begins (omega (arith, so_far.nine, plant.states_bound)) first_is so_far.indices),
+            (indices_in_line p plant c.args.c start n first c.loop-block.indices row begins (omega (arith, so_far.nine, plant.states_bound)) first_is so_far.indices),
       )
 
   sums : AreSumsOfCells c.args.sampled.now.plant.now c.add_early-early.result (c.args.c + start) (end - start) (replicate 32 one_cell) (part cells start end ends.0 ends.1 c.copy_first.new.boxes old_long)

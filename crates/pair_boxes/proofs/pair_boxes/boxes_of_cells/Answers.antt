@@ -94,10 +94,11 @@ boxes_in_line-requires-clause-line c =
     let at = (goal.at.boxes_in_line-requires-clause-line c).In-loop-done in
     let done : ℕ = c.loop-done.done in
     let end : ℕ = c.min-end.result in
-    let row = piece at end c.min-end.ensures in
-    (end - done,
-     part_long (cells at) done end row.0 row.1 c.loop-done.boxes c.loop-done.invariant.long ∙ range done end c.vectors-inputs.result row.0 ∙ ap (λ (m : ℕ). (end - done) * m) c.vectors-inputs.ensures.count,
-     row.2)
+    let row = piece at end c.min-end.ensures in (
+      end - done,
+      part_long (cells at) done end row.0 row.1 c.loop-done.boxes c.loop-done.invariant.long ∙ range done end c.vectors-inputs.result row.0 ∙ ap (λ (m : ℕ). (end - done) * m) c.vectors-inputs.ensures.count,
+      row.2,
+    )
 
 pub boxes_in_line-requires-clause-start : goal.boxes_in_line-requires-clause-start
 boxes_in_line-requires-clause-start c = λ k d short.
