@@ -8,7 +8,7 @@ pub loop-state-init : goal.loop-state-init
 loop-state-init c = record {
   long = refl;
   within = c.requires.from;
-  sums = λ d n from before. subst (λ (b : Option CellBox). AreSumsOfCells c.args.sampled.now.plant.now c.args.from d n (replicate 32 b) c.args.boxes.now) (sym c.new-bases.ensures) before;
+  sums = λ d n from before. before;
 }
 
 pub loop-state-preserved : goal.loop-state-preserved
@@ -32,8 +32,8 @@ loop-state-preserved c =
       }
     ]
 
-pub add_bases-requires-clause-cells : goal.add_bases-requires-clause-cells
-add_bases-requires-clause-cells c =
+pub add_bases-requires : goal.add_bases-requires
+add_bases-requires c =
     let p = c.args.sampled.now.plant.now in
     let cells = c.requires.cells in
     let all : c.loop-state.state ≡ length p.equations = omega (arith, c.requires.tables.one_each, c.loop-state.invariant.within, c.loop-state-test.false) in

@@ -16,15 +16,15 @@ by_chunks-requires-clause-accepts g c κs within = λ start chunk here.
     let p = c.args.sampled.now.plant.now in
     let inputs : ℕ = c.vectors.result in
     let cells : c.cells-cells.result ≡ cells_of (axes_of p) = c.cells-cells.ensures.count ∙ ap cells_of c.grid.ensures in
-    let all = replicate (c.cells-cells.result * inputs) c.new.result in
-    let long : length all ≡ c.cells-cells.result * inputs = length-replicate (c.cells-cells.result * inputs) c.new.result in
+    let all = replicate (c.cells-cells.result * inputs) one_cell in
+    let long : length all ≡ c.cells-cells.result * inputs = length-replicate (c.cells-cells.result * inputs) one_cell in
     let pairs : length all ≡ cells_of (axes_of p) * inputs = long ∙ ap (λ (n : ℕ). n * inputs) cells in
     let whole =
     chunk_cells start (length chunk.now) c.cells_in_chunk.result inputs (cells_of (axes_of p)) c.vectors.ensures.some c.cells_in_chunk.ensures.some here.nonempty here.start_is_multiple
     (omega (arith, here.len, pairs)) (omega (arith, here.in_bounds, pairs))
     in
     let each : All (λ b. b ≡ one_cell) chunk.now =
-    λ k d lt. here.elements k d lt ∙ get_or-replicate (c.cells-cells.result * inputs) (start + k) c.new.result d (omega (arith, lt, here.in_bounds, long)) ∙ c.new.ensures
+    λ k d lt. here.elements k d lt ∙ get_or-replicate (c.cells-cells.result * inputs) (start + k) one_cell d (omega (arith, lt, here.in_bounds, long))
     in (rw c.as_slice-tables.ensures.value c.in_ok-tables.ensures, (c.vectors.ensures.count, (c.vectors.ensures.some, (whole, each))))
 
 -- each box is that of its pair, since it is in the chunk that was made there
@@ -34,7 +34,7 @@ returns g c =
     let inputs : ℕ = c.vectors.result in
     let m : ℕ = c.cells_in_chunk.result in
     let v : inputs ≡ vectors_of p.inputs = c.vectors.ensures.count in
-    let long = length-replicate (c.cells-cells.result * inputs) c.new.result in
+    let long = length-replicate (c.cells-cells.result * inputs) one_cell in
     let pairs : c.cells-cells.result * inputs ≡ pairs_of p = ap (λ (n : ℕ). n * inputs) (c.cells-cells.ensures.count ∙ ap cells_of c.grid.ensures) ∙ ap (λ (n : ℕ). cells_of (axes_of p) * n) v in
     IfOk-both c.by_chunks.result _ _ _ c.by_chunks.ensures.len c.by_chunks.ensures.by_index (λ boxes len by_index.
     record {
