@@ -1,4 +1,4 @@
-use Rattle.std.proofs.Common.{◌≡◌, ℕ, ◌+◌, ◌≤◌, ◌∙◌, List, Option, length, replicate, refl, sym, ap, subst, subst₂, arith}
+use Rattle.std.proofs.Common.{◌≡◌, ℕ, ◌+◌, ◌≤◌, ◌∙◌, List, Option, length, refl, sym, ap, subst, subst₂, arith}
 use Rattle.grid_quantiser.specs.declared.boxes.CellBox.{CellBox}
 use Rattle.pair_boxes.specs.inside.CellLines.{AreSumsOfCells}
 use Rattle.pair_boxes.proofs.cell_lines.add_late.Goals as goal

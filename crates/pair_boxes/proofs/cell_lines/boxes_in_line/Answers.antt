@@ -11,7 +11,7 @@ use Rattle.successor_box.specs.PairExtents.{index_in}
 use Rattle.successor_box.specs.SuccessorBoxes.{IsBoxOf}
 use Rattle.pair_boxes.specs.inside.Terms.{AreIndicesOf, IsSumAlong}
 use Rattle.pair_boxes.specs.inside.CellLines.{last_state, line_length, IsInLineOf, AreCellsFrom, AreSumsOfCells}
-use Rattle.pair_boxes.proofs.CellLineLists.{AreCellBoxes, range, cell_before, cells_are, long_by, boxes_few, cell_fits, first_written, part, part_long, part_read, after_long, left_before, left_after, found_in}
+use Rattle.pair_boxes.proofs.CellLineLists.{AreCellBoxes, range, cell_before, long_by, boxes_few, cell_fits, first_written, part, part_long, part_read, after_long, left_before, left_after, found_in}
 use Rattle.pair_boxes.proofs.LineCells.{last_among, last_slot_few, line_step, indices_in_line, further_in_line}
 use Rattle.pair_boxes.proofs.cell_lines.boxes_in_line.Goals as goal
 use Rattle.pair_boxes.proofs.cell_lines.boxes_in_line.Goals.{After-vectors-inputs, After-copy_first}

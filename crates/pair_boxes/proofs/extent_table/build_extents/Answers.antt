@@ -1,4 +1,4 @@
-use Rattle.std.proofs.Common.{◌≡◌, ℕ, ◌+◌, ◌<◌, List, Option, None, length, get_or, subst₂, arith}
+use Rattle.std.proofs.Common.{◌≡◌, ℕ, ◌+◌, ◌<◌, List, Option, None, length, subst₂, arith}
 use Rattle.std.proofs.lemmas.List.{length-replicate}
 use Rattle.grid_quantiser.specs.declared.extents.Extent.{Extent}
 use Rattle.pair_boxes.specs.declared.digits.Digit.{Digit}
