@@ -54,14 +54,14 @@ new_slice : (xs more : List Segment) → take (length (xs ++ more) - length xs) 
 new_slice xs more =
     ap (take (length (xs ++ more) - length xs)) (drop-append_seam xs more) ∙ take_all (length (xs ++ more) - length xs) more (omega (arith, length-append xs more))
 
-module _ (axes : List Axis) (before after : Shapes) (distance_along : ℕ) (within : distance_along < length before.spans.items)
-    (spans : after.spans.items ≡ set before.spans.items distance_along (record { from = length before.segments.items; to = length after.segments.items }))
+module _ (axes : List Axis) (before after : Shapes) (distance_along : ℕ) (within : distance_along < length before.ranges.items)
+    (ranges : after.ranges.items ≡ set before.ranges.items distance_along (record { from = length before.segments.items; to = length after.segments.items }))
     (lists : ListsSegments before.segments.items after.segments.items (cells_between axes 0 distance_along)) where
   abbrev here : SegmentRange
   here = record { from = length before.segments.items; to = length after.segments.items }
 
   range_here : range_at after distance_along ≡ here
-  range_here = ap (λ xs. get_or xs distance_along (record { from = 0; to = 0 })) spans ∙ get_or-set_same before.spans.items distance_along here (record { from = 0; to = 0 }) within
+  range_here = ap (λ xs. get_or xs distance_along (record { from = 0; to = 0 })) ranges ∙ get_or-set_same before.ranges.items distance_along here (record { from = 0; to = 0 }) within
 
   segments_here : segments_at after distance_along ≡ lists.more
   segments_here =
@@ -75,7 +75,7 @@ module _ (axes : List Axis) (before after : Shapes) (distance_along : ℕ) (with
   pub has_here : HasSegmentsAt axes after distance_along
   has_here = record {
     listed = record {
-      within = omega (arith, within, ap length spans, length-set before.spans.items distance_along here);
+      within = omega (arith, within, ap length ranges, length-set before.ranges.items distance_along here);
       ordered_ends = rw range_here long;
       inside = rw range_here (omega arith);
     };
@@ -84,7 +84,7 @@ module _ (axes : List Axis) (before after : Shapes) (distance_along : ℕ) (with
   }
 
   range_other : (k : ℕ) → k ≢ distance_along → range_at after k ≡ range_at before k
-  range_other k other = ap (λ xs. get_or xs k (record { from = 0; to = 0 })) spans ∙ get_or-set_other before.spans.items distance_along k here (record { from = 0; to = 0 }) other
+  range_other k other = ap (λ xs. get_or xs k (record { from = 0; to = 0 })) ranges ∙ get_or-set_other before.ranges.items distance_along k here (record { from = 0; to = 0 }) other
 
   kept_other : (k : ℕ) → k ≢ distance_along → HasSegmentsAt axes before k → HasSegmentsAt axes after k
   kept_other k other h =
@@ -95,7 +95,7 @@ module _ (axes : List Axis) (before after : Shapes) (distance_along : ℕ) (with
       in
       record {
         listed = record {
-          within = omega (arith, h.listed.within, ap length spans, length-set before.spans.items distance_along here);
+          within = omega (arith, h.listed.within, ap length ranges, length-set before.ranges.items distance_along here);
           ordered_ends = rw (range_other k other) h.listed.ordered_ends;
           inside = rw (range_other k other) (omega (arith, h.listed.inside, long));
         };
@@ -109,12 +109,12 @@ module _ (axes : List Axis) (before after : Shapes) (distance_along : ℕ) (with
 -- ---- the shapes that a loop over the distances has listed
 
 pub record ShapesSoFar (axes : List Axis) (fans : List ℕ) (n : ℕ) (s : Shapes) : Type 0 where
-  pub distances : length s.spans.items ≡ length fans
+  pub distances : length s.ranges.items ≡ length fans
   pub has : (k : ℕ) → k < n → 1 ≤ get_or fans k 0 → HasSegmentsAt axes s k
   pub few : length s.segments.items ≤ sum (take n fans)
 
 pub shapes_more : (axes : List Axis) (fans : List ℕ) (n cells : ℕ) (before after : Shapes) → n < length fans → ShapesSoFar axes fans n before →
-    length after.spans.items ≡ length before.spans.items → KeepsSegments axes before after → HasSegmentsAt axes after n →
+    length after.ranges.items ≡ length before.ranges.items → KeepsSegments axes before after → HasSegmentsAt axes after n →
     cells ≡ get_or fans n 0 → length after.segments.items ≤ length before.segments.items + cells → ShapesSoFar axes fans (n + 1) after
 shapes_more axes fans n cells before after below h distances keep listed count few = record {
   distances = distances ∙ h.distances;

@@ -11,10 +11,10 @@ ghost use Rattle.base.specs.declared.limits.TheConstants.{CELLS_LIMIT, EDGES_LIM
 
 use crate::band::Band;
 use crate::intake::{Counts, Intake};
-use crate::pair_box::PairBox;
 use crate::shapes::{Segment, Shapes};
 use edge_rows::{NoMemory, RowFill, Rows};
 use grid_quantiser::{CellBox, Grid};
+use pair_boxes::PairBox;
 use std::alloc::{AllocError, Global};
 
 /// The pairs that lead to each cell of a band, in rising order.

@@ -5,9 +5,9 @@ ghost use Rattle.abstraction_table.specs.inside.StoredGame.{IsBoxGame};
 ghost use Rattle.abstraction_table.specs.inside.Props.{box_props};
 
 use crate::fans::Fans;
-use crate::pair_box::PairBox;
 use game_core::Mark;
 use grid_quantiser::{CellBox, Grid};
+use pair_boxes::PairBox;
 use raw_slots::RawList;
 
 /// The game of a plant by the boxes of its pairs. A pair's successors are the cells of its box, in rising

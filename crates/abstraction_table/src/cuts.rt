@@ -8,8 +8,8 @@ ghost use Rattle.base.specs.declared.limits.TheConstants.{CELLS_LIMIT};
 
 use crate::band::Band;
 use crate::fans::Fans;
-use crate::pair_box::PairBox;
 use grid_quantiser::CellBox;
+use pair_boxes::PairBox;
 use rayon::current_num_threads;
 use std::alloc::{AllocError, Global};
 use std::thread::Threads;

@@ -9,8 +9,8 @@ ghost use Rattle.abstraction_table.specs.inside.Tallies.{edges_of};
 ghost use Rattle.abstraction_table.specs.declared.fans.TheConstants.{BOXES_FOR_A_PART, PARTS_LIMIT};
 ghost use Rattle.base.specs.declared.limits.TheConstants.{CELLS_LIMIT, PAIRS_LIMIT};
 
-use crate::pair_box::PairBox;
 use grid_quantiser::{CellBox, Grid};
+use pair_boxes::PairBox;
 use rayon::current_num_threads;
 use std::alloc::{AllocError, Global};
 use std::thread::{Threads, map_chunks};

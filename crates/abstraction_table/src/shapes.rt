@@ -35,7 +35,7 @@ const NO_SEGMENTS: SegmentRange = SegmentRange { from: 0, to: 0 };
 #[derive(Drop)]
 pub(crate) struct Shapes {
     /// One for each such distance.
-    pub(crate) spans: Vec<SegmentRange>,
+    pub(crate) ranges: Vec<SegmentRange>,
     pub(crate) segments: Vec<Segment>,
 }
 
@@ -47,16 +47,16 @@ impl Shapes {
         requires listed { IsListed self.now (b.last - b.first) }
         ensures { result.now ≡ segments_at self.now (b.last - b.first) }
     {
-        let range = self.spans[(b.last - b.first) as usize];
+        let range = self.ranges[(b.last - b.first) as usize];
         &self.segments[range.from as usize..range.to as usize]
     }
 
     /// Pushes the segments of the shape of a distance.
     fn push_shape(&mut self, grid: &Grid, distance: u32) -> Result<(), AllocError>
         requires shape { IsCellBox grid.now 0 distance }
-        requires within { distance < length self.old.spans.items }
+        requires within { distance < length self.old.ranges.items }
         requires few { length self.old.segments.items + length (cells_between grid.now 0 distance) ≤ EDGES_LIMIT }
-        ensures distances { length self.new.spans.items ≡ length self.old.spans.items }
+        ensures distances { length self.new.ranges.items ≡ length self.old.ranges.items }
         ensures kept { IfOk result (λ _. KeepsSegments grid.now self.old self.new) }
         ensures listed { IfOk result (λ _. HasSegmentsAt grid.now self.new distance) }
         ensures few { IfOk result (λ _. length self.new.segments.items ≤ length self.old.segments.items + length (cells_between grid.now 0 distance)) }
@@ -68,7 +68,7 @@ impl Shapes {
         let from = self.segments.len() as u32;
         push_segments(grid.segments(shape), &mut self.segments)?;
         let to = self.segments.len() as u32;
-        self.spans[distance as usize] = SegmentRange { from, to };
+        self.ranges[distance as usize] = SegmentRange { from, to };
         Ok(())
     }
 }
@@ -82,7 +82,7 @@ pub(crate) fn build_shapes(alloc: Global, grid: &Grid, fans: &Fans) -> Result<Sh
     ensures { IfOk result (λ shapes. EachShapeHasSegments grid.now shapes fans.now.counts.items) }
 {
     let mut shapes = Shapes {
-        spans: vec![in alloc; NO_SEGMENTS; fans.counts.len()]?,
+        ranges: vec![in alloc; NO_SEGMENTS; fans.counts.len()]?,
         segments: Vec::new(alloc),
     };
     for distance in 0..fans.counts.len() as u32 {

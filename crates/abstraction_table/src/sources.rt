@@ -14,10 +14,10 @@ ghost use Rattle.base.specs.declared.limits.TheConstants.{CELLS_LIMIT, EDGES_LIM
 use crate::band_filling::fill_band;
 use crate::cuts::{Cuts, Group, build_cuts};
 use crate::fans::Fans;
-use crate::pair_box::PairBox;
 use crate::shapes::Shapes;
 use edge_rows::{NoMemory, Rows};
 use grid_quantiser::Grid;
+use pair_boxes::PairBox;
 use rayon::prelude::*;
 use std::alloc::Global;
 use std::thread::Threads;

@@ -2,7 +2,6 @@
 ghost use Rattle.std.specs.Prelude.{◌<◌, length, IfOk, IfSome, IsTrue, IsFalse};
 ghost use Rattle.fixed_expr.specs.Expression.{expression_of};
 ghost use Rattle.plant_record.specs.Description.{vectors_of};
-ghost use Rattle.plant_record.specs.Limits.{IsWithinLimits};
 ghost use Rattle.successor_box.specs.CellLines.{HaveCentres, KeepCentres};
 ghost use Rattle.successor_box.specs.AdditiveInputs.{AreInputIncrements, IsAdditiveLineOf};
 ghost use Rattle.successor_box.specs.inside.Additive.{NamesNoInput, NamesNoState, HasAdditiveInputs};
@@ -12,7 +11,7 @@ use crate::cell_line::{CellLine, set_input};
 use crate::sampled::Sampled;
 use fixed_expr::narrow::narrow;
 use fixed_expr::{Expr, LANES, eval_along};
-use plant_record::{Plant, PlantVersion};
+use plant_record::PlantVersion;
 use std::alloc::{AllocError, Global};
 
 /// The values, in each lane of a line under the first input vector, of an equation to which inputs are only added, and how much it
@@ -36,7 +35,7 @@ impl Sampled<'_> {
         ensures { IfOk result (λ increments. IfSome increments (λ increments. AreInputIncrements self.now.plant.now state increments.items)) }
     {
         let p = self.plant;
-        if p.plant_version() == PlantVersion::Two || !adds_inputs(p, p.equation(state)) {
+        if p.plant_version() == PlantVersion::Two || !adds_inputs(self, p.equation(state)) {
             return Ok(None);
         }
         let mut increments = Vec::with_capacity(alloc, p.vectors() as usize)?;
@@ -76,7 +75,7 @@ impl Sampled<'_> {
     {
         let increments = increments?;
         let p = self.plant;
-        set_input(p, 0, &mut line.values);
+        set_input(self, 0, &mut line.values);
         let mut values = [0; LANES];
         eval_along(p.equation(state), &line.lanes(p.variables()), &mut values)?;
         Some(AdditiveLine { values, increments })
@@ -84,24 +83,23 @@ impl Sampled<'_> {
 }
 
 /// Whether inputs are only added to an expression: it is a sum of parts in which no input variable or no state stands.
-fn adds_inputs(p: &Plant, e: &Expr) -> bool
-    requires { IsWithinLimits p.now }
-    ensures { IsTrue result → HasAdditiveInputs p.now (expression_of e.now) }
+fn adds_inputs(sampled: &Sampled<'_>, e: &Expr) -> bool
+    ensures { IsTrue result → HasAdditiveInputs sampled.now.plant.now (expression_of e.now) }
 {
-    if !names_input(p, e) || !names_state(p, e) {
+    if !names_input(sampled, e) || !names_state(sampled, e) {
         return true;
     }
     match e {
-        Expr::Add(a, b) | Expr::Sub(a, b) => adds_inputs(p, a) && adds_inputs(p, b),
+        Expr::Add(a, b) | Expr::Sub(a, b) => adds_inputs(sampled, a) && adds_inputs(sampled, b),
         _ => false,
     }
 }
 
 /// Whether an input variable stands in an expression.
-fn names_input(p: &Plant, e: &Expr) -> bool
-    requires { IsWithinLimits p.now }
-    ensures { IsFalse result → NamesNoInput p.now (expression_of e.now) }
+fn names_input(sampled: &Sampled<'_>, e: &Expr) -> bool
+    ensures { IsFalse result → NamesNoInput sampled.now.plant.now (expression_of e.now) }
 {
+    let p = sampled.plant;
     for k in 0..p.input_variables() {
         if e.mentions(p.states() + k) {
             return true;
@@ -111,11 +109,10 @@ fn names_input(p: &Plant, e: &Expr) -> bool
 }
 
 /// Whether a state stands in an expression.
-fn names_state(p: &Plant, e: &Expr) -> bool
-    requires { IsWithinLimits p.now }
-    ensures { IsFalse result → NamesNoState p.now (expression_of e.now) }
+fn names_state(sampled: &Sampled<'_>, e: &Expr) -> bool
+    ensures { IsFalse result → NamesNoState sampled.now.plant.now (expression_of e.now) }
 {
-    for k in 0..p.states() {
+    for k in 0..sampled.plant.states() {
         if e.mentions(k) {
             return true;
         }

@@ -2,12 +2,12 @@
 ghost use Rattle.std.specs.Prelude.{◌≡◌, ℕ, ◌-◌, ◌<◌, ◌≤◌, min, pos, length, take};
 ghost use Rattle.base.specs.declared.limits.TheConstants.{VARIABLES_LIMIT};
 ghost use Rattle.plant_record.specs.Description.{vectors_of};
-ghost use Rattle.plant_record.specs.Limits.{IsWithinLimits};
 ghost use Rattle.successor_box.specs.CellLines.{LiesInGrid, HaveCentresOf};
 ghost use Rattle.successor_box.specs.inside.Lines.{HoldsInLanes, AreInputValues, KeepOthers, middle_after, HasMiddleAfter};
 
 use crate::central_value::{central_value, first_middle, middle};
 use crate::indices_limit::INDICES_LIMIT;
+use crate::sampled::Sampled;
 use base::limits::VARIABLES_LIMIT;
 use fixed_expr::{LANES, ValuesAlong};
 use plant_record::Plant;
@@ -74,12 +74,12 @@ fn middles(first: i64, width: i64, index: u32, cells: usize) -> [i64; LANES]
 }
 
 /// Sets the values of the input variables to those of an input vector.
-pub(crate) fn set_input(p: &Plant, input: u32, values: &mut [i64; VARIABLES_LIMIT])
-    requires plant { IsWithinLimits p.now }
-    requires input { input < vectors_of p.now.inputs }
-    ensures set { AreInputValues p.now input values.new }
-    ensures others { KeepOthers p.now values.old values.new }
+pub(crate) fn set_input(sampled: &Sampled<'_>, input: u32, values: &mut [i64; VARIABLES_LIMIT])
+    requires { input < vectors_of sampled.now.plant.now.inputs }
+    ensures set { AreInputValues sampled.now.plant.now input values.new }
+    ensures others { KeepOthers sampled.now.plant.now values.old values.new }
 {
+    let p = sampled.plant;
     let states = p.states();
     for k in 0..p.input_variables() {
         values[(states + k) as usize] = p.input_value(input, k) as i64;

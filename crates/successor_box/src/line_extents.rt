@@ -47,7 +47,7 @@ impl Sampled<'_> {
         ensures each { HoldExtentsAtCentres self.now.plant.now line.old input state extents.new }
     {
         let p = self.plant;
-        set_input(p, input, &mut line.values);
+        set_input(self, input, &mut line.values);
         let at = line.lanes(p.variables());
         match p.plant_version() {
             PlantVersion::One => self.growth_extents(input, state, additive, &at, extents),

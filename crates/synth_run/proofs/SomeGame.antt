@@ -18,8 +18,8 @@ use Rattle.successor_box.proofs.BoxDomains.{by_box_in_domain}
 use Rattle.successor_box.proofs.Enabled.{corners_ordered}
 use Rattle.plant_game.specs.Abstraction.{IsGameOf, AreBoxesOf, pairs_of, pair_of}
 use Rattle.plant_game.specs.Marks.{IsMarkAt, AreMarksOf, LiesInSomeTarget}
-use Rattle.abstraction_table.proofs.PairBoxes.{pair_below}
 use Rattle.abstraction_table.proofs.PlantGame.{is_game_of}
+use Rattle.base.proofs.Products.{part_fits}
 use Rattle.read_texts.proofs.Undeniable.{either}
 use Rattle.synth_run.proofs.Undeniable.{chosen}
 
@@ -42,7 +42,7 @@ some_boxes : (p : Description) → IsSound p → ((boxes : List (Option CellBox)
 some_boxes p s deny =
     chosen None (λ pair b. IsBoxOf p (pair / vectors_of p.inputs) (pair % vectors_of p.inputs) b) (pairs_of p)
     (λ pair lt none. none (box_of p s (pair / vectors_of p.inputs) (pair % vectors_of p.inputs)))
-    (λ found. deny (found.0, record { one_each = found.1; each = λ c u cell input. at found.0 c u input (found.2 (pair_of p c u) (pair_below p c u cell input)) }))
+    (λ found. deny (found.0, record { one_each = found.1; each = λ c u cell input. at found.0 c u input (found.2 (pair_of p c u) (omega (arith, input, part_fits c (cells_of (axes_of p)) (vectors_of p.inputs) cell))) }))
   where
     at : (boxes : List (Option CellBox)) (c u : ℕ) → u < vectors_of p.inputs
         → IsBoxOf p (pair_of p c u / vectors_of p.inputs) (pair_of p c u % vectors_of p.inputs) (get_or boxes (pair_of p c u) None) → IsBoxOf p c u (get_or boxes (pair_of p c u) None)

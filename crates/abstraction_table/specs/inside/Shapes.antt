@@ -18,7 +18,7 @@ EndsBy bound first r = first + r.start + r.len ≤ bound
 
 -- where the segments of a shape stand
 abbrev pub range_at : Shapes → ℕ → SegmentRange
-range_at s distance_along = slice_index_or s.spans.items distance_along (record { from = 0; to = 0 })
+range_at s distance_along = slice_index_or s.ranges.items distance_along (record { from = 0; to = 0 })
 
 -- the segments of a shape
 abbrev pub segments_at : Shapes → ℕ → List Segment
@@ -26,7 +26,7 @@ segments_at s distance_along = take ((range_at s distance_along).to - (range_at 
 
 -- The segments of a shape stand among those of all.
 pub record IsListed (s : Shapes) (distance_along : ℕ) : Type 0 where
-  pub within : distance_along < length s.spans.items
+  pub within : distance_along < length s.ranges.items
   pub ordered_ends : (range_at s distance_along).from ≤ (range_at s distance_along).to
   pub inside : (range_at s distance_along).to ≤ length s.segments.items
 

@@ -5,4 +5,4 @@ use Rattle.successor_box.proofs.additive.names_input.Given as goal
 
 -- none of the input variables so far
 abbrev pub invariant-loop-k : goal.invariant-loop-k
-invariant-loop-k l = record { absent : (i : ℕ) → i < l.k → mentions (expression_of l.e) (length l.p.states + i) ≡ false }
+invariant-loop-k l = record { absent : (i : ℕ) → i < l.k → mentions (expression_of l.e) (length l.sampled.plant.now.states + i) ≡ false }

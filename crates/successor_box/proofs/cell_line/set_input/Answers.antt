@@ -16,19 +16,19 @@ pub overflow_cast-values : goal.overflow_cast-values
 overflow_cast-values c =
     let x : ℤ = c.input_value.result in
     let wide : FitsSigned w128 x = search rules in
-    rw (to_z-of_z w128 x wide, c.input_value.ensures) (literal_fits _ (value_literal c.args.p.now.inputs c.args.input c.loop-k.k c.requires.plant.plant.inputs))
+    rw (to_z-of_z w128 x wide, c.input_value.ensures) (literal_fits _ (value_literal c.args.sampled.now.plant.now.inputs c.args.input c.loop-k.k c.args.sampled.now.within.plant.inputs))
 
 pub loop-k-preserved : goal.loop-k-preserved
 loop-k-preserved c =
-    let p = c.args.p.now in
+    let p = c.args.sampled.now.plant.now in
     let k : ℕ = c.loop-k.k in
     let u : ℕ = c.args.input in
     let values = c.loop-k.values in
     let x : ℤ = c.input_value.result in
     let wide : FitsSigned w128 x = search rules in
-    let narrow : FitsSigned w64 x = rw c.input_value.ensures (literal_fits _ (value_literal p.inputs u k c.requires.plant.plant.inputs)) in
+    let narrow : FitsSigned w64 x = rw c.input_value.ensures (literal_fits _ (value_literal p.inputs u k c.args.sampled.now.within.plant.inputs)) in
     let within : k < length p.inputs = omega (arith, c.loop-k-test.true, c.input_variables-k-end.ensures) in
-    let plant = c.requires.plant.plant in
+    let plant = c.args.sampled.now.within.plant in
     let n : ℕ = length p.states + k in
     let capacity : n < length values = omega (arith, within, c.loop-k.invariant.long, plant.states_bound, plant.inputs_bound) in
     rw (to_z-of_z w128 x wide, to_z-of_z w64 x narrow, c.states-states.ensures)

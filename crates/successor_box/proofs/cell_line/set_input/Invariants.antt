@@ -8,6 +8,6 @@ use Rattle.successor_box.proofs.cell_line.set_input.Given as goal
 abbrev pub invariant-loop-k : goal.invariant-loop-k
 invariant-loop-k l = record {
   long : length l.values ≡ 15;
-  set : (i : ℕ) → i < l.k → get_or l.values (length l.p.states + i) (pos 0) ≡ get_or (vector_of l.p.inputs l.input) i (pos 0);
-  others : KeepOthers l.p l.fn.values l.values;
+  set : (i : ℕ) → i < l.k → get_or l.values (length l.sampled.plant.now.states + i) (pos 0) ≡ get_or (vector_of l.sampled.plant.now.inputs l.input) i (pos 0);
+  others : KeepOthers l.sampled.plant.now l.fn.values l.values;
 }

@@ -15,22 +15,22 @@ module _ (c : goal.After-self-1) where
   before = c.args.self.now
 
   abbrev after : Shapes
-  after = record { spans = with_item before.spans c.args.distance (record { from = c.len-from.result; to = c.len-to.result }); segments = c.push_segments.new.segments }
+  after = record { ranges = with_item before.ranges c.args.distance (record { from = c.len-from.result; to = c.len-to.result }); segments = c.push_segments.new.segments }
 
-  spans : after.spans.items ≡ set before.spans.items c.args.distance (record { from = length before.segments.items; to = length after.segments.items })
-  spans =
+  ranges : after.ranges.items ≡ set before.ranges.items c.args.distance (record { from = length before.segments.items; to = length after.segments.items })
+  ranges =
       let from : c.len-from.result ≡ length before.segments.items = omega (arith, c.len-from.ensures, before.segments.ok.0) in
       let to : c.len-to.result ≡ length after.segments.items = omega (arith, c.len-to.ensures, after.segments.ok.0) in
-      λ i. set before.spans.items c.args.distance (record { from = from i; to = to i })
+      λ i. set before.ranges.items c.args.distance (record { from = from i; to = to i })
 
   lists : ListsSegments before.segments.items after.segments.items (cells_between axes 0 c.args.distance)
   lists = subst (ListsSegments before.segments.items after.segments.items) c.segments.ensures c.in_ok-push_segments.ensures
 
   kept : KeepsSegments axes before after
-  kept = keeps axes before after c.args.distance c.requires.within spans lists
+  kept = keeps axes before after c.args.distance c.requires.within ranges lists
 
   has : HasSegmentsAt axes after c.args.distance
-  has = has_here axes before after c.args.distance c.requires.within spans lists
+  has = has_here axes before after c.args.distance c.requires.within ranges lists
 
 pub returns-clause-kept : goal.returns-clause-kept
 returns-clause-kept c = kept c

@@ -14,8 +14,8 @@ use Rattle.successor_box.proofs.CellRanges.{equation_is, formed_at}
 use Rattle.successor_box.proofs.LineValues.{same_centres, values_under}
 use Rattle.successor_box.proofs.sampled.Sampled.additive_line.Goals as goal
 
-pub set_input-requires-clause-input : goal.set_input-requires-clause-input
-set_input-requires-clause-input c = omega (arith, some_vectors c.args.self.now.plant.now.inputs c.args.self.now.within.plant.inputs)
+pub set_input-requires : goal.set_input-requires
+set_input-requires c = omega (arith, some_vectors c.args.self.now.plant.now.inputs c.args.self.now.within.plant.inputs)
 
 pub eval_along-requires : goal.eval_along-requires
 eval_along-requires c =

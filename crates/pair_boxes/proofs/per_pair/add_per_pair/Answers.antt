@@ -1,0 +1,144 @@
+use Rattle.std.proofs.Common.{◌≡◌, ◌≢◌, ℕ, ◌+◌, ◌-◌, ◌*◌, ◌/◌, ◌<◌, ◌^◌, ◌∙◌, List, Option, None, length, get_or, below_more, refl, sym, ap, subst, arith}
+use Rattle.std.specs.Prelude.{IfSome}
+use Rattle.grid_quantiser.specs.declared.boxes.CellBox.{CellBox}
+use Rattle.grid_quantiser.specs.declared.extents.Extent.{Extent}
+use Rattle.std.proofs.lemmas.List.{length-take-le}
+use Rattle.plant_record.specs.Description.{Description, vectors_of}
+use Rattle.plant_record.proofs.lemmas.SoundPlants.{sound as sound_plant}
+use Rattle.successor_box.specs.CellLines.{LiesInGrid, HaveCentresOf, AreCentresOf, HoldExtentsAtCentres}
+use Rattle.successor_box.proofs.AdditiveInputs.{still_additive}
+use Rattle.pair_boxes.specs.inside.CellLines.{AreCellsFrom, AreExtentsUnder}
+use Rattle.pair_boxes.specs.inside.Sums.{plus}
+use Rattle.pair_boxes.specs.inside.Terms.{IsTermAt, IsSumAlong}
+use Rattle.pair_boxes.proofs.BoxSums.{ends_fit, rest_more}
+use Rattle.pair_boxes.proofs.LineBoxes.{cell_count}
+use Rattle.pair_boxes.proofs.LaneCells.{cell_in, cells_on, cells_in_grid, extents_here}
+use Rattle.base.proofs.Products.{nothing_below}
+use Rattle.pair_boxes.proofs.per_pair.add_per_pair.Goals as goal
+use Rattle.pair_boxes.proofs.per_pair.add_per_pair.Goals.{In-loop-input}
+
+-- there is an extent for each cell
+one_each : (c : goal.In-loop-input) (n : ℕ) → length c.args.boxes.now ≡ n * vectors_of c.args.of.now.sampled.plant.now.inputs → length c.loop-input.extents ≡ n
+one_each c n long = c.loop-input.invariant.cells ∙ cell_count (length c.args.boxes.now) n c.vectors-inputs.result (vectors_of c.args.of.now.sampled.plant.now.inputs) long c.vectors-inputs.ensures.count c.vectors-inputs.ensures.some
+
+-- cells in a row with these indices, as many as the boxes are for
+counted : (p : Description) (indices : List ℕ) (d n boxes inputs : ℕ) → boxes ≡ n * vectors_of p.inputs → inputs ≡ vectors_of p.inputs → 0 < inputs → AreCellsFrom p indices d n → AreCellsFrom p indices d (boxes / inputs)
+counted p indices d n boxes inputs long count some = subst (AreCellsFrom p indices d) (sym (cell_count boxes n inputs (vectors_of p.inputs) long count some))
+
+-- the line has the centres of the cells from one with these indices on
+centres : (c : goal.In-loop-input) (d n : ℕ) → length c.args.boxes.now ≡ n * vectors_of c.args.of.now.sampled.plant.now.inputs → AreCellsFrom c.args.of.now.sampled.plant.now c.args.indices.now d n →
+    AreCentresOf c.args.of.now.sampled.plant.now (cell_in d (length c.args.boxes.now / c.vectors-inputs.result)) c.loop-input.line
+centres c d n long from =
+    let p = c.args.of.now.sampled.plant.now in
+    let size : ℕ = length c.args.boxes.now / c.vectors-inputs.result in
+    c.loop-input.invariant.centres (cell_in d size)
+    (cells_on p c.args.of.now.sampled.within.plant c.args.indices.now d size (counted p c.args.indices.now d n (length c.args.boxes.now) c.vectors-inputs.result long c.vectors-inputs.ensures.count c.vectors-inputs.ensures.some from))
+
+-- and extents at these are theirs
+found : (c : goal.In-loop-input) (d n : ℕ) → length c.args.boxes.now ≡ n * vectors_of c.args.of.now.sampled.plant.now.inputs → AreCellsFrom c.args.of.now.sampled.plant.now c.args.indices.now d n → (extents : List (Option Extent)) →
+    length extents ≡ length c.loop-input.extents → HoldExtentsAtCentres c.args.of.now.sampled.plant.now c.loop-input.line c.loop-input.input c.args.of.now.state extents → AreExtentsUnder c.args.of.now.sampled.plant.now d c.loop-input.input c.args.of.now.state extents
+found c d n long from extents all held =
+    let size : ℕ = length c.args.boxes.now / c.vectors-inputs.result in
+    extents_here c.args.of.now.sampled.plant.now d size c.loop-input.input c.args.of.now.state extents (all ∙ c.loop-input.invariant.cells) (held (cell_in d size) (centres c d n long from))
+
+pub extents_under-requires-clause-line : goal.extents_under-requires-clause-line
+extents_under-requires-clause-line c = let cells = c.requires.cells.1 in (cell_in cells.0 (length c.args.boxes.now / c.vectors-inputs.result), centres (goal.at.extents_under-requires-clause-line c).In-loop-input cells.0 cells.1 cells.3.one_each cells.2)
+
+pub extents_under-requires-clause-few : goal.extents_under-requires-clause-few
+extents_under-requires-clause-few c = let cells = c.requires.cells.1 in omega (arith, one_each (goal.at.extents_under-requires-clause-few c).In-loop-input cells.1 cells.3.one_each, cells.3.few)
+
+pub new-line-requires-clause-along : goal.new-line-requires-clause-along
+new-line-requires-clause-along c = omega (arith, c.states.ensures, c.args.of.now.sampled.within.plant.some_state)
+
+pub new-line-requires-clause-some : goal.new-line-requires-clause-some
+new-line-requires-clause-some c =
+    let cells = c.requires.cells.1 in
+    omega (arith, cells.2.0.some, cell_count (length c.args.boxes.now) cells.1 c.vectors-inputs.result (vectors_of c.args.of.now.sampled.plant.now.inputs) cells.3.one_each c.vectors-inputs.ensures.count c.vectors-inputs.ensures.some)
+
+pub new-line-requires-clause-within : goal.new-line-requires-clause-within
+new-line-requires-clause-within c =
+    let p = c.args.of.now.sampled.plant.now in
+    let cells = c.requires.cells.1 in
+    let n : ℕ = length c.args.boxes.now / c.vectors-inputs.result in
+    subst (λ (k : ℕ). LiesInGrid p c.args.indices.now (k - 1) n) (sym c.states.ensures)
+    (cells_in_grid p c.args.of.now.sampled.within.plant c.args.indices.now cells.0 n (counted p c.args.indices.now cells.0 cells.1 (length c.args.boxes.now) c.vectors-inputs.result cells.3.one_each c.vectors-inputs.ensures.count c.vectors-inputs.ensures.some cells.2))
+
+pub additive_line-additive-requires-clause-line : goal.additive_line-additive-requires-clause-line
+additive_line-additive-requires-clause-line c =
+    let p = c.args.of.now.sampled.plant.now in
+    let cells = c.requires.cells.1 in
+    let n : ℕ = length c.args.boxes.now / c.vectors-inputs.result in
+    let here = counted p c.args.indices.now cells.0 cells.1 (length c.args.boxes.now) c.vectors-inputs.result cells.3.one_each c.vectors-inputs.ensures.count c.vectors-inputs.ensures.some cells.2 in
+    (cell_in cells.0 n, subst (λ (k : ℕ). HaveCentresOf p c.args.indices.now (k - 1) n c.new-line.result) c.states.ensures c.new-line.ensures (cell_in cells.0 n) (cells_on p c.args.of.now.sampled.within.plant c.args.indices.now cells.0 n here))
+
+pub loop-input-init : goal.loop-input-init
+loop-input-init c = record {
+  long = refl;
+  cells = length-take-le (length c.args.boxes.now / c.vectors-inputs.result) _ (let cells = c.requires.cells.1 in omega (arith, cells.3.few, cell_count (length c.args.boxes.now) cells.1 c.vectors-inputs.result (vectors_of c.args.of.now.sampled.plant.now.inputs) cells.3.one_each c.vectors-inputs.ensures.count c.vectors-inputs.ensures.some));
+  additive = c.additive_line-additive.ensures.line;
+  centres = λ cell on. (c.additive_line-additive.ensures.kept cell).0 (subst (λ (k : ℕ). HaveCentresOf c.args.of.now.sampled.plant.now c.args.indices.now (k - 1) (length c.args.boxes.now / c.vectors-inputs.result) c.new-line.result) c.states.ensures c.new-line.ensures cell on);
+  added = λ bases d n from sums k u lt none. nothing_below u none;
+  left = λ k u from short. refl;
+}
+
+pub add_extents-requires-clause-extents : goal.add_extents-requires-clause-extents
+add_extents-requires-clause-extents c =
+    let cells = c.requires.cells.1 in
+    (cells.0, found (goal.at.add_extents-requires-clause-extents c).In-loop-input cells.0 cells.1 cells.3.one_each cells.2 c.extents_under.new.extents c.extents_under.ensures.long c.extents_under.ensures.each)
+
+pub add_extents-requires-clause-one_each : goal.add_extents-requires-clause-one_each
+add_extents-requires-clause-one_each c =
+    let cells = c.requires.cells.1 in
+    let count = one_each (goal.at.add_extents-requires-clause-one_each c).In-loop-input cells.1 cells.3.one_each in
+    c.loop-input.invariant.long ∙ cells.3.one_each ∙ ap (λ (n : ℕ). n * vectors_of c.args.of.now.sampled.plant.now.inputs) (sym (c.extents_under.ensures.long ∙ count))
+
+pub add_extents-requires-clause-boxes : goal.add_extents-requires-clause-boxes
+add_extents-requires-clause-boxes c = λ k below.
+    let p = c.args.of.now.sampled.plant.now in
+    let plant = c.args.of.now.sampled.within.plant in
+    let v : ℕ = vectors_of p.inputs in
+    let input : ℕ = c.loop-input.input in
+    let cells = c.requires.cells.1 in
+    let lt : k < cells.1 = omega (arith, below, c.extents_under.ensures.long, one_each (goal.at.add_extents-requires-clause-boxes c).In-loop-input cells.1 cells.3.one_each) in
+    let within : input < v = omega (arith, c.loop-input-test.true, c.vectors-inputs.ensures.count) in
+    subst (λ (b : Option CellBox). IfSome b (λ (b : CellBox). b.last < 2 ^ 28)) (sym (c.loop-input.invariant.left k input (omega arith) within))
+    (ends_fit c.args.of.now.state (get_or c.args.boxes.now (k * v + input) None) (omega (arith, c.args.of.now.equation, plant.one_each, plant.states_bound)) (cells.3.each k input lt within).rest_few)
+
+pub loop-input-preserved : goal.loop-input-preserved
+loop-input-preserved c =
+    let p = c.args.of.now.sampled.plant.now in
+    let limits = c.args.of.now.sampled.within in
+    let v : ℕ = vectors_of p.inputs in
+    let i : ℕ = c.args.of.now.state in
+    let input : ℕ = c.loop-input.input in
+    let so_far = c.loop-input.invariant in
+    let new = c.add_extents.new.boxes in
+    let within : input < v = omega (arith, c.loop-input-test.true, c.vectors-inputs.ensures.count) in
+    record {
+      long = c.add_extents.ensures.long ∙ so_far.long;
+      cells = c.extents_under.ensures.long ∙ so_far.cells;
+      additive = still_additive p c.loop-input.line c.extents_under.new.line i c.additive_line-additive.result c.extents_under.ensures.kept so_far.additive;
+      centres = λ cell on. (c.extents_under.ensures.kept cell).0 (so_far.centres cell on);
+      added = λ bases d n from sums k u lt.
+          let count = one_each (goal.at.loop-input-preserved c).In-loop-input n sums.one_each in
+          let here = found (goal.at.loop-input-preserved c).In-loop-input d n sums.one_each from c.extents_under.new.extents c.extents_under.ensures.long c.extents_under.ensures.each in
+          let below : k < length c.extents_under.new.extents = omega (arith, lt, count, c.extents_under.ensures.long) in
+          let change = c.add_extents.ensures.added k below in
+          let term : IsTermAt p (d + k) input i change.0 = change.1 (d + k) input (here k below) in
+          let more = rest_more p (sound_plant p limits.plant) i c.args.of.now.equation limits.cells (d + k) input change.0 term (get_or bases k None) (get_or c.args.boxes.now (k * v + input) None) (sums.each k input lt within) in
+          below_more (λ (u : ℕ). IsSumAlong p (i + 1) (d + k) u (get_or bases k None) (get_or new (k * v + u) None)) input
+          (λ u earlier. let other : u ≢ input = omega (arith, earlier) in
+          subst (IsSumAlong p (i + 1) (d + k) u (get_or bases k None)) (sym (c.add_extents.ensures.others k u (omega (arith, earlier, within)) other)) (so_far.added bases d n from sums k u lt earlier))
+          (subst (IsSumAlong p (i + 1) (d + k) input (get_or bases k None)) (sym (change.2 ∙ ap (λ (b : Option CellBox). plus b change.0) (so_far.left k input (omega arith) within))) more)
+          u;
+      left = λ k u from short. let other : u ≢ input = omega (arith, from) in c.add_extents.ensures.others k u short other ∙ so_far.left k u (omega (arith, from)) short;
+    }
+
+pub returns-clause-added : goal.returns-clause-added
+returns-clause-added c = λ bases d n from sums.
+    let so_far = c.loop-input.invariant in
+    record {
+      few = sums.few;
+      one_each = so_far.long ∙ sums.one_each;
+      each = λ k u lt input. so_far.added bases d n from sums k u lt (omega (arith, input, c.loop-input-test.false, c.vectors-inputs.ensures.count));
+    }
