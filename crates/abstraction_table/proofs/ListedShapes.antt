@@ -24,7 +24,7 @@ use Rattle.abstraction_table.proofs.BandIndices.{indices-append, segment_inside}
 use Rattle.abstraction_table.proofs.Segments.{cells-append, one_segment_more, segments_end}
 use Rattle.base.proofs.Ranges.{map-add-range}
 
--- ---- segments that are moved
+-- ---- segments that are shifted
 
 moved_cells : (first : ℕ) (segments : List Segment) → map (λ c. first + c) (cells_from 0 segments) ≡ cells_from first segments
 moved_cells first [] = refl

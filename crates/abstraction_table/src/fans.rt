@@ -45,7 +45,7 @@ impl Fans {
         }
     }
 
-    /// Makes room for the count of a distance. Those up to the greatest distance of a box are kept, and no memory past them is
+    /// Makes the count of a distance. Those up to the greatest distance of a box are kept, and no memory past them is
     /// touched.
     fn reach(&mut self, distance: usize) -> Result<(), AllocError>
         requires { distance < CELLS_LIMIT }

@@ -136,9 +136,9 @@ module _ (p : Description) (plant : IsPlant p) (sound : IsSound p) (i : ℕ) (di
   -- its extent is that of all pairs that have the slot
   module _ (lt : i < length p.equations) (slot d v : ℕ) (has : HasIndices p (λ (k : ℕ). index_at digits k slot) d v) where
     unshifted : shifted_by p i d ≡ 0
-    unshifted = cond_both (moves_along p i) (index_along (axes_of p) i d) 0 (λ (n : ℕ). n ≡ 0)
+    unshifted = cond_both (shifts_along p i) (index_along (axes_of p) i d) 0 (λ (n : ℕ). n ≡ 0)
         (λ shifts.
-        let free : depends_on p i i ≡ false = and_right (mentions (equation_at p i) i) (not (moves_along p i && eqb i i)) (ap not (and_from (moves_along p i) (eqb i i) shifts (eq-eqb i i refl))) in
+        let free : depends_on p i i ≡ false = and_right (mentions (equation_at p i) i) (not (shifts_along p i && eqb i i)) (ap not (and_from (shifts_along p i) (eqb i i) shifts (eq-eqb i i refl))) in
         has.along i (omega (arith, lt, sound.one_each)) ∙ no_index p i i slot digits are.each free)
         (λ fixed. refl)
 

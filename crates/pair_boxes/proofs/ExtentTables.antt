@@ -4,7 +4,7 @@ use Rattle.std.proofs.lemmas.List.{get_or_default}
 use Rattle.plant_record.specs.Description.{Description, vectors_of}
 use Rattle.plant_record.specs.Plants.{IsPlant}
 use Rattle.plant_record.specs.Soundness.{IsSound}
-use Rattle.successor_box.specs.PairExtents.{index_in, moves_along}
+use Rattle.successor_box.specs.PairExtents.{index_in, shifts_along}
 use Rattle.pair_boxes.specs.declared.extent_table.ExtentTable.{ExtentTable}
 use Rattle.plant_game.specs.Abstraction.{pairs_of}
 use Rattle.pair_boxes.specs.inside.Digits.{slot_at, HoldSlots, AreDigitsOf}
@@ -16,7 +16,7 @@ use Rattle.pair_boxes.proofs.PairDigits.{index_terms}
 -- what was found for each slot is a table of all extents
 module _ (p : Description) (plant : IsPlant p) (sound : IsSound p) (limit : pairs_of p ≤ 2 ^ 22) (i : ℕ) (t : ExtentTable) (slots : ℕ) (are : AreDigitsOf p i t.digits.items slots)
     (inputs_long : length t.inputs.items ≡ vectors_of p.inputs) (inputs_are : HoldSlots p t.digits.items t.inputs.items)
-    (shifts : t.shifts ≡ moves_along p i) (extents_long : length t.extents ≡ slots) (extents_are : HoldExtentsFrom p i t.digits.items 0 t.extents) where
+    (shifts : t.shifts ≡ shifts_along p i) (extents_long : length t.extents ≡ slots) (extents_are : HoldExtentsFrom p i t.digits.items 0 t.extents) where
   -- a pair has the slot that its cell and its input bring
   slot_of_pair : (c u : ℕ) → u < vectors_of p.inputs → slot_at t.digits.items (index_in p c u) ≡ first_of p t.digits.items c + get_or t.inputs.items u 0
   slot_of_pair c u input =

@@ -1,4 +1,4 @@
--- Cells in a row, one in each lane.
+-- Cells of a line, one in each lane.
 use Rattle.std.proofs.Common.{◌≡◌, ℕ, ◌+◌, ◌-◌, ◌<◌, List, Option, None, eqb, length, min, get_or, sym, subst, arith}
 use Rattle.std.proofs.lemmas.Bool.{cond_both, eqb-true, eqb-false}
 use Rattle.grid_quantiser.specs.declared.extents.Extent.{Extent}

@@ -1,4 +1,4 @@
--- Cells in a row differ in the place along the last state alone.
+-- Cells of a line differ in the index along the last state alone.
 use Rattle.std.proofs.Common.{◌≡◌, ◌≢◌, ℕ, zero, suc, ◌+◌, ◌*◌, ◌/◌, ◌%◌, ◌<◌, ◌≤◌, List, [], ◌∷◌, All, Bool, true, false, eqb, length, drop, set, get_or, get_or-set_other, get_or-set_same, refl, sym, ap, subst, ◌∙◌, arith, inl, inr}
 use Rattle.std.specs.Prelude.{◌==◌, IsTrue, if◌then◌else◌}
 use Rattle.std.proofs.Math.Nat.{mul_assoc, mul_comm, div-div-eq-div-mul, div-one, div-add-mod'}
@@ -12,7 +12,7 @@ use Rattle.grid_quantiser.specs.Indices.{index_along}
 use Rattle.grid_quantiser.proofs.OwnIndices.{index_along_is}
 use Rattle.plant_record.specs.Description.{Description, axis_of, axes_of}
 use Rattle.plant_record.specs.Plants.{IsPlant}
-use Rattle.successor_box.specs.PairExtents.{index_in, moves_along}
+use Rattle.successor_box.specs.PairExtents.{index_in, shifts_along}
 use Rattle.pair_boxes.specs.declared.digits.Digit.{Digit}
 use Rattle.pair_boxes.specs.declared.terms.TermTable.{TermTable}
 use Rattle.pair_boxes.specs.inside.CellLines.{last_state, line_length, AreInLine, IsInLineOf, StaysAlongLines}
@@ -21,7 +21,7 @@ use Rattle.pair_boxes.specs.inside.Digits.{slot_at}
 use Rattle.pair_boxes.proofs.PackedDigits.{next_digit, same_slots}
 use Rattle.pair_boxes.proofs.PairDigits.{state_slot, no_value_index}
 
--- the cells along the later axes are whole rows
+-- the cells along the later axes are whole lines
 whole_rows : (axes : List Axis) (k last : ℕ) → length axes ≡ suc last → k ≤ last → (g : ℕ) × (cells_of (drop k axes) ≡ g * (get_or axes last no_axis).count)
 whole_rows [] k last long le = absurd (omega (arith, long))
 whole_rows (a ∷ []) zero zero long le = (1, omega arith)
@@ -32,7 +32,7 @@ whole_rows (a ∷ axes) zero (suc last) long le =
 whole_rows (a ∷ axes) (suc k) zero long le = absurd (omega (arith, le))
 whole_rows (a ∷ axes) (suc k) (suc last) long le = whole_rows axes k last (omega (arith, long)) (omega (arith, le))
 
--- the slot along an earlier axis depends on the row alone
+-- the index along an earlier axis depends on the line alone
 row_slot : (axes : List Axis) (last i c d : ℕ) → length axes ≡ suc last → i < last → d / (get_or axes last no_axis).count ≡ c / (get_or axes last no_axis).count → index_along axes i c ≡ index_along axes i d
 row_slot axes last i c d long lt same =
     let r : ℕ = (get_or axes last no_axis).count in
@@ -48,7 +48,7 @@ last_slot axes last c long =
     let none : drop (last + 1) axes ≡ [] = drop_all (last + 1) axes (omega (arith, long)) in
     index_along_is axes last c ∙ ap (λ (later : List Axis). c / cells_of later % (get_or axes last no_axis).count) none ∙ ap (λ (n : ℕ). n % (get_or axes last no_axis).count) (div-one c)
 
--- a cell some indices further in the row
+-- a cell some indices further along the line
 pub line_step : (c k r : ℕ) → c % r + k < r → ((c + k) / r ≡ c / r) × ((c + k) % r ≡ c % r + k)
 line_step c k r within =
     let terms : c / r * r + (c % r + k) ≡ c + k = omega (arith, div-add-mod' c r) in
@@ -58,7 +58,7 @@ module _ (p : Description) (plant : IsPlant p) where
   long : length (axes_of p) ≡ suc (last_state p)
   long = omega (arith, length-map p.states axis_of, plant.some_state)
 
-  -- a slot of a cell in another's row
+  -- an index of a cell in another's line
   same_slot : (c d k : ℕ) → d / line_length p ≡ c / line_length p → k ≢ last_state p → index_in p c 0 k ≡ index_in p d 0 k
   same_slot c d k same other =
       elim (cases_lt k (length p.states)) [
@@ -68,7 +68,7 @@ module _ (p : Description) (plant : IsPlant p) where
         | inr past ↦ sym (no_value_index p c k past) ∙ no_value_index p d k past
       ]
 
-  -- what a cell brings to a table that depends on no slot along the last state
+  -- what a cell brings to a table that depends on no index along the last state
   same_first : (c d : ℕ) (ds : List Digit) → d / line_length p ≡ c / line_length p → All (λ (e : Digit). e.variable ≢ last_state p) ds → slot_at ds (index_in p c 0) ≡ slot_at ds (index_in p d 0)
   same_first c d ds same stays =
       same_slots (index_in p c 0) (index_in p d 0) ds
@@ -78,15 +78,15 @@ module _ (p : Description) (plant : IsPlant p) where
   same_shifts i c d true lt same stays = state_slot p c 0 i lt ∙ same_slot c d i same (stays refl) ∙ sym (state_slot p d 0 i lt)
   same_shifts i c d false lt same stays = refl
 
-  -- what brings to a table what a cell does, does so for its whole row
+  -- what brings to a table what a cell does, does so for its whole line
   pub brings_in_row : (i : ℕ) (t : TermTable) (first own c d : ℕ) → i < length p.states → IsTermTableOf p i t → StaysAlongLines (last_state p) i t → IsInLineOf p c d → Brings p i t first own c → Brings p i t first own d
   brings_in_row i t first own c d lt held stays row brought = record {
     cell = row.0;
     first = brought.first ∙ same_first c d t.digits.items row.1 stays.digits;
-    shifts = brought.shifts ∙ same_shifts i c d (moves_along p i) lt row.1 (λ shifts. stays.shifts (subst IsTrue (sym held.shifts) shifts));
+    shifts = brought.shifts ∙ same_shifts i c d (shifts_along p i) lt row.1 (λ shifts. stays.shifts (subst IsTrue (sym held.shifts) shifts));
   }
 
-  -- the slot along another axis of a cell further in the row, and that along the last one
+  -- the index along another axis of a cell further along the line, and that along the last one
   pub same_place : (c k n j : ℕ) → AreInLine p c n → k < n → j ≢ last_state p → index_in p c 0 j ≡ index_in p (c + k) 0 j
   same_place c k n j row lt other = same_slot c (c + k) j (line_step c k (line_length p) (omega (arith, row.row, lt))).0 other
 
@@ -95,7 +95,7 @@ module _ (p : Description) (plant : IsPlant p) where
       let last : last_state p < length p.states = omega (arith, plant.some_state) in
       omega (arith, state_slot p c 0 (last_state p) last, state_slot p (c + k) 0 (last_state p) last, last_slot (axes_of p) (last_state p) c long, last_slot (axes_of p) (last_state p) (c + k) long, (line_step c k (line_length p) (omega (arith, row.row, lt))).1)
 
-  -- the index of a cell further in the row
+  -- the index of a cell further along the line
   place_in_line : (c k n j : ℕ) → AreInLine p c n → k < n → index_in p (c + k) 0 j ≡ index_in p c 0 j + k * (if j == last_state p then 1 else 0)
   place_in_line c k n j row lt =
       cond_both (eqb j (last_state p)) 1 0 (λ (m : ℕ). index_in p (c + k) 0 j ≡ index_in p c 0 j + k * m)
@@ -115,8 +115,8 @@ module _ (p : Description) (plant : IsPlant p) where
   shifted_in_line i c k n true lt row within = omega (arith, state_slot p c 0 i lt, state_slot p (c + k) 0 i lt, place_in_line c k n i row within)
   shifted_in_line i c k n false lt row within = omega arith
 
-  -- where a row has one cell, the step is of no account
-  pub brings_in_line : (i : ℕ) (t : TermTable) (c k n first own step own_step : ℕ) → i < length p.states → t.shifts ≡ moves_along p i → AreInLine p c n → k < n →
+  -- where a line has one cell, the step is of no account
+  pub brings_in_line : (i : ℕ) (t : TermTable) (c k n first own step own_step : ℕ) → i < length p.states → t.shifts ≡ shifts_along p i → AreInLine p c n → k < n →
       (1 < n → step ≡ step_of t (last_state p)) → own_step ≡ (if t.shifts then (if i == last_state p then 1 else 0) else 0) → Brings p i t first own c → Brings p i t (first + k * step) (own + k * own_step) (c + k)
   brings_in_line i t c k n first own step own_step lt shifts row within step_is own_is brought =
       let steps : k * step ≡ k * step_of t (last_state p) =
@@ -126,14 +126,14 @@ module _ (p : Description) (plant : IsPlant p) where
       ]
       in
       let unit : ℕ = if i == last_state p then 1 else 0 in
-      let own_by : own_step ≡ (if moves_along p i then unit else 0) = own_is ∙ ap (λ (b : Bool). if b then unit else 0) shifts in
+      let own_by : own_step ≡ (if shifts_along p i then unit else 0) = own_is ∙ ap (λ (b : Bool). if b then unit else 0) shifts in
       record {
         cell = omega (arith, row.within, within);
         first = omega (arith, brought.first, steps, first_in_line c k n t.digits.items row within);
-        shifts = omega (arith, brought.shifts, ap (λ (m : ℕ). k * m) own_by, shifted_in_line i c k n (moves_along p i) lt row within);
+        shifts = omega (arith, brought.shifts, ap (λ (m : ℕ). k * m) own_by, shifted_in_line i c k n (shifts_along p i) lt row within);
       }
 
-  -- the indices of a cell further in the row
+  -- the indices of a cell further along the line
   pub indices_in_line : (c k n first : ℕ) (indices : List ℕ) → AreInLine p c n → k < n → last_state p < length indices → first ≡ index_in p c 0 (last_state p) →
       ((j : ℕ) → j < length p.states + length p.inputs → j ≢ last_state p → get_or indices j 0 ≡ index_in p c 0 j) → AreIndicesOf p (c + k) (set indices (last_state p) (first + k))
   indices_in_line c k n first indices row lt wide is others = λ j within.
@@ -154,12 +154,12 @@ module _ (p : Description) (plant : IsPlant p) where
   pub last_among : last_state p < length p.states + length p.inputs
   last_among = omega (arith, plant.some_state)
 
-  -- the slot along the last state is at most the cell
+  -- the index along the last state is at most the cell
   pub last_slot_few : (c n first : ℕ) → AreInLine p c n → first ≡ index_in p c 0 (last_state p) → first ≤ c
   last_slot_few c n first row is =
       let last : last_state p < length p.states = omega (arith, plant.some_state) in
       omega (arith, is, state_slot p c 0 (last_state p) last, last_slot (axes_of p) (last_state p) c long, div-add-mod' c (line_length p))
 
-  -- a cell further in the row is in the row
+  -- a cell further along the line is in the line
   pub further_in_line : (c k n : ℕ) → AreInLine p c n → k < n → IsInLineOf p c (c + k)
   further_in_line c k n row lt = (omega (arith, row.within, lt), (line_step c k (line_length p) (omega (arith, row.row, lt))).0)

@@ -13,7 +13,7 @@ use Rattle.grid_quantiser.specs.Indices.{index_along}
 use Rattle.grid_quantiser.proofs.OwnIndices.{index_along_below}
 use Rattle.plant_record.specs.Description.{Description, axis_of, axes_of, vectors_of}
 use Rattle.plant_record.specs.Soundness.{IsSound}
-use Rattle.successor_box.specs.PairExtents.{index_in, moves_along, shifted_by}
+use Rattle.successor_box.specs.PairExtents.{index_in, shifts_along, shifted_by}
 use Rattle.pair_boxes.specs.declared.digits.Digit.{Digit}
 use Rattle.pair_boxes.specs.declared.extent_table.ExtentTable.{ExtentTable}
 use Rattle.pair_boxes.specs.inside.ExtentTables.{first_of, IsExtentTableOf}
@@ -31,13 +31,13 @@ module _ (p : Description) (sound : IsSound p) (i : ℕ) (lt : i < length p.equa
   some_count = (All-get_or IsAxis (axes_of p) i no_axis (omega (arith, lt, sound.one_each, length-map p.states axis_of)) sound.axes.each).some_cell
 
   pub own_some : 1 ≤ own_count p i
-  own_some = cond_both (moves_along p i) count 1 (λ (n : ℕ). 1 ≤ n) (λ shifts. some_count) (λ fixed. omega arith)
+  own_some = cond_both (shifts_along p i) count 1 (λ (n : ℕ). 1 ≤ n) (λ shifts. some_count) (λ fixed. omega arith)
 
   pub own_few : own_count p i ≤ count
-  own_few = cond_both (moves_along p i) count 1 (λ (n : ℕ). n ≤ count) (λ shifts. omega arith) (λ fixed. some_count)
+  own_few = cond_both (shifts_along p i) count 1 (λ (n : ℕ). n ≤ count) (λ shifts. omega arith) (λ fixed. some_count)
 
   pub shifted_among : (c : ℕ) → shifted_by p i c < own_count p i
-  shifted_among c = by (moves_along p i)
+  shifted_among c = by (shifts_along p i)
     where
       by : (b : Bool) → (if b then index_along (axes_of p) i c else 0) < (if b then count else 1)
       by true = index_along_below (axes_of p) i c sound.axes.each (omega (arith, lt, sound.one_each, length-map p.states axis_of))
@@ -65,7 +65,7 @@ module _ (p : Description) (sound : IsSound p) (i : ℕ) (lt : i < length p.equa
       listed_term = subst (λ (n : ℕ). IsTermAt p c u i (get_or terms n None)) there (each (shifted_by p i c) here shifted (held.slot c u cell input) c u (held.extent c u cell input))
 
 -- one digit more
-pub own_digit_brings : (p : Description) (i c : ℕ) (ds : List Digit) (d : Digit) (n : ℕ) → i < length p.states → d.variable ≡ i → d.stride ≡ n → moves_along p i ≡ true → first_of p (ds ++ d ∷ []) c ≡ first_of p ds c + shifted_by p i c * n
+pub own_digit_brings : (p : Description) (i c : ℕ) (ds : List Digit) (d : Digit) (n : ℕ) → i < length p.states → d.variable ≡ i → d.stride ≡ n → shifts_along p i ≡ true → first_of p (ds ++ d ∷ []) c ≡ first_of p ds c + shifted_by p i c * n
 own_digit_brings p i c ds d n state is stride shifts =
     let own : shifted_by p i c ≡ index_along (axes_of p) i c = ap (λ (b : Bool). if b then index_along (axes_of p) i c else 0) shifts in
     let slot : index_in p c 0 d.variable ≡ shifted_by p i c = ap (index_in p c 0) is ∙ sym (own ∙ state_slot p c 0 i state) in

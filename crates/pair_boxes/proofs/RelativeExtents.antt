@@ -23,7 +23,7 @@ extended_at p sound i lt c u indices extent is =
     let high : ℤ = get_or (high_corner p c u) i (pos 0) in
     (low -ℤ by, high -ℤ by, (let e : (low -ℤ by) ≤ℤ (high -ℤ by) = omega (arith, ints, ends_ordered p c u i sound lt) in e), is)
 
--- an extent on the prolonged axis is that of a range so many indices further
+-- an extent on the extended axis is that of a range so many indices further
 pub shifted_range : (a : Axis) (indices : ℕ) (extent : Option Extent) → ((low : ℤ) × (high : ℤ) × (low ≤ℤ high) × IsExtentOf (extended_axis a) low high extent) → (low : ℤ) × (high : ℤ) × (low ≤ℤ high) × IsExtentBefore a indices low high extent
 shifted_range a indices extent is =
     let by : ℤ = a.width *ℤ pos indices in

@@ -11,7 +11,7 @@ use Rattle.grid_quantiser.proofs.OwnIndices.{index_along_is, index_along_below}
 use Rattle.plant_record.specs.Description.{Description, axis_of, axes_of, vectors_of}
 use Rattle.plant_record.specs.Plants.{IsPlant}
 use Rattle.plant_record.specs.Soundness.{IsSound}
-use Rattle.successor_box.specs.PairExtents.{moves_along, shifted_by}
+use Rattle.successor_box.specs.PairExtents.{shifts_along, shifted_by}
 use Rattle.pair_boxes.specs.declared.digits.Digit.{Digit}
 use Rattle.pair_boxes.specs.declared.terms.StateTerms.{StateTerms}
 use Rattle.pair_boxes.specs.declared.terms.TermTable.{TermTable}
@@ -42,7 +42,7 @@ shifted_below p sound i c lt =
     let count : ℕ = (get_or (axes_of p) i no_axis).count in
     let within : i < length (axes_of p) = omega (arith, lt, sound.one_each, length-map p.states axis_of) in
     let some : 0 < count = (All-get_or IsAxis (axes_of p) i no_axis within sound.axes.each).some_cell in
-    cond_both (moves_along p i) (index_along (axes_of p) i c) 0 (λ (n : ℕ). n < count) (λ shifts. index_along_below (axes_of p) i c sound.axes.each within) (λ fixed. some)
+    cond_both (shifts_along p i) (index_along (axes_of p) i c) 0 (λ (n : ℕ). n < count) (λ shifts. index_along_below (axes_of p) i c sound.axes.each within) (λ fixed. some)
 
 -- what the indices of a cell bring is what the cell brings
 pub first_is : (p : Description) (t : TermTable) (c : ℕ) (indices : List ℕ) → All (HasVariable p) t.digits.items → AreIndicesOf p c indices → first_in t indices ≡ first_of p t.digits.items c
@@ -72,7 +72,7 @@ pub own_few : (p : Description) (i : ℕ) (t : TermTable) (first own c : ℕ) �
 own_few p i t first own c brought =
     let later : ℕ = cells_of (drop (i + 1) (axes_of p)) in
     let along : index_along (axes_of p) i c ≤ c = omega (arith, index_along_is (axes_of p) i c, mod-le (c / later) (get_or (axes_of p) i no_axis).count, div-le_self c later) in
-    subst (λ (n : ℕ). n ≤ c) (sym brought.shifts) (cond_both (moves_along p i) (index_along (axes_of p) i c) 0 (λ (n : ℕ). n ≤ c) (λ shifts. along) (λ fixed. omega arith))
+    subst (λ (n : ℕ). n ≤ c) (sym brought.shifts) (cond_both (shifts_along p i) (index_along (axes_of p) i c) 0 (λ (n : ℕ). n ≤ c) (λ shifts. along) (λ fixed. omega arith))
 
 -- in a free table each input brings nothing
 pub none_brought : (p : Description) (i : ℕ) (t : TermTable) (u : ℕ) → IsTermTableOf p i t → IsTrue t.free → u < vectors_of p.inputs → get_or t.inputs.items u 0 ≡ 0

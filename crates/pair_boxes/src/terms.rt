@@ -3,7 +3,7 @@ ghost use Rattle.std.specs.Prelude.{◌≡◌, ℕ, ◌+◌, ◌*◌, ◌^◌, �
 ghost use Rattle.std.specs.List.{All};
 ghost use Rattle.grid_quantiser.specs.Axes.{no_axis};
 ghost use Rattle.plant_record.specs.Description.{axes_of, vectors_of};
-ghost use Rattle.successor_box.specs.PairExtents.{moves_along};
+ghost use Rattle.successor_box.specs.PairExtents.{shifts_along};
 ghost use Rattle.successor_box.specs.declared.indices_limit.TheConstants.{INDICES_LIMIT};
 ghost use Rattle.pair_boxes.specs.inside.CellLines.{StaysAlongLines};
 ghost use Rattle.pair_boxes.specs.inside.ExtentTables.{IsRelativeExtent, IsExtentTableOf};
@@ -251,7 +251,7 @@ fn are_zero(numbers: &[u32]) -> bool
 
 /// How many indices of cells along the axis of a state there are, by which its extents shift.
 fn own_indices_along(of: &StateOf<'_>, shifts: bool) -> u32
-    requires { shifts ≡ moves_along of.now.sampled.plant.now of.now.state }
+    requires { shifts ≡ shifts_along of.now.sampled.plant.now of.now.state }
     ensures { result ≡ own_count of.now.sampled.plant.now of.now.state }
 {
     if shifts {

@@ -43,7 +43,7 @@ impl Sampled<'_> {
         area
     }
 
-    /// The ranges of one variable: its values at the centres, moved by how far the ends of its range lie from there.
+    /// The ranges of one variable: its values at the centres, shifted by how far the ends of its range lie from there.
     fn cell_column(&self, at: &ValuesAlong<'_>, k: u32) -> IntervalColumn
         requires values { (u : ℕ) × HaveValuesUnder self.now.plant.now u at.now }
         requires variable { k < variables_of self.now.plant.now }
@@ -70,7 +70,7 @@ fn column(at: &ValuesAlong<'_>, k: u32) -> [i64; LANES]
     }
 }
 
-/// Each number moved by another.
+/// Each number shifted by another.
 fn moved(numbers: &[i64; LANES], by: i64) -> [i64; LANES]
     requires { (j : ℕ) → j < LANES → IsNarrow (slice_index_or numbers.now j (pos 0) +ℤ by) }
     ensures { HoldsInLanes (pos 0) (λ j. slice_index_or numbers.now j (pos 0) +ℤ by) result }

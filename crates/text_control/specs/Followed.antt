@@ -57,6 +57,6 @@ follow_number NoInput = negsuc 0
 follow_number WrongSizes = negsuc 1
 follow_number Overflow = negsuc 3
 
--- a number that tells whether the next state lies in its box
+-- a number that says whether the next state lies in its box
 abbrev pub EncodesFollow : Description → FollowedSample → ℤ → Type 0
 EncodesFollow p s number = (f : Follow) × (number ≡ follow_number f) × IsFollow p s f

@@ -1,4 +1,4 @@
--- Rows of cells, and the boxes of cells one after another.
+-- Lines of cells, and the boxes of cells one after another.
 use Rattle.std.specs.Prelude.{◌≡◌, ℕ, ◌+◌, ◌-◌, ◌*◌, ◌/◌, ◌%◌, ◌<◌, ◌≤◌, ◌≢◌, List, length, replicate, slice_index_or, Option, None, IfSome, IsTrue}
 use Rattle.std.specs.List.{All}
 use Rattle.fixed_expr.specs.declared.lanes.TheConstants.{LANES}
@@ -19,25 +19,25 @@ use Rattle.pair_boxes.specs.inside.Terms.{AreIndicesOf, IsTermFrom, IsSumAlong, 
 abbrev pub last_state : Description → ℕ
 last_state p = length p.states - 1
 
--- how many cells differ in the place along the last state alone
+-- how many cells differ in the index along the last state alone
 abbrev pub line_length : Description → ℕ
 line_length p = (slice_index_or (axes_of p) (last_state p) no_axis).count
 
--- so many cells from one on are in one row
+-- so many cells from one on are in one line
 pub record AreInLine (p : Description) (c n : ℕ) : Type 0 where
   pub some : 1 ≤ n
   pub within : c + n ≤ cells_of (axes_of p)
   pub row : c % line_length p + n ≤ line_length p
 
--- a cell is in another's row
+-- a cell is in another's line
 abbrev pub IsInLineOf : Description → ℕ → ℕ → Type 0
 IsInLineOf p c d = (d < cells_of (axes_of p)) × (d / line_length p ≡ c / line_length p)
 
--- boxes, one for each input, are the sums of each cell in the row of one with these indices
+-- boxes, one for each input, are the sums of each cell in the line of one with these indices
 abbrev pub AreSumsOfLine : Description → ℕ → List ℕ → List (Option CellBox) → Type 0
 AreSumsOfLine p states indices boxes = (c d : ℕ) → c < cells_of (axes_of p) → AreIndicesOf p c indices → IsInLineOf p c d → AreSumsAlong p states d one_cell boxes
 
--- cells in a row, from one with these indices on
+-- cells of a line, from one with these indices on
 abbrev pub AreCellsFrom : Description → List ℕ → ℕ → ℕ → Type 0
 AreCellsFrom p indices c n = AreInLine p c n × AreIndicesOf p c indices
 
@@ -47,7 +47,7 @@ pub record AreSumsOfCells (p : Description) (states c n : ℕ) (bases boxes : Li
   pub one_each : length boxes ≡ n * vectors_of p.inputs
   pub each : (k u : ℕ) → k < n → u < vectors_of p.inputs → IsSumAlong p states (c + k) u (slice_index_or bases k None) (slice_index_or boxes (k * vectors_of p.inputs + u) None)
 
--- boxes, one for each input, of cells in a row from one on
+-- boxes, one for each input, of cells of a line from one on
 abbrev pub AreInputsOfLine : Description → ℕ → List (Option CellBox) → Type 0
 AreInputsOfLine p c boxes = (n : ℕ) × (length boxes ≡ n * vectors_of p.inputs) × AreInLine p c n
 

@@ -5,7 +5,7 @@ use Rattle.grid_quantiser.specs.declared.extents.Extent.{Extent}
 use Rattle.grid_quantiser.specs.Axes.{no_axis, cells_of}
 use Rattle.grid_quantiser.specs.Extents.{IsExtentOf, extended_axis}
 use Rattle.plant_record.specs.Description.{Description, axes_of, vectors_of}
-use Rattle.successor_box.specs.PairExtents.{index_in, moves_along, shifted_by, IsExtentBeforeAt}
+use Rattle.successor_box.specs.PairExtents.{index_in, shifts_along, shifted_by, IsExtentBeforeAt}
 use Rattle.pair_boxes.specs.declared.digits.Digit.{Digit}
 use Rattle.pair_boxes.specs.declared.extent_table.ExtentTable.{ExtentTable}
 use Rattle.pair_boxes.specs.inside.Digits.{slot_at}
@@ -28,7 +28,7 @@ pub record IsExtentTableOf (p : Description) (i : ℕ) (t : ExtentTable) : Type 
   pub digits : All (λ (d : Digit). d.variable < length p.states + length p.inputs) t.digits.items
   pub few : length t.extents ≤ PAIRS_LIMIT
   pub each : All (IsRelativeExtent p i) t.extents
-  pub shifts : t.shifts ≡ moves_along p i
+  pub shifts : t.shifts ≡ shifts_along p i
   pub inputs : length t.inputs.items ≡ vectors_of p.inputs
   pub slot : (c u : ℕ) → c < cells_of (axes_of p) → u < vectors_of p.inputs → first_of p t.digits.items c + slice_index t.inputs.items u < length t.extents
   pub extent : (c u : ℕ) → c < cells_of (axes_of p) → u < vectors_of p.inputs → IsExtentBeforeAt p c u i (shifted_by p i c) (extent_in t (first_of p t.digits.items c) u)

@@ -3,7 +3,7 @@ use Rattle.std.specs.Prelude.{◌≡◌, ℕ, ◌+◌, ◌-◌, ◌*◌, ◌^◌
 use Rattle.grid_quantiser.specs.declared.boxes.CellBox.{CellBox}
 use Rattle.grid_quantiser.specs.declared.extents.Extent.{Extent}
 
--- what an extent adds to a box, where one slot along its axis makes so many cells
+-- what an extent adds to a box, where one index along its axis makes so many cells
 abbrev pub term : ℕ → Option Extent → Option CellBox
 term stride None = None
 term stride (Some s) = Some (record { first = s.first * stride; last = s.last * stride })

@@ -6,7 +6,7 @@ use Rattle.grid_quantiser.specs.declared.extents.Extent.{Extent}
 use Rattle.grid_quantiser.specs.Axes.{no_axis, cells_of}
 use Rattle.plant_record.specs.Description.{Description, axes_of, vectors_of}
 use Rattle.successor_box.specs.AdditiveInputs.{AreInputIncrements}
-use Rattle.successor_box.specs.PairExtents.{index_in, moves_along, shifted_by, IsExtentAt, IsExtentBeforeAt, IsBoxAlong}
+use Rattle.successor_box.specs.PairExtents.{index_in, shifts_along, shifted_by, IsExtentAt, IsExtentBeforeAt, IsBoxAlong}
 use Rattle.pair_boxes.specs.declared.digits.Digit.{Digit}
 use Rattle.pair_boxes.specs.declared.terms.Terms.{Terms}
 use Rattle.pair_boxes.specs.declared.terms.Terms.TheVariants.{Listed, Shifted}
@@ -18,7 +18,7 @@ use Rattle.pair_boxes.specs.inside.ExtentTables.{first_of}
 use Rattle.pair_boxes.specs.inside.Sums.{term, plus, enlarged}
 use Rattle.base.specs.declared.limits.TheConstants.{CELLS_LIMIT, PAIRS_LIMIT}
 
--- how many cells one slot along the axis of a state makes
+-- how many cells one index along the axis of a state makes
 abbrev pub stride_of : Description → ℕ → ℕ
 stride_of p i = cells_of (drop (i + 1) (axes_of p))
 
@@ -59,7 +59,7 @@ AreIndicesOf p c indices = (k : ℕ) → k < length p.states + length p.inputs �
 abbrev pub first_in : TermTable → List ℕ → ℕ
 first_in t indices = sum_by (λ (d : Digit). slice_index indices d.variable * d.stride) t.digits.items
 
--- how many slots a cell is from the one before it in its row: the slot that has an index of 1 in the last state alone
+-- how many slots a cell is from the one before it in its line: the slot that has an index of 1 in the last state alone
 abbrev pub step_of : TermTable → ℕ → ℕ
 step_of t last = slot_at t.digits.items (λ k. if k == last then 1 else 0)
 
@@ -77,7 +77,7 @@ HasTermAt p c u i (Shifted extents) slot = IsExtentBeforeAt p c u i (shifted_by 
 pub record IsTermTableOf (p : Description) (i : ℕ) (t : TermTable) : Type 0 where
   pub digits : All (λ (d : Digit). d.variable < length p.states + length p.inputs) t.digits.items
   pub few : count_of t.terms ≤ PAIRS_LIMIT
-  pub shifts : t.shifts ≡ moves_along p i
+  pub shifts : t.shifts ≡ shifts_along p i
   pub free : IsTrue t.free → All (λ n. n ≡ 0) t.inputs.items
   pub stride : t.stride ≡ stride_of p i
   pub inputs : length t.inputs.items ≡ vectors_of p.inputs

@@ -1,4 +1,4 @@
--- What a text keeps to tell successor boxes.
+-- What a text keeps to find successor boxes.
 use Rattle.std.specs.Prelude.{◌≡◌, ℕ, ℤ, List, Option, Some, None}
 use Rattle.std.specs.List.{Contains}
 use Rattle.grid_quantiser.specs.declared.boxes.CellBox.{CellBox}

@@ -6,7 +6,7 @@ use Rattle.pair_boxes.specs.inside.CellLines.{IsInLineOf}
 use Rattle.pair_boxes.specs.inside.Terms.{AreIndicesOf, AreSumsAlong}
 use Rattle.pair_boxes.proofs.cell_lines.add_early.Given as goal
 
--- the boxes on the axes of the states so far, of all cells of the row
+-- the boxes on the axes of the states so far, of all cells of the line
 abbrev pub invariant-loop-state : goal.invariant-loop-state
 invariant-loop-state l = record {
   long : length l.boxes ≡ length l.fn.boxes;

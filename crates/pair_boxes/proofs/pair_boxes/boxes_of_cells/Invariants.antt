@@ -2,7 +2,7 @@ use Rattle.std.proofs.Common.{◌≡◌, ℕ, ◌+◌, ◌-◌, ◌*◌, ◌<◌
 use Rattle.successor_box.specs.SuccessorBoxes.{IsBoxOf}
 use Rattle.pair_boxes.proofs.pair_boxes.boxes_of_cells.Given as goal
 
--- the boxes of the rows so far, and the others as they were
+-- the boxes of the lines so far, and the others as they were
 abbrev pub invariant-loop-done : goal.invariant-loop-done
 invariant-loop-done l = record {
   long : length l.boxes ≡ length l.fn.boxes;

@@ -15,7 +15,7 @@ use Rattle.pair_boxes.proofs.per_pair.add_extents.Goals as goal
 use Rattle.pair_boxes.proofs.per_pair.add_extents.Goals.{In-loop-cell}
 use Rattle.base.proofs.Products.{nothing_below}
 
--- the place of the cell's box under the input
+-- the position of the cell's box under the input
 place : (c : goal.In-loop-cell) →
     (c.loop-cell.cell * c.vectors-inputs.result + c.args.input ≡ c.loop-cell.cell * vectors_of c.args.of.now.sampled.plant.now.inputs + c.args.input)
     × (c.loop-cell.cell * c.vectors-inputs.result + c.args.input < length c.loop-cell.boxes)

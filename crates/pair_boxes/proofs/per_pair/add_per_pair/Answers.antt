@@ -21,7 +21,7 @@ use Rattle.pair_boxes.proofs.per_pair.add_per_pair.Goals.{In-loop-input}
 one_each : (c : goal.In-loop-input) (n : ℕ) → length c.args.boxes.now ≡ n * vectors_of c.args.of.now.sampled.plant.now.inputs → length c.loop-input.extents ≡ n
 one_each c n long = c.loop-input.invariant.cells ∙ cell_count (length c.args.boxes.now) n c.vectors-inputs.result (vectors_of c.args.of.now.sampled.plant.now.inputs) long c.vectors-inputs.ensures.count c.vectors-inputs.ensures.some
 
--- cells in a row with these indices, as many as the boxes are for
+-- cells of a line with these indices, as many as the boxes are for
 counted : (p : Description) (indices : List ℕ) (d n boxes inputs : ℕ) → boxes ≡ n * vectors_of p.inputs → inputs ≡ vectors_of p.inputs → 0 < inputs → AreCellsFrom p indices d n → AreCellsFrom p indices d (boxes / inputs)
 counted p indices d n boxes inputs long count some = subst (AreCellsFrom p indices d) (sym (cell_count boxes n inputs (vectors_of p.inputs) long count some))
 
