@@ -1,4 +1,3 @@
-use Rattle.std.proofs.Common.{◌+◌, ◌*◌}
 use Rattle.fixed_expr.specs.Expression.{expression_of, nodes_of}
 use Rattle.fixed_expr.proofs.narrow.+narrow_values.Given as goal
 
