@@ -10,7 +10,7 @@ use Rattle.fixed_expr.specs.Lanes.{at, AreNarrow, IsColumnOf, IsNarrowColumnOf}
 use Rattle.fixed_expr.specs.NarrowValues.{IsNarrow, StaysNarrow}
 use Rattle.fixed_expr.specs.LaneEval.{lane_of, StaysNarrowInLanes}
 use Rattle.fixed_expr.specs.Value.{value_of}
-use Rattle.fixed_expr.specs.inside.Listing.{combined, combined_number}
+use Rattle.fixed_expr.specs.inside.Combinations.{combined, combined_number}
 use Rattle.fixed_expr.specs.inside.LaneValues.{value_in, AreNumbers, AnswersNumbers, AnswersValues}
 use Rattle.fixed_expr.specs.declared.lane_eval.LaneValues.{LaneValues}
 use Rattle.fixed_expr.specs.declared.lane_eval.ValuesAlong.{ValuesAlong}

@@ -2,6 +2,5 @@ pub mod Postfix
 pub mod Progress
 pub mod Passed
 pub mod Alike
-pub mod Pool
-pub mod Listing
+pub mod Combinations
 pub mod LaneValues

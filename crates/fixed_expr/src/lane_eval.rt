@@ -8,7 +8,7 @@ ghost use Rattle.fixed_expr.specs.Lanes.{at, IsColumnOf, AnswersLanes};
 ghost use Rattle.fixed_expr.specs.DivExpr.{floor_div};
 ghost use Rattle.fixed_expr.specs.Value.{IsWellFormed};
 ghost use Rattle.fixed_expr.specs.LaneEval.{lane_of, EvaluatesLanes};
-ghost use Rattle.fixed_expr.specs.inside.Listing.{combined_number, combination};
+ghost use Rattle.fixed_expr.specs.inside.Combinations.{combined_number, combination};
 ghost use Rattle.fixed_expr.specs.inside.LaneValues.{combined_numbers, value_in, AreNumbers, AnswersNumbers, AnswersValues};
 
 use crate::curve::Curve;

@@ -4,7 +4,7 @@ use Rattle.fixed_expr.specs.declared.operation.Binary.{Binary}
 use Rattle.fixed_expr.specs.declared.operation.Binary.TheVariants.{AddOp, SubOp, MulOp, MinOp, MaxOp}
 use Rattle.fixed_expr.specs.declared.expr.Expr.{Expr}
 use Rattle.fixed_expr.specs.Expression.{Expression, expression_of}
-use Rattle.fixed_expr.specs.inside.Listing.{combined}
+use Rattle.fixed_expr.specs.inside.Combinations.{combined}
 use Rattle.interval_eval.specs.declared.interval.Interval.{Interval}
 use Rattle.interval_eval.specs.Span.{EndsFit, span_of, SpanStaysInRange}
 use Rattle.interval_eval.specs.inside.Combined.{combined_interval}

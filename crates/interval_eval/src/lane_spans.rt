@@ -3,7 +3,7 @@
 ghost use Rattle.std.specs.Prelude.{length};
 ghost use Rattle.fixed_expr.specs.Expression.{expression_of};
 ghost use Rattle.fixed_expr.specs.Value.{IsWellFormed};
-ghost use Rattle.fixed_expr.specs.inside.Listing.{combined};
+ghost use Rattle.fixed_expr.specs.inside.Combinations.{combined};
 ghost use Rattle.interval_eval.specs.LaneSpans.{AnswersSpans};
 
 use crate::columns::{IntervalColumn, NO_INTERVALS};

@@ -12,7 +12,7 @@ use crate::sim_line::SimLine;
 use controller_table::Table;
 use game_core::Row;
 use grid_quantiser::Point;
-use plant_record::{Equations, GoalKind};
+use plant_record::{GoalKind, step};
 
 /// A sample of a closed loop.
 #[derive(Clone, Copy)]
@@ -46,31 +46,26 @@ pub fn row_at(t: &Table, x: &Point) -> Option<Row>
 }
 
 /// The first line of a sample, and what is after it.
-pub(crate) fn first_line(t: &Table, equations: &Equations<'_>, sample: &Sample) -> (SimLine, Stage)
+pub(crate) fn first_line(t: &Table, sample: &Sample) -> (SimLine, Stage)
     requires plant { IsWithinLimits t.now.plant }
     requires rows { RowsFit t.now.plant t.now.rows }
     requires fits { ∥ HasNoOverflow t.now.plant ∥₁ }
-    requires equations { equations.now ≡ t.now.plant }
     requires sample { IsSample t.now.plant sample.now }
     ensures lines { lines_from t.now sample.now ≡ result.0 ∷ lines_left t.now result.1 }
     ensures stage { IsStage t.now.plant result.1 }
 {
     let Sample { time, x, .. } = *sample;
     match row_at(t, &x) {
-        Some(row) => (
-            SimLine::At { time, x, row },
-            after(t, equations, sample, row),
-        ),
+        Some(row) => (SimLine::At { time, x, row }, after(t, sample, row)),
         None => (SimLine::Lost { time, x }, Stage::Over),
     }
 }
 
 /// What is after the first line of a sample.
-fn after(t: &Table, equations: &Equations<'_>, sample: &Sample, row: Row) -> Stage
+fn after(t: &Table, sample: &Sample, row: Row) -> Stage
     requires plant { IsWithinLimits t.now.plant }
     requires rows { RowsFit t.now.plant t.now.rows }
     requires fits { ∥ HasNoOverflow t.now.plant ∥₁ }
-    requires equations { equations.now ≡ t.now.plant }
     requires sample { IsSample t.now.plant sample.now }
     requires row { row_at t.now.plant t.now.rows sample.now.x ≡ Some row }
     ensures lines { lines_left t.now result ≡ lines_after t.now sample.now row }
@@ -82,7 +77,7 @@ fn after(t: &Table, equations: &Equations<'_>, sample: &Sample, row: Row) -> Sta
     } else if sample.left == 0 {
         Stage::Ending(SimLine::Stopped { time })
     } else {
-        Stage::Due(next_sample(t, equations, sample, row))
+        Stage::Due(next_sample(t, sample, row))
     }
 }
 
@@ -97,11 +92,10 @@ fn has_arrived(goal: GoalKind, row: Row) -> bool
 }
 
 /// The sample after one that is not the last.
-fn next_sample(t: &Table, equations: &Equations<'_>, sample: &Sample, row: Row) -> Sample
+fn next_sample(t: &Table, sample: &Sample, row: Row) -> Sample
     requires plant { IsWithinLimits t.now.plant }
     requires rows { RowsFit t.now.plant t.now.rows }
     requires fits { ∥ HasNoOverflow t.now.plant ∥₁ }
-    requires equations { equations.now ≡ t.now.plant }
     requires sample { IsSample t.now.plant sample.now }
     requires row { row_at t.now.plant t.now.rows sample.now.x ≡ Some row }
     requires left { 0 < sample.now.left }
@@ -110,7 +104,7 @@ fn next_sample(t: &Table, equations: &Equations<'_>, sample: &Sample, row: Row) 
 {
     let p = t.plant();
     let (noises, state) = draw(p, sample.state);
-    let Some(x) = equations.step(&sample.x, row.input, &noises) else {
+    let Some(x) = step(p, &sample.x, row.input, &noises) else {
         unreachable!()
     };
     Sample {

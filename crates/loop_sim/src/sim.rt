@@ -8,7 +8,6 @@ use crate::sim_line::SimLine;
 use controller_table::Table;
 use controller_table::laws::every_table_fits;
 use grid_quantiser::Point;
-use plant_record::Equations;
 use std::marker::Model;
 use successor_box::Slopes;
 
@@ -16,7 +15,6 @@ use successor_box::Slopes;
 #[derive(Drop)]
 pub struct Sim<'a> {
     table: &'a Table,
-    equations: Equations<'a>,
     stage: Stage,
 }
 
@@ -32,7 +30,7 @@ impl<'a> Model for Sim<'a> {
 
     ghost view = { λ s. lines_left s.table.now s.stage };
 
-    ghost invariant = { λ s. ∥ HasNoOverflow s.table.now.plant ∥₁ × (s.equations ≡ s.table.now.plant) × IsStage s.table.now.plant s.stage × IsWithinLimits s.table.now.plant × RowsFit s.table.now.plant s.table.now.rows };
+    ghost invariant = { λ s. ∥ HasNoOverflow s.table.now.plant ∥₁ × IsStage s.table.now.plant s.stage × IsWithinLimits s.table.now.plant × RowsFit s.table.now.plant s.table.now.rows };
 }
 
 impl<'a> Sim<'a> {
@@ -48,7 +46,6 @@ impl<'a> Sim<'a> {
         row_at(t, x)?;
         Some(Sim {
             table: t,
-            equations: Equations::new(t.plant()),
             stage: Stage::Due(Sample {
                 time: 0,
                 x: t.plant().state_point(x),
@@ -66,7 +63,7 @@ impl<'a> Sim<'a> {
         ensures stays { IfNone result (self.new ≡ []) }
     {
         let (line, stage) = match self.stage {
-            Stage::Due(sample) => first_line(self.table, &self.equations, &sample),
+            Stage::Due(sample) => first_line(self.table, &sample),
             Stage::Ending(line) => (line, Stage::Over),
             Stage::Over => return None,
         };

@@ -6,7 +6,6 @@
 
 mod aims;
 mod cell_marks;
-mod equations;
 pub mod laws;
 mod limit_kind;
 mod plant;
@@ -18,7 +17,6 @@ mod version;
 
 pub use aims::{GoalKind, StateBox};
 pub use base::NoMemory;
-pub use equations::Equations;
 pub use limit_kind::LimitKind;
 pub use plant::Plant;
 pub use plant_parts::{PlantParts, numbers_along};

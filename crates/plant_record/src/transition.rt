@@ -35,7 +35,7 @@ pub fn step_along(p: &Plant, x: &Point, input: u32, noise: &Point, state: u32) -
 }
 
 /// The values of the variables, and 0 past them.
-pub(crate) fn values_at(p: &Plant, x: &Point, input: u32, noise: &Point) -> [i128; VARIABLES_LIMIT]
+fn values_at(p: &Plant, x: &Point, input: u32, noise: &Point) -> [i128; VARIABLES_LIMIT]
     requires { input < vectors_of p.now.inputs }
     ensures { take (length (names_of p.now)) result ≡ values_at p.now x.now input noise.now }
 {

@@ -1,20 +1,20 @@
 -- The middles of the indices along an axis, in 64 bits.
-use Rattle.std.proofs.Common.{◌≡◌, ℕ, zero, suc, ◌+◌, ◌*◌, ◌/◌, ◌^◌, ◌<◌, ◌≤◌, List, [], ◌∷◌, length, get_or, ap, ◌∙◌, w64, arith}
+use Rattle.std.proofs.Common.{◌≡◌, ℕ, ◌+◌, ◌*◌, ◌/◌, ◌^◌, ◌<◌, ◌≤◌, length, get_or, w64, arith}
 use Rattle.std.specs.Prelude.{ℤ, pos, negsuc, nat_abs, neg_ℤ, ◌+ℤ◌, ◌-ℤ◌, ◌*ℤ◌, ◌≤ℤ◌, FitsSigned}
 use Rattle.std.specs.Int.{w128}
-use Rattle.std.proofs.Math.Nat.{zero-div, zero-mod}
 use Rattle.std.proofs.lemmas.Int.{ints}
 use Rattle.std.proofs.lemmas.Nat.{mul-le}
-use Rattle.std.proofs.lemmas.List.{length-map, get_or_append_left}
+use Rattle.std.proofs.lemmas.List.{length-map}
 use Rattle.std.proofs.lemmas.List.Elements.{All-get_or}
 use Rattle.base.specs.Narrow.{IsNarrow}
 use Rattle.grid_quantiser.specs.declared.axis.Axis.{Axis}
-use Rattle.grid_quantiser.specs.Axes.{IsAxis, no_axis, cells_of}
-use Rattle.grid_quantiser.specs.Cells.{low_of, high_of, radius_of, point_of}
+use Rattle.grid_quantiser.specs.Axes.{IsAxis, no_axis}
+use Rattle.grid_quantiser.specs.Cells.{radius_of}
 use Rattle.grid_quantiser.specs.Indices.{middle_of}
-use Rattle.grid_quantiser.proofs.CellPoints.{length-low_of, length-high_of}
 use Rattle.plant_record.specs.Description.{Description, axis_of, axes_of}
+use Rattle.plant_record.specs.Plants.{IsPlant}
 use Rattle.plant_record.specs.Soundness.{IsSound}
+use Rattle.plant_record.proofs.lemmas.SoundPlants.{sound as sound_plant}
 
 pub axis_at : (p : Description) → IsSound p → (k : ℕ) → k < length p.states → IsAxis (get_or (axes_of p) k no_axis)
 axis_at p sound k lt = All-get_or IsAxis (axes_of p) k no_axis (omega (arith, lt, length-map p.states axis_of)) sound.axes.each
@@ -22,25 +22,6 @@ axis_at p sound k lt = All-get_or IsAxis (axes_of p) k no_axis (omega (arith, lt
 -- a number between two literals is one
 pub between_literals : (low high z : ℤ) → nat_abs low < 10 ^ 18 → nat_abs high < 10 ^ 18 → low ≤ℤ z → z ≤ℤ high → nat_abs z < 10 ^ 18
 between_literals low high z h k below above = omega (arith, ints, h, k, below, above)
-
--- ---- the ends of the first cell
-
-first_low : (axes : List Axis) (k : ℕ) → k < length axes → get_or (low_of axes 0) k (pos 0) ≡ (get_or axes k no_axis).lo
-first_low [] k lt = absurd (omega (arith, lt))
-first_low (a ∷ axes) zero lt = ap (λ (n : ℕ). a.lo +ℤ (a.width *ℤ pos n)) (zero-div (cells_of axes)) ∙ (let e : a.lo +ℤ (a.width *ℤ pos 0) ≡ a.lo = omega (arith, ints) in e)
-first_low (a ∷ axes) (suc k) lt = ap (λ (c : ℕ). get_or (low_of axes c) k (pos 0)) (zero-mod (cells_of axes)) ∙ first_low axes k (omega (arith, lt))
-
-first_high : (axes : List Axis) (k : ℕ) → k < length axes → get_or (high_of axes 0) k (pos 0) ≡ (get_or axes k no_axis).lo +ℤ ((get_or axes k no_axis).width -ℤ pos 1)
-first_high [] k lt = absurd (omega (arith, lt))
-first_high (a ∷ axes) zero lt =
-    ap (λ (n : ℕ). (a.lo +ℤ (a.width *ℤ pos n)) +ℤ (a.width -ℤ pos 1)) (zero-div (cells_of axes)) ∙ (let e : (a.lo +ℤ (a.width *ℤ pos 0)) +ℤ (a.width -ℤ pos 1) ≡ a.lo +ℤ (a.width -ℤ pos 1) = omega (arith, ints) in e)
-first_high (a ∷ axes) (suc k) lt = ap (λ (c : ℕ). get_or (high_of axes c) k (pos 0)) (zero-mod (cells_of axes)) ∙ first_high axes k (omega (arith, lt))
-
-pub low_at : (axes : List Axis) (k : ℕ) (x : ℤ) → k < length axes → x ≡ get_or (point_of (low_of axes 0)) k (pos 0) → x ≡ (get_or axes k no_axis).lo
-low_at axes k x lt is = is ∙ get_or_append_left (low_of axes 0) _ (pos 0) k (omega (arith, lt, length-low_of axes 0)) ∙ first_low axes k lt
-
-pub high_at : (axes : List Axis) (k : ℕ) (x : ℤ) → k < length axes → x ≡ get_or (point_of (high_of axes 0)) k (pos 0) → x ≡ (get_or axes k no_axis).lo +ℤ ((get_or axes k no_axis).width -ℤ pos 1)
-high_at axes k x lt is = is ∙ get_or_append_left (high_of axes 0) _ (pos 0) k (omega (arith, lt, length-high_of axes 0)) ∙ first_high axes k lt
 
 -- ---- bounds
 
@@ -81,42 +62,28 @@ middle_from a index first width axis lt first-is width-is = rw (first-is, width-
           is = omega (arith, ints);
         }
 
--- what is found of the first index
-pub record IsFirstCell (a : Axis) (low high radius : ℤ) : Type 0 where
-  pub low_fits : FitsSigned w128 low
-  pub high_fits : FitsSigned w128 high
-  pub radius_fits : FitsSigned w128 radius
-  pub middle_wide : FitsSigned w128 (low +ℤ radius)
-  pub middle_fits : FitsSigned w64 (low +ℤ radius)
-  pub middle : low +ℤ radius ≡ middle_of a 0
-  pub length_wide : FitsSigned w128 (high -ℤ low)
-  pub width_wide : FitsSigned w128 ((high -ℤ low) +ℤ pos 1)
-  pub width_fits : FitsSigned w64 ((high -ℤ low) +ℤ pos 1)
-  pub width : (high -ℤ low) +ℤ pos 1 ≡ a.width
-  pub back_wide : FitsSigned w128 (neg_ℤ radius)
-  pub rest_wide : FitsSigned w128 ((high -ℤ low) -ℤ radius)
-  pub rest : (high -ℤ low) -ℤ radius ≡ (a.width -ℤ pos 1) -ℤ radius_of a
+-- The middle of the first index and the width of each have 64 bits, and the offsets of a cell's ends from its centre 128.
+pub record HasRoom (a : Axis) : Type 0 where
+  pub middle : FitsSigned w64 (middle_of a 0)
+  pub width : FitsSigned w64 a.width
+  pub back : FitsSigned w128 (neg_ℤ (radius_of a))
+  pub last : FitsSigned w128 (a.width -ℤ pos 1)
+  pub rest : FitsSigned w128 ((a.width -ℤ pos 1) -ℤ radius_of a)
 
-pub first_cell : (a : Axis) (low high radius : ℤ) → IsAxis a → low ≡ a.lo → high ≡ a.lo +ℤ (a.width -ℤ pos 1) → radius ≡ radius_of a → IsFirstCell a low high radius
-first_cell a low high radius is low-is high-is radius-is =
+pub room : (a : Axis) → IsAxis a → HasRoom a
+room a is =
     let s = steps a.width a.count 0 is.some_width is.some_cell in
     let r = radius_below a.width is.some_width in
     let from = is.low_bound in
     let to : (a.lo +ℤ (a.width *ℤ pos a.count)) ≤ℤ pos (10 ^ 18) = is.high_bound in
     let some = is.some_width in
-    let at : radius ≡ pos (nat_abs a.width / 2) = radius-is in
     record {
-      low_fits = omega (arith, ints, s.within, r, from, to, some, low-is);
-      high_fits = omega (arith, ints, s.within, r, from, to, some, high-is);
-      radius_fits = omega (arith, ints, s.within, r, from, to, some, at);
-      middle_wide = omega (arith, ints, s.within, r, from, to, some, low-is, at);
-      middle_fits = omega (arith, ints, s.within, r, from, to, some, low-is, at);
-      middle = omega (arith, ints, low-is, at);
-      length_wide = omega (arith, ints, s.within, r, from, to, some, low-is, high-is);
-      width_wide = omega (arith, ints, s.within, r, from, to, some, low-is, high-is);
-      width_fits = omega (arith, ints, s.within, r, from, to, some, low-is, high-is);
-      width = omega (arith, ints, low-is, high-is);
-      back_wide = omega (arith, ints, s.within, r, from, to, some, at);
-      rest_wide = omega (arith, ints, s.within, r, from, to, some, low-is, high-is, at);
-      rest = omega (arith, ints, low-is, high-is, radius-is);
+      middle = omega (arith, ints, s.within, r, from, to, some);
+      width = omega (arith, ints, s.within, r, from, to, some);
+      back = omega (arith, ints, s.within, r, from, to, some);
+      last = omega (arith, ints, s.within, r, from, to, some);
+      rest = omega (arith, ints, s.within, r, from, to, some);
     }
+
+pub state_room : (p : Description) (k : ℕ) → IsPlant p → k < length p.states → HasRoom (get_or (axes_of p) k no_axis)
+state_room p k plant lt = room (get_or (axes_of p) k no_axis) (axis_at p (sound_plant p plant) k lt)

@@ -102,12 +102,10 @@ fn cell_offset(p: &Plant, state: u32) -> Interval
     ensures high { result.hi ≡ ((axis_along p.now state).width -ℤ pos 1) -ℤ radius_of (axis_along p.now state) }
 {
     let grid = p.grid();
-    let low = grid.low(0)[state as usize];
-    let high = grid.high(0)[state as usize];
     let radius = grid.radius(state);
     Interval {
         lo: -radius,
-        hi: high - low - radius,
+        hi: grid.width(state) - 1 - radius,
     }
 }
 

@@ -30,14 +30,11 @@ impl CellLine {
         requires within { LiesInGrid p.now indices.now along cells }
         ensures { HaveCentresOf p.now indices.now along cells result }
     {
-        let grid = p.grid();
-        let low = grid.low(0);
-        let high = grid.high(0);
         let mut values = [0; VARIABLES_LIMIT];
         for k in 0..p.variables() {
-            values[k as usize] = central_value(p, &low, &high, indices, k);
+            values[k as usize] = central_value(p, indices, k);
         }
-        let (first, width) = first_middle(p, &low, &high, along);
+        let (first, width) = first_middle(p, along);
         CellLine {
             values,
             along,

@@ -1,30 +1,19 @@
 //! The values of the variables at the centre of a cell, one by one.
 ghost use Rattle.std.specs.Prelude.{◌≡◌, ◌+◌, ◌-◌, ◌*ℤ◌, ◌+ℤ◌, ◌≤◌, ◌<◌, pos, length, map, slice_index, slice_index_or};
 ghost use Rattle.base.specs.Narrow.{IsNarrow};
-ghost use Rattle.grid_quantiser.specs.Cells.{low_of, high_of, point_of};
 ghost use Rattle.grid_quantiser.specs.Indices.{middle_of};
-ghost use Rattle.plant_record.specs.Description.{axes_of};
 ghost use Rattle.plant_record.specs.Limits.{IsWithinLimits};
 ghost use Rattle.successor_box.specs.SuccessorBoxes.{noise_centre};
 ghost use Rattle.successor_box.specs.inside.Area.{variables_of, axis_along};
 
 use crate::indices_limit::INDICES_LIMIT;
 use crate::noise_centres::noise_centre;
-use grid_quantiser::Point;
 use plant_record::Plant;
 
-/// The value of a variable at the centre of the cell that has these indices in the states, from the corners of the first cell.
-/// That of an input variable is 0 until an input vector is set.
-pub(crate) fn central_value(
-    p: &Plant,
-    low: &Point,
-    high: &Point,
-    indices: &[u32; INDICES_LIMIT],
-    k: u32,
-) -> i64
+/// The value of a variable at the centre of the cell that has these indices in the states. That of an input variable is 0
+/// until an input vector is set.
+pub(crate) fn central_value(p: &Plant, indices: &[u32; INDICES_LIMIT], k: u32) -> i64
     requires plant { IsWithinLimits p.now }
-    requires low { low.now ≡ point_of (low_of (axes_of p.now) 0) }
-    requires high { high.now ≡ point_of (high_of (axes_of p.now) 0) }
     requires variable { k < variables_of p.now }
     requires within { k < length p.now.states → slice_index indices.now k < (axis_along p.now k).count }
     ensures state { k < length p.now.states → result ≡ middle_of (axis_along p.now k) (slice_index indices.now k) }
@@ -33,7 +22,7 @@ pub(crate) fn central_value(
     let states = p.states();
     let inputs = p.input_variables();
     if k < states {
-        let (first, width) = first_middle(p, low, high, k);
+        let (first, width) = first_middle(p, k);
         return middle(first, width, indices[k as usize]);
     }
     if k - states < inputs {
@@ -42,20 +31,15 @@ pub(crate) fn central_value(
     noise_middle(p, k - states - inputs)
 }
 
-/// The middle of the first index along the axis of a state, and how far one index is from the next, from the corners of the
-/// first cell, which are found once for a line.
-pub(crate) fn first_middle(p: &Plant, low: &Point, high: &Point, state: u32) -> (i64, i64)
+/// The middle of the first index along the axis of a state, and how far one index is from the next.
+pub(crate) fn first_middle(p: &Plant, state: u32) -> (i64, i64)
     requires plant { IsWithinLimits p.now }
-    requires low { low.now ≡ point_of (low_of (axes_of p.now) 0) }
-    requires high { high.now ≡ point_of (high_of (axes_of p.now) 0) }
     requires state { state < length p.now.states }
     ensures middle { result.0 ≡ middle_of (axis_along p.now state) 0 }
     ensures width { result.1 ≡ (axis_along p.now state).width }
 {
-    let low = low[state as usize];
-    let high = high[state as usize];
-    let middle = low + p.grid().radius(state);
-    (middle as i64, (high - low + 1) as i64)
+    let grid = p.grid();
+    (grid.first_centre(state) as i64, grid.width(state) as i64)
 }
 
 /// The middle of an index, from that of the first one.

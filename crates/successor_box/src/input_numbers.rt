@@ -14,9 +14,5 @@ pub fn input_number(p: &Plant, indices: &[u32; INDICES_LIMIT]) -> u32
     ensures below { result < vectors_of p.now.inputs }
     ensures indices { AreInputIndices p.now indices.now result }
 {
-    let mut number = 0;
-    for k in 0..p.input_variables() {
-        number = number * p.input_values(k) + indices[(p.states() + k) as usize];
-    }
-    number
+    p.input_number(&indices[p.states() as usize..])
 }

@@ -9,7 +9,7 @@ use Rattle.fixed_expr.specs.Expression.{Expression}
 use Rattle.fixed_expr.specs.Value.{value_of}
 use Rattle.fixed_expr.specs.Lanes.{AreNarrow}
 use Rattle.fixed_expr.specs.LaneEval.{lane_of, StaysNarrowInLanes}
-use Rattle.fixed_expr.specs.inside.Listing.{combined_number}
+use Rattle.fixed_expr.specs.inside.Combinations.{combined_number}
 
 -- the value in lane k: one that is the same in all lanes, or that in the list
 abbrev pub value_in : LaneValues → List ℤ → ℕ → ℤ

@@ -1,13 +1,12 @@
 -- The value of a variable in an input vector, by its index.
-use Rattle.std.proofs.Common.{◌≡◌, ℕ, suc, zero, ◌+◌, ◌-◌, ◌/◌, ◌%◌, ◌<◌, List, [], ◌∷◌, length, get_or, take, drop, map, refl, sym, ap, ap₂, ◌∙◌, arith}
+use Rattle.std.proofs.Common.{◌≡◌, ℕ, suc, zero, ◌%◌, ◌<◌, List, [], ◌∷◌, length, get_or, refl, sym, ap, ◌∙◌, arith}
 use Rattle.std.specs.Prelude.{ℤ, pos}
-use Rattle.std.specs.List.{drop-map}
-use Rattle.std.proofs.lemmas.List.{get_or-map, get_or-take, length-map, take_rest}
-use Rattle.mixed_radix.specs.Radix.{size, digits}
+use Rattle.std.proofs.lemmas.List.{get_or-map, length-map}
+use Rattle.mixed_radix.specs.Radix.{digits}
 use Rattle.mixed_radix.proofs.Numbers.{number-digits, digit_is}
 use Rattle.plant_record.specs.declared.variables.InputVariable.{InputVariable}
 use Rattle.plant_record.specs.Description.{value_counts, vectors_of, vector_of}
-use Rattle.plant_record.specs.ValueIndices.{value_count, value_index, value_at, InputsDependOnTheirIndices}
+use Rattle.plant_record.specs.ValueIndices.{value_index, value_at, InputsDependOnTheirIndices}
 
 pub length-counts : (inputs : List InputVariable) → length (value_counts inputs) ≡ length inputs
 length-counts inputs = length-map inputs (λ (i : InputVariable). length i.values)

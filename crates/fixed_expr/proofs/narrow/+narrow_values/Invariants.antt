@@ -1,9 +1,5 @@
-use Rattle.std.proofs.Common.{◌+◌, ◌*◌}
 use Rattle.fixed_expr.specs.Expression.{expression_of, nodes_of}
 use Rattle.fixed_expr.proofs.narrow.+narrow_values.Given as goal
 
 abbrev pub decreases-eval_narrow : goal.decreases-eval_narrow
-decreases-eval_narrow l = 2 * nodes_of (expression_of l.e.now)
-
-abbrev pub decreases-eval_narrow_binary : goal.decreases-eval_narrow_binary
-decreases-eval_narrow_binary l = 2 * (nodes_of (expression_of l.a.now) + nodes_of (expression_of l.b.now)) + 1
+decreases-eval_narrow l = nodes_of (expression_of l.e.now)

@@ -12,7 +12,7 @@ use Rattle.loop_sim.proofs.closed_loop.next_sample.Goals as goal
 pub step-requires : goal.step-requires
 step-requires c =
     let t = c.args.t.now in
-    subst (λ (p : Description). c.args.row.input < vectors_of p.inputs) (sym c.requires.equations)
+    subst (λ (p : Description). c.args.row.input < vectors_of p.inputs) (sym c.plant-p.ensures)
     (row_fits t.plant t.rows c.args.sample.now.x c.args.row c.requires.rows c.requires.row).input
 
 pub unreachable-requires : goal.unreachable-requires
@@ -23,7 +23,7 @@ unreachable-requires c =
     let drawn : c.draw-state.result.0 ≡ point_of (noises_from t.plant.noises s.state 0) = c.draw-state.ensures.noises ∙ ap (λ (p : Description). point_of (noises_from p.noises s.state 0)) plant in
     not_there c.requires.fits
     (λ fits. c.in_default.ensures
-    (subst (λ (p : Description). StepStaysInRange p s.x c.args.row.input c.draw-state.result.0) (sym c.requires.equations)
+    (subst (λ (p : Description). StepStaysInRange p s.x c.args.row.input c.draw-state.result.0) (sym c.plant-p.ensures)
     (stays t.plant t.rows s.x c.draw-state.result.0 c.args.row s.state c.requires.plant c.requires.rows fits c.requires.row drawn)))
 
 pub returns-clause-sample : goal.returns-clause-sample
@@ -50,5 +50,5 @@ returns-clause-lines c =
     let drawn : c.draw-state.result.0 ≡ point_of (noises_from t.plant.noises s.state 0) = c.draw-state.ensures.noises ∙ ap (λ (p : Description). point_of (noises_from p.noises s.state 0)) plant in
     lines_go_on t s.seed s.left s.time s.x c.in-Some.x c.args.row c.requires.left
     (c.in-Some.ensures.1
-    ∙ ap (λ (p : Description). point_of (step_of p s.x c.args.row.input c.draw-state.result.0)) c.requires.equations
+    ∙ ap (λ (p : Description). point_of (step_of p s.x c.args.row.input c.draw-state.result.0)) c.plant-p.ensures
     ∙ ap point_of (drawn_step t.plant s.x c.draw-state.result.0 c.args.row.input s.seed s.time s.state c.requires.sample.state drawn))

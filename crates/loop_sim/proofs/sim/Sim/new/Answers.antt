@@ -19,4 +19,4 @@ returns-in_err-row_at c =
 pub returns : goal.returns
 returns c =
     let t = c.args.t.now in
-    ((c.in_ok-row_at.field-0, has_row t.plant t.rows c.args.x.now c.in_ok-row_at.field-0 (sym c.row_at.ensures ∙ c.in_ok-row_at.was)), ap (trace_lines t.plant t.rows c.args.seed c.args.steps 0) (c.state_point.ensures ∙ ap (λ p. state_point p c.args.x.now) c.plant-2.ensures))
+    ((c.in_ok-row_at.field-0, has_row t.plant t.rows c.args.x.now c.in_ok-row_at.field-0 (sym c.row_at.ensures ∙ c.in_ok-row_at.was)), ap (trace_lines t.plant t.rows c.args.seed c.args.steps 0) (c.state_point.ensures ∙ ap (λ p. state_point p c.args.x.now) c.plant.ensures))
