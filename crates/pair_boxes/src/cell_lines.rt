@@ -7,7 +7,7 @@ ghost use Rattle.grid_quantiser.specs.ExtentBoxes.{one_cell};
 ghost use Rattle.plant_record.specs.Description.{axes_of, vectors_of};
 ghost use Rattle.pair_boxes.specs.inside.Sums.{plus, term_under, AreChangedBy};
 ghost use Rattle.pair_boxes.specs.inside.CellLines.{AreInputsOfLine, AreSumsOfLine, AreCopiedTo, AreSumsOfCells, HaveCells, AddsToCells, BecomeWhole, BecomeBoxes, AreBoxesFrom};
-ghost use Rattle.pair_boxes.specs.inside.Terms.{AreIndicesOf, Brings, AreSumsAlong, HasSums, AddsTerms, AddsState, IsTermTableOf, AreTermTablesOf};
+ghost use Rattle.pair_boxes.specs.inside.Terms.{AreIndicesOf, HasSums, HasSumsWith, AddsTerms, AddsState, IsTermTableOf, AreTermTablesOf};
 ghost use Rattle.pair_boxes.specs.declared.pair_box.TheConstants.{SUMS_LIMIT};
 
 use crate::pair_box::PairBox;
@@ -212,7 +212,7 @@ fn add_state(
     boxes: &mut [PairBox],
 ) -> PairBox
     requires table { IsTermTableOf of.now.sampled.plant.now of.now.state table.now }
-    requires cell { (c : ℕ) × Brings of.now.sampled.plant.now of.now.state table.now first own c × AreSumsAlong of.now.sampled.plant.now of.now.state c base boxes.old }
+    requires cell { HasSumsWith of.now.sampled.plant.now of.now.state table.now first own base boxes.old }
     requires one_each { length boxes.old ≡ vectors_of of.now.sampled.plant.now.inputs }
     ensures long { length boxes.new ≡ length boxes.old }
     ensures added { AddsState of.now.sampled.plant.now of.now.state table.now first own base result boxes.old boxes.new }

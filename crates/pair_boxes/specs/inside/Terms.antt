@@ -109,6 +109,10 @@ IsTermBrought p i t brought own input b =
 abbrev pub HasSums : Description → ℕ → TermTable → ℕ → ℕ → List (Option CellBox) → Type 0
 HasSums p i t brought own boxes = (c : ℕ) × (base : Option CellBox) × Brings p i t brought own c × AreSumsAlong p i c base boxes
 
+-- the same with this one
+abbrev pub HasSumsWith : Description → ℕ → TermTable → ℕ → ℕ → Option CellBox → List (Option CellBox) → Type 0
+HasSumsWith p i t brought own base boxes = (c : ℕ) × Brings p i t brought own c × AreSumsAlong p i c base boxes
+
 -- the sums of each cell that brings this become its sums on the axes of one more state
 abbrev pub AddsState : Description → ℕ → TermTable → ℕ → ℕ → Option CellBox → Option CellBox → List (Option CellBox) → List (Option CellBox) → Type 0
 AddsState p i t brought own base after old new = (c : ℕ) → Brings p i t brought own c → AreSumsAlong p i c base old → AreSumsAlong p (i + 1) c after new
