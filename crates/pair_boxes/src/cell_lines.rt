@@ -7,7 +7,7 @@ ghost use Rattle.grid_quantiser.specs.ExtentBoxes.{one_cell};
 ghost use Rattle.plant_record.specs.Description.{axes_of, vectors_of};
 ghost use Rattle.pair_boxes.specs.inside.Sums.{plus, term_under, AreChangedBy};
 ghost use Rattle.pair_boxes.specs.inside.CellLines.{AreInputsOfLine, AreSumsOfLine, AreCopiedTo, AreSumsOfCells, HaveCells, AddsToCells, BecomeWhole, BecomeBoxes, AreBoxesFrom};
-ghost use Rattle.pair_boxes.specs.inside.Terms.{AreIndicesOf, Brings, AreSumsAlong, HasSums, AddsTerms, AddsState, IsTermTableOf, AreTermTablesOf};
+ghost use Rattle.pair_boxes.specs.inside.Terms.{AreIndicesOf, HasSums, HasSumsWith, AddsTerms, AddsState, IsTermTableOf, AreTermTablesOf};
 ghost use Rattle.pair_boxes.specs.declared.pair_box.TheConstants.{SUMS_LIMIT};
 
 use crate::pair_box::PairBox;
@@ -212,10 +212,10 @@ fn add_state(
     boxes: &mut [PairBox],
 ) -> PairBox
     requires table { IsTermTableOf of.now.sampled.plant.now of.now.state table.now }
-    requires cell { (c : ℕ) × Brings of.now.sampled.plant.now of.now.state table.now first own c × AreSumsAlong of.now.sampled.plant.now of.now.state c base boxes.old }
+    requires cell { HasSumsWith of.now.sampled.plant.now of.now.state table.now first own base boxes.old }
     requires one_each { length boxes.old ≡ vectors_of of.now.sampled.plant.now.inputs }
     ensures long { length boxes.new ≡ length boxes.old }
-    ensures added { AddsState of.now.sampled.plant.now of.now.state (Brings of.now.sampled.plant.now of.now.state table.now first own) base result boxes.old boxes.new }
+    ensures added { AddsState of.now.sampled.plant.now of.now.state table.now first own base result boxes.old boxes.new }
 {
     if !table.free {
         add_terms(of, table, first, own, boxes);
@@ -227,10 +227,10 @@ fn add_state(
 /// Adds the terms of a state to the boxes of such a cell, one for each input.
 fn add_terms(of: &StateOf<'_>, table: &TermTable, first: u32, own: u32, boxes: &mut [PairBox])
     requires table { IsTermTableOf of.now.sampled.plant.now of.now.state table.now }
-    requires cell { HasSums of.now.sampled.plant.now of.now.state (Brings of.now.sampled.plant.now of.now.state table.now first own) boxes.old }
+    requires cell { HasSums of.now.sampled.plant.now of.now.state table.now first own boxes.old }
     requires one_each { length boxes.old ≡ vectors_of of.now.sampled.plant.now.inputs }
     ensures long { length boxes.new ≡ length boxes.old }
-    ensures added { AddsTerms of.now.sampled.plant.now of.now.state (Brings of.now.sampled.plant.now of.now.state table.now first own) boxes.old boxes.new }
+    ensures added { AddsTerms of.now.sampled.plant.now of.now.state table.now first own boxes.old boxes.new }
 {
     match &table.terms {
         Terms::Listed(terms) => add_listed(&table.inputs, &terms[first as usize..], boxes),
@@ -255,10 +255,10 @@ fn add_listed(inputs: &[u32], terms: &[PairBox], boxes: &mut [PairBox])
 /// Adds the terms of a state, found one by one, to the boxes of a cell that brings `first` and shifts the extents so many indices.
 fn add_shifted(of: &StateOf<'_>, table: &TermTable, first: u32, own: u32, boxes: &mut [PairBox])
     requires table { IsTermTableOf of.now.sampled.plant.now of.now.state table.now }
-    requires cell { HasSums of.now.sampled.plant.now of.now.state (Brings of.now.sampled.plant.now of.now.state table.now first own) boxes.old }
+    requires cell { HasSums of.now.sampled.plant.now of.now.state table.now first own boxes.old }
     requires one_each { length boxes.old ≡ vectors_of of.now.sampled.plant.now.inputs }
     ensures long { length boxes.new ≡ length boxes.old }
-    ensures added { AddsTerms of.now.sampled.plant.now of.now.state (Brings of.now.sampled.plant.now of.now.state table.now first own) boxes.old boxes.new }
+    ensures added { AddsTerms of.now.sampled.plant.now of.now.state table.now first own boxes.old boxes.new }
 {
     for input in 0..of.sampled.plant.vectors() {
         let term = table.term(of, first, own, input);

@@ -1,9 +1,9 @@
 //! The digits of a pair on which the extents along a state's axis depend.
-ghost use Rattle.std.specs.Prelude.{◌≡◌, ℕ, ◌+◌, ◌*◌, ◌^◌, ◌<◌, length, slice_index, IfOk, IsTrue, IsFalse};
+ghost use Rattle.std.specs.Prelude.{◌≡◌, ℕ, ◌+◌, ◌*◌, ◌^◌, ◌<◌, length, slice_index, IfOk};
 ghost use Rattle.std.specs.List.{All};
 ghost use Rattle.successor_box.specs.PairExtents.{depends_on};
 ghost use Rattle.successor_box.specs.declared.indices_limit.TheConstants.{INDICES_LIMIT};
-ghost use Rattle.pair_boxes.specs.inside.Digits.{AreDigitsOf, IsWithDigit, IsAsBefore, count_in, slot_at};
+ghost use Rattle.pair_boxes.specs.inside.Digits.{AreDigitsOf, AddsIfDependent, KeepsIfIndependent, count_in, slot_at};
 
 use crate::state_of::StateOf;
 use plant_record::Plant;
@@ -50,8 +50,8 @@ impl Digits {
     fn add(&mut self, of: &StateOf<'_>, variable: u32) -> Result<(), AllocError>
         requires variable { variable < length of.now.sampled.plant.now.states + length of.now.sampled.plant.now.inputs }
         requires fits { self.old.slots * count_in of.now.sampled.plant.now variable < 2 ^ 32 }
-        ensures depends { IfOk result (λ _. IsTrue (depends_on of.now.sampled.plant.now of.now.state variable) → IsWithDigit variable (count_in of.now.sampled.plant.now variable) self.old self.new) }
-        ensures free { IfOk result (λ _. IsFalse (depends_on of.now.sampled.plant.now of.now.state variable) → IsAsBefore self.old self.new) }
+        ensures depends { IfOk result (λ _. AddsIfDependent of.now.sampled.plant.now of.now.state variable self.old self.new) }
+        ensures free { IfOk result (λ _. KeepsIfIndependent of.now.sampled.plant.now of.now.state variable self.old self.new) }
     {
         if has_digit(of, variable) {
             let count = count_of(of.sampled.plant, variable);

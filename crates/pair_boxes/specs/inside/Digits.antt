@@ -1,5 +1,5 @@
 -- The digits of an equation: indices in the variables on which extents depend, as one number, the slot of an extent.
-use Rattle.std.specs.Prelude.{◌≡◌, ℕ, ◌+◌, ◌-◌, ◌*◌, ◌/◌, ◌%◌, ◌<◌, ◌≤◌, ◌⊎◌, ◌==◌, List, [], ◌∷◌, ◌++◌, length, slice_index, slice_index_or, sum_by, if◌then◌else◌, nat_lt, IsTrue}
+use Rattle.std.specs.Prelude.{◌≡◌, ℕ, ◌+◌, ◌-◌, ◌*◌, ◌/◌, ◌%◌, ◌<◌, ◌≤◌, ◌⊎◌, ◌==◌, List, [], ◌∷◌, ◌++◌, length, slice_index, slice_index_or, sum_by, if◌then◌else◌, nat_lt, IsTrue, IsFalse}
 use Rattle.std.specs.List.{All}
 use Rattle.grid_quantiser.specs.Axes.{counts_of}
 use Rattle.plant_record.specs.Description.{Description, axes_of, vectors_of}
@@ -78,3 +78,11 @@ pub record IsWithDigit (variable count : ℕ) (old new : Digits) : Type 0 where
 pub record IsAsBefore (old new : Digits) : Type 0 where
   pub each : new.each.items ≡ old.each.items
   pub slots : new.slots ≡ old.slots
+
+-- the digit of a variable is added if extents depend on it
+abbrev pub AddsIfDependent : Description → ℕ → ℕ → Digits → Digits → Type 0
+AddsIfDependent p i variable old new = IsTrue (depends_on p i variable) → IsWithDigit variable (count_in p variable) old new
+
+-- if they don't, none is
+abbrev pub KeepsIfIndependent : Description → ℕ → ℕ → Digits → Digits → Type 0
+KeepsIfIndependent p i variable old new = IsFalse (depends_on p i variable) → IsAsBefore old new

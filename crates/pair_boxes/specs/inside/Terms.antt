@@ -105,14 +105,18 @@ abbrev pub IsTermBrought : Description → ℕ → TermTable → ℕ → ℕ →
 IsTermBrought p i t brought own input b =
     (c u : ℕ) → Brings p i t brought own c → u < vectors_of p.inputs → slice_index t.inputs.items u ≡ slice_index t.inputs.items input → IsTermAt p c u i b
 
--- boxes are with one more the sums of a cell that brings this
-abbrev pub HasSums : Description → ℕ → (ℕ → Type 0) → List (Option CellBox) → Type 0
-HasSums p i brings boxes = (c : ℕ) × (base : Option CellBox) × brings c × AreSumsAlong p i c base boxes
+-- boxes are with one more the sums of a cell that brings this to a table
+abbrev pub HasSums : Description → ℕ → TermTable → ℕ → ℕ → List (Option CellBox) → Type 0
+HasSums p i t brought own boxes = (c : ℕ) × (base : Option CellBox) × Brings p i t brought own c × AreSumsAlong p i c base boxes
+
+-- the same with this one
+abbrev pub HasSumsWith : Description → ℕ → TermTable → ℕ → ℕ → Option CellBox → List (Option CellBox) → Type 0
+HasSumsWith p i t brought own base boxes = (c : ℕ) × Brings p i t brought own c × AreSumsAlong p i c base boxes
 
 -- the sums of each cell that brings this become its sums on the axes of one more state
-abbrev pub AddsState : Description → ℕ → (ℕ → Type 0) → Option CellBox → Option CellBox → List (Option CellBox) → List (Option CellBox) → Type 0
-AddsState p i brings base after old new = (c : ℕ) → brings c → AreSumsAlong p i c base old → AreSumsAlong p (i + 1) c after new
+abbrev pub AddsState : Description → ℕ → TermTable → ℕ → ℕ → Option CellBox → Option CellBox → List (Option CellBox) → List (Option CellBox) → Type 0
+AddsState p i t brought own base after old new = (c : ℕ) → Brings p i t brought own c → AreSumsAlong p i c base old → AreSumsAlong p (i + 1) c after new
 
 -- the same whatever the one more is
-abbrev pub AddsTerms : Description → ℕ → (ℕ → Type 0) → List (Option CellBox) → List (Option CellBox) → Type 0
-AddsTerms p i brings old new = (c : ℕ) (base : Option CellBox) → brings c → AreSumsAlong p i c base old → AreSumsAlong p (i + 1) c base new
+abbrev pub AddsTerms : Description → ℕ → TermTable → ℕ → ℕ → List (Option CellBox) → List (Option CellBox) → Type 0
+AddsTerms p i t brought own old new = (c : ℕ) (base : Option CellBox) → Brings p i t brought own c → AreSumsAlong p i c base old → AreSumsAlong p (i + 1) c base new
