@@ -3,7 +3,7 @@ pub mod Mapped
 pub mod CountedFans
 pub mod MergedFans
 pub mod Tallying
-pub mod BandIndices
+pub mod BandSlots
 pub mod BandCuts
 pub mod SourceBands
 pub mod LeadingPairs

@@ -17,10 +17,10 @@ use Rattle.abstraction_table.specs.declared.shapes.Shapes.{Shapes}
 use Rattle.abstraction_table.specs.inside.Fans.{FanIsKnown, AreFansOf}
 use Rattle.abstraction_table.specs.inside.Shapes.{cells_from, EndsBy, range_at, segments_at, HasSegmentsAt, HasSegmentsOf, EachBoxHasSegments, EachShapeHasSegments, KeepsSegments, ListsSegments}
 use Rattle.abstraction_table.specs.inside.SourceLists.{IsBox}
-use Rattle.abstraction_table.specs.inside.Tallies.{indices_in}
+use Rattle.abstraction_table.specs.inside.Tallies.{slots_in}
 use Rattle.abstraction_table.proofs.BelowBoxes.{boxes_have_cells, cells_lie_between_corners, boxes_are_shifted_shapes}
 use Rattle.abstraction_table.proofs.Tallying.{by_cell}
-use Rattle.abstraction_table.proofs.BandIndices.{indices-append, segment_inside}
+use Rattle.abstraction_table.proofs.BandSlots.{slots-append, segment_inside}
 use Rattle.abstraction_table.proofs.Segments.{cells-append, one_segment_more, segments_end}
 use Rattle.base.proofs.Ranges.{map-add-range}
 
@@ -153,42 +153,42 @@ box_segments_end axes s o b is grid limit ordered has segments same =
 
 -- ---- segments that are cut to a band
 
-module _ (from len first : ℕ) (segments : List Segment) (k : ℕ) (d : Segment) (below : k < length segments) (slot n : ℕ) (cut : indices_in from len (range_with_len (first + (get_or segments k d).start) (get_or segments k d).len) ≡ range_with_len slot n) where
+module _ (from len first : ℕ) (segments : List Segment) (k : ℕ) (d : Segment) (below : k < length segments) (slot n : ℕ) (cut : slots_in from len (range_with_len (first + (get_or segments k d).start) (get_or segments k d).len) ≡ range_with_len slot n) where
   abbrev done : List ℕ
-  done = indices_in from len (cells_from first (take k segments))
+  done = slots_in from len (cells_from first (take k segments))
 
   abbrev later : List ℕ
-  later = indices_in from len (cells_from first (drop (k + 1) segments))
+  later = slots_in from len (cells_from first (drop (k + 1) segments))
 
-  pub one_cut_more : indices_in from len (cells_from first (take (k + 1) segments)) ≡ done ++ range_with_len slot n
+  pub one_cut_more : slots_in from len (cells_from first (take (k + 1) segments)) ≡ done ++ range_with_len slot n
   one_cut_more =
-      ap (indices_in from len) (one_segment_more first segments k d below)
-      ∙ indices-append from len (cells_from first (take k segments)) (range_with_len (first + (get_or segments k d).start) (get_or segments k d).len)
+      ap (slots_in from len) (one_segment_more first segments k d below)
+      ∙ slots-append from len (cells_from first (take k segments)) (range_with_len (first + (get_or segments k d).start) (get_or segments k d).len)
       ∙ ap (λ xs. done ++ xs) cut
 
-  pub cuts_split : indices_in from len (cells_from first segments) ≡ (done ++ range_with_len slot n) ++ later
+  pub cuts_split : slots_in from len (cells_from first segments) ≡ (done ++ range_with_len slot n) ++ later
   cuts_split =
-      ap (λ rs. indices_in from len (cells_from first rs)) (sym (take-append-drop (k + 1) segments))
-      ∙ ap (indices_in from len) (cells-append first (take (k + 1) segments) (drop (k + 1) segments))
-      ∙ indices-append from len (cells_from first (take (k + 1) segments)) (cells_from first (drop (k + 1) segments))
+      ap (λ rs. slots_in from len (cells_from first rs)) (sym (take-append-drop (k + 1) segments))
+      ∙ ap (slots_in from len) (cells-append first (take (k + 1) segments) (drop (k + 1) segments))
+      ∙ slots-append from len (cells_from first (take (k + 1) segments)) (cells_from first (drop (k + 1) segments))
       ∙ ap (λ xs. xs ++ later) one_cut_more
 
 -- ---- boxes whose cells all lie in a band
 
 module _ (from len first : ℕ) (low : from ≤ first) where
-  indices_inside : (segments : List Segment) → All (EndsBy (from + len) first) segments → indices_in from len (cells_from first segments) ≡ cells_from (first - from) segments
+  indices_inside : (segments : List Segment) → All (EndsBy (from + len) first) segments → slots_in from len (cells_from first segments) ≡ cells_from (first - from) segments
   indices_inside [] ends = refl
   indices_inside (r ∷ segments) ends =
       let here : first + r.start + r.len ≤ from + len = ends 0 r (omega arith) in
       let slot : first + r.start - from ≡ first - from + r.start = omega (arith, low) in
-      indices-append from len (range_with_len (first + r.start) r.len) (cells_from first segments)
-      ∙ ap (λ xs. xs ++ indices_in from len (cells_from first segments)) (segment_inside from len (first + r.start) r.len (omega (arith, low)) here ∙ ap (λ s. range_with_len s r.len) slot)
+      slots-append from len (range_with_len (first + r.start) r.len) (cells_from first segments)
+      ∙ ap (λ xs. xs ++ slots_in from len (cells_from first segments)) (segment_inside from len (first + r.start) r.len (omega (arith, low)) here ∙ ap (λ s. range_with_len s r.len) slot)
       ∙ ap (λ xs. range_with_len (first - from + r.start) r.len ++ xs) (indices_inside segments (λ k d lt. ends (suc k) d (omega (arith, lt))))
 
 -- The indices of a box in a band are its segments, from the slot of its first cell on.
 pub record IsInside (axes : List Axis) (o : Option CellBox) (from len first : ℕ) (segments : List Segment) : Type 0 where
   pub ends : All (EndsBy len (first - from)) segments
-  pub indices : indices_in from len (cells_in axes o) ≡ cells_from (first - from) segments
+  pub indices : slots_in from len (cells_in axes o) ≡ cells_from (first - from) segments
 
 pub box_inside : (axes : List Axis) (s : Shapes) (o : Option CellBox) (b : CellBox) → o ≡ Some b → AreAxes axes → IsBox axes o → IfSome o (HasSegmentsOf axes s) →
     (from len : ℕ) → (from ≤ b.first) × (b.last < from + len) → (segments : List Segment) → segments ≡ segments_at s (b.last - b.first) → IsInside axes o from len b.first segments
@@ -199,5 +199,5 @@ box_inside axes s o b is grid ordered has from len held segments same =
     let ends = segments_end (from + len) b.first (segments_at s (b.last - b.first)) h.some (subst (All (λ c. c < from + len)) h.cells below) in
     rw (same, is) (record {
       ends = λ k d lt. omega (arith, ends k d lt, held.0);
-      indices = ap (indices_in from len) h.cells ∙ indices_inside from len b.first held.0 (segments_at s (b.last - b.first)) ends;
+      indices = ap (slots_in from len) h.cells ∙ indices_inside from len b.first held.0 (segments_at s (b.last - b.first)) ends;
     })

@@ -13,9 +13,9 @@ use Rattle.game_core.specs.Counts.{times}
 use Rattle.edge_rows.specs.Rows.{Filling, row_at}
 use Rattle.successor_box.specs.SuccessorBoxes.{cells_in}
 use Rattle.abstraction_table.specs.inside.SourceLists.{IsBox, sources_among}
-use Rattle.abstraction_table.specs.inside.Tallies.{AreCounted, CountsFit, ArePut, HasCapacityFor, indices_in, edges_of, AreCountsAmong}
+use Rattle.abstraction_table.specs.inside.Tallies.{AreCounted, CountsFit, ArePut, HasCapacityFor, slots_in, edges_of, AreCountsAmong}
 use Rattle.abstraction_table.proofs.BelowBoxes.{boxes_have_cells}
-use Rattle.abstraction_table.proofs.BandIndices.{indices-times, indices-length}
+use Rattle.abstraction_table.proofs.BandSlots.{slots-times, slots-length}
 use Rattle.abstraction_table.proofs.LeadingPairs.{sources_more, count_more, count_rises}
 
 -- the cells of a box, or none, are few, rise, and are cells
@@ -54,36 +54,36 @@ module _ (axes : List Axis) (boxes : List (Option CellBox)) (grid : AreAxes axes
   rising = (box_cells axes (get_or boxes k None) grid box_here).rising
 
   module _ (from len : ℕ) where
-    abbrev indices : List ℕ
-    indices = indices_in from len cells
+    abbrev slots : List ℕ
+    slots = slots_in from len cells
 
-    pub count_capacity : (counts : List ℕ) → CountsSoFar axes boxes from len k counts → edges_of axes boxes ≤ 2 ^ 25 → CountsFit counts indices
+    pub count_capacity : (counts : List ℕ) → CountsSoFar axes boxes from len k counts → edges_of axes boxes ≤ 2 ^ 25 → CountsFit counts slots
     count_capacity counts h few = λ i.
-        omega (arith, count_within counts i, h.total, count_by-le-length (λ x. x == i) indices, indices-length from len cells, sum_by_more_le (λ b. length (cells_in axes b)) boxes k None below, few)
+        omega (arith, count_within counts i, h.total, count_by-le-length (λ x. x == i) slots, slots-length from len cells, sum_by_more_le (λ b. length (cells_in axes b)) boxes k None below, few)
 
-    pub counts_more : (counts after : List ℕ) → CountsSoFar axes boxes from len k counts → AreCounted counts after indices → CountsSoFar axes boxes from len (k + 1) after
+    pub counts_more : (counts after : List ℕ) → CountsSoFar axes boxes from len k counts → AreCounted counts after slots → CountsSoFar axes boxes from len (k + 1) after
     counts_more counts after h more = record {
       counted = record {
         one_each = more.long ∙ h.counted.one_each;
-        each = λ i inside. omega (arith, more.each i, h.counted.each i inside, indices-times from len i cells inside, count_more axes boxes (from + i) k rising);
+        each = λ i inside. omega (arith, more.each i, h.counted.each i inside, slots-times from len i cells inside, count_more axes boxes (from + i) k rising);
       };
-      total = omega (arith, more.total, h.total, indices-length from len cells, sum_by_more (λ b. length (cells_in axes b)) boxes k None below);
+      total = omega (arith, more.total, h.total, slots-length from len cells, sum_by_more (λ b. length (cells_in axes b)) boxes k None below);
     }
 
-    pub row_capacity : (before now : Filling) → RowsSoFar axes boxes from len k before now → AreCountsAmong axes boxes from len (length boxes) before.lengths → HasCapacityFor now indices
+    pub row_capacity : (before now : Filling) → RowsSoFar axes boxes from len k before now → AreCountsAmong axes boxes from len (length boxes) before.lengths → HasCapacityFor now slots
     row_capacity before now h counts = λ i inside.
         let slot : i < len = omega (arith, inside, h.one_each) in
         rw (h.lengths, counts.each i slot)
-        (omega (arith, ap length (h.each i slot), indices-times from len i cells slot, count_more axes boxes (from + i) k rising, count_rises axes boxes (from + i) (k + 1) (length boxes) (omega arith)))
+        (omega (arith, ap length (h.each i slot), slots-times from len i cells slot, count_more axes boxes (from + i) k rising, count_rises axes boxes (from + i) (k + 1) (length boxes) (omega arith)))
 
-    pub rows_more : (before now after : Filling) → RowsSoFar axes boxes from len k before now → ArePut k now after indices → RowsSoFar axes boxes from len (k + 1) before after
+    pub rows_more : (before now after : Filling) → RowsSoFar axes boxes from len k before now → ArePut k now after slots → RowsSoFar axes boxes from len (k + 1) before after
     rows_more before now after h put = record {
       one_each = put.long ∙ h.one_each;
       lengths = put.lengths ∙ h.lengths;
       each = λ i inside.
           put.each i (rw h.one_each inside)
-          ∙ ap (λ (row : List ℕ). row ++ replicate (times i indices) k) (h.each i inside)
-          ∙ ap (λ (n : ℕ). sources_among axes boxes k (from + i) ++ replicate n k) (indices-times from len i cells inside)
+          ∙ ap (λ (row : List ℕ). row ++ replicate (times i slots) k) (h.each i inside)
+          ∙ ap (λ (n : ℕ). sources_among axes boxes k (from + i) ++ replicate n k) (slots-times from len i cells inside)
           ∙ sym (sources_more axes boxes (from + i) k rising);
     }
 

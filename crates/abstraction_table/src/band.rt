@@ -4,7 +4,7 @@ ghost use Rattle.std.specs.List.{range_with_len};
 ghost use Rattle.grid_quantiser.specs.Axes.{cells_of, AreAxes};
 ghost use Rattle.successor_box.specs.SuccessorBoxes.{cells_in};
 ghost use Rattle.abstraction_table.specs.inside.SourceLists.{IsBox};
-ghost use Rattle.abstraction_table.specs.inside.Tallies.{indices_in};
+ghost use Rattle.abstraction_table.specs.inside.Tallies.{slots_in};
 ghost use Rattle.base.specs.declared.limits.TheConstants.{CELLS_LIMIT};
 
 use grid_quantiser::{CellBox, Grid};
@@ -25,7 +25,7 @@ impl Band {
         requires ordered { IsBox grid.now b }
         requires within { self.now.from + self.now.len ≤ cells_of grid.now }
         ensures same { IfSome result (λ reached. b ≡ Some reached) }
-        ensures none { IfNone result (indices_in self.now.from self.now.len (cells_in grid.now b) ≡ []) }
+        ensures none { IfNone result (slots_in self.now.from self.now.len (cells_in grid.now b) ≡ []) }
     {
         let b = b?;
         if b.last < self.from || self.from + self.len <= b.first {
@@ -43,13 +43,13 @@ impl Band {
         self.from <= b.first && b.last < self.from + self.len
     }
 
-    /// The indices that a segment of cells has here: the first, and how many.
+    /// The slots that a segment of cells has here: the first, and how many.
     #[inline]
     pub(crate) fn clip(&self, first: u32, len: u32) -> (u32, u32)
         requires segment { first + len < 2 ^ 32 }
         requires band { self.now.from + self.now.len < 2 ^ 32 }
         ensures within { result.0 + result.1 ≤ self.now.len }
-        ensures indices { indices_in self.now.from self.now.len (range_with_len first len) ≡ range_with_len result.0 result.1 }
+        ensures slots { slots_in self.now.from self.now.len (range_with_len first len) ≡ range_with_len result.0 result.1 }
     {
         let low = first.max(self.from);
         let high = (first + len).min(self.from + self.len);

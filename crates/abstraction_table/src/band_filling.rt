@@ -6,7 +6,7 @@ ghost use Rattle.edge_rows.specs.Rows.{empty_rows};
 ghost use Rattle.successor_box.specs.SuccessorBoxes.{cells_in};
 ghost use Rattle.abstraction_table.specs.inside.Shapes.{cells_from, EndsBy, HasSegmentsOf, EachBoxHasSegments};
 ghost use Rattle.abstraction_table.specs.inside.SourceLists.{IsBox, AreBandRows};
-ghost use Rattle.abstraction_table.specs.inside.Tallies.{indices_in, AreCounted, CountsFit, edges_of, AreCountsAmong};
+ghost use Rattle.abstraction_table.specs.inside.Tallies.{slots_in, AreCounted, CountsFit, edges_of, AreCountsAmong};
 ghost use Rattle.base.specs.declared.limits.TheConstants.{CELLS_LIMIT, EDGES_LIMIT, PAIRS_LIMIT};
 
 use crate::band::Band;
@@ -74,14 +74,14 @@ fn count_box(grid: &Grid, shapes: &Shapes, b: Option<CellBox>, band: Band, count
     requires segments { IfSome b (HasSegmentsOf grid.now shapes.now) }
     requires within { band.from + band.len ≤ cells_of grid.now }
     requires one_each { length counts.old ≡ band.len }
-    requires capacity { CountsFit counts.old (indices_in band.from band.len (cells_in grid.now b)) }
-    ensures { AreCounted counts.old counts.new (indices_in band.from band.len (cells_in grid.now b)) }
+    requires capacity { CountsFit counts.old (slots_in band.from band.len (cells_in grid.now b)) }
+    ensures { AreCounted counts.old counts.new (slots_in band.from band.len (cells_in grid.now b)) }
 {
     let mut counts = Counts { each: counts };
     add_box(grid, shapes, b, band, 0, &mut counts);
 }
 
-/// Puts each pair, in rising order, at the indices of its box in a band.
+/// Puts each pair, in rising order, at the slots of its box in a band.
 fn put_sources(grid: &Grid, shapes: &Shapes, boxes: &[PairBox], band: Band, fill: &mut RowFill)
     requires grid { AreAxes grid.now }
     requires limit { cells_of grid.now ≤ CELLS_LIMIT }
@@ -115,8 +115,8 @@ fn add_box<I: Intake>(
     requires segments { IfSome b (HasSegmentsOf grid.now shapes.now) }
     requires within { band.from + band.len ≤ cells_of grid.now }
     requires one_each { I.slots intake.old ≡ band.len }
-    requires room { I.HasRoomFor intake.old (indices_in band.from band.len (cells_in grid.now b)) }
-    ensures { I.IsAdded pair intake.old intake.new (indices_in band.from band.len (cells_in grid.now b)) }
+    requires room { I.HasRoomFor intake.old (slots_in band.from band.len (cells_in grid.now b)) }
+    ensures { I.IsAdded pair intake.old intake.new (slots_in band.from band.len (cells_in grid.now b)) }
 {
     if let Some(b) = band.reached(grid, b) {
         let segments = shapes.segments_of(b);
@@ -155,18 +155,19 @@ fn add_alike<const LEN: u32, I: Intake>(first: u32, segments: &[Segment], pair: 
     ensures { I.IsAdded pair intake.old intake.new (cells_from first segments.now) }
 {
     for segment in segments {
-        add_segment_of::<LEN, I>(first + segment.start, segment.len, pair, intake);
+        add_segment::<LEN, I>(first + segment.start, segment.len, pair, intake);
     }
 }
 
 /// Adds a pair at each of these slots, with no loop where they are `LEN`.
 #[inline]
-fn add_segment_of<const LEN: u32, I: Intake>(first: u32, len: u32, pair: u32, intake: &mut I)
+fn add_segment<const LEN: u32, I: Intake>(first: u32, len: u32, pair: u32, intake: &mut I)
     requires within { first + len ≤ I.slots intake.old }
     requires room { I.HasRoomFor intake.old (range_with_len first len) }
     ensures { I.IsAdded pair intake.old intake.new (range_with_len first len) }
 {
     if len == LEN {
+        // So many slots are known here, and the compiler makes no loop of them.
         intake.add(first, LEN, pair);
     } else {
         intake.add(first, len, pair);
@@ -179,8 +180,8 @@ fn add_segments<I: Intake>(first: u32, segments: &[Segment], band: Band, pair: u
     requires within { All (EndsBy CELLS_LIMIT first) segments.now }
     requires limit { band.from + band.len ≤ CELLS_LIMIT }
     requires one_each { I.slots intake.old ≡ band.len }
-    requires room { I.HasRoomFor intake.old (indices_in band.from band.len (cells_from first segments.now)) }
-    ensures { I.IsAdded pair intake.old intake.new (indices_in band.from band.len (cells_from first segments.now)) }
+    requires room { I.HasRoomFor intake.old (slots_in band.from band.len (cells_from first segments.now)) }
+    ensures { I.IsAdded pair intake.old intake.new (slots_in band.from band.len (cells_from first segments.now)) }
 {
     for segment in segments {
         let (slot, len) = band.clip(first + segment.start, segment.len);

@@ -45,9 +45,9 @@ impl Fans {
         }
     }
 
-    /// Makes the count of a distance. Those up to the greatest distance of a box are kept, and no memory past them is
-    /// touched.
-    fn reach(&mut self, distance: usize) -> Result<(), AllocError>
+    /// Makes the count of a distance, 0 if it is new. Those up to the greatest distance of a box are kept, and no memory
+    /// past them is touched.
+    fn make_count_for(&mut self, distance: usize) -> Result<(), AllocError>
         requires { distance < CELLS_LIMIT }
         ensures { IfOk result (λ _. Reaches distance self.old.counts.items self.new.counts.items) }
     {
@@ -98,7 +98,7 @@ impl Fans {
         ensures few { IfOk result (λ cells. sum self.new.counts.items ≤ sum self.old.counts.items + cells) }
     {
         let distance = (b.last - b.first) as usize;
-        self.reach(distance)?;
+        self.make_count_for(distance)?;
         let cells = grid.box_count(b) as u32;
         self.counts[distance] = cells;
         Ok(cells)

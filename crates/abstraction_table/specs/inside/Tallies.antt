@@ -28,9 +28,9 @@ CountsFit counts cells = (c : ℕ) → slice_index counts c + times c cells < 2 
 abbrev pub HasCapacityFor : Filling → List ℕ → Type 0
 HasCapacityFor f cells = (c : ℕ) → c < length f.rows → length (row_at f.rows c) + times c cells ≤ slice_index f.lengths c
 
--- the indices in a band, which has len cells from `from` on, of the cells that lie in it
-abbrev pub indices_in : ℕ → ℕ → List ℕ → List ℕ
-indices_in from len cells = map (λ c. c - from) (filter (λ c. leb from c && ltb c (from + len)) cells)
+-- the slots in a band, which has len cells from `from` on, of the cells that lie in it
+abbrev pub slots_in : ℕ → ℕ → List ℕ → List ℕ
+slots_in from len cells = map (λ c. c - from) (filter (λ c. leb from c && ltb c (from + len)) cells)
 
 -- how many edges boxes have
 abbrev pub edges_of : List Axis → List (Option CellBox) → ℕ

@@ -1,14 +1,14 @@
 use Rattle.std.proofs.Common.{arith}
-use Rattle.abstraction_table.proofs.BandIndices.{segment_outside, segment_clipped}
+use Rattle.abstraction_table.proofs.BandSlots.{segment_outside, segment_clipped}
 use Rattle.abstraction_table.proofs.band.Band.clip.Goals as goal
 
-pub returns-then-high-low-clause-indices : goal.returns-then-high-low-clause-indices
-returns-then-high-low-clause-indices c =
+pub returns-then-high-low-clause-slots : goal.returns-then-high-low-clause-slots
+returns-then-high-low-clause-slots c =
     let band = c.args.self.now in
     segment_outside band.from band.len c.args.first c.args.len (λ x from_first to_last low high. omega (arith, from_first, to_last, low, high, c.max-low.ensures, c.min-high.ensures, c.if-high-low.true))
 
-pub returns-clause-indices : goal.returns-clause-indices
-returns-clause-indices c =
+pub returns-clause-slots : goal.returns-clause-slots
+returns-clause-slots c =
     let band = c.args.self.now in
     let low = c.max-low.ensures in
     let high = c.min-high.ensures in
