@@ -24,7 +24,7 @@ CALLS = ["begin_turn", "close", "control", "control_each", "follows", "open", "r
 # Those that take no controller.
 OF_THE_LIBRARY = ["version"]
 # A status of the header, and one of the library.
-OF_HEADER = re.compile(r"^#define GAFFCURRANT_(\w+) \(?(-?\d+)\)?\s*/\*", re.M)
+OF_HEADER = re.compile(r"^#define GAFFCURRANT_(\w+) \(?(-?\d+)\)? */\*", re.M)
 OF_LIBRARY = re.compile(r"^pub const (\w+): i32 = (-?\d+);", re.M)
 STRICT = ["-std=c99", "-pedantic", "-Wall", "-Wextra", "-Werror"]
 SANITIZERS = ["-g", "-O1", "-fsanitize=address,undefined", "-fno-sanitize-recover=all"]
