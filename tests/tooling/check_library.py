@@ -25,7 +25,7 @@ CALLS = ["begin_turn", "close", "control", "control_each", "follows", "open", "r
 # Those that take no controller.
 OF_THE_LIBRARY = ["version"]
 # A status of the header, and one of the library.
-OF_HEADER = re.compile(r"^#define GAFFCURRANT_(\w+) \(?(-?\d+)\)?\s*/\*", re.M)
+OF_HEADER = re.compile(r"^#define GAFFCURRANT_(\w+) \(?(-?\d+)\)? */\*", re.M)
 OF_LIBRARY = re.compile(r"^pub const (\w+): i32 = (-?\d+);", re.M)
 STRICT = ["-std=c99", "-pedantic", "-Wall", "-Wextra", "-Werror"]
 SANITIZERS = ["-g", "-O1", "-fsanitize=address,undefined", "-fno-sanitize-recover=all"]
@@ -134,13 +134,14 @@ def check_version(report, room, libraries):
 
 # Places nested as deep as calls of the reader may be, in plants of one state and one input; whether they are canonical texts, which open.
 DEEP = {
-    "brackets": (False, "(" * 64 + "x" + ")" * 64), "signs": (False, "-" * 320 + "x"), "sums": (True, "x" + " + 0" * 126), "products": (True, "x" + " * 1" * 63),
+    "brackets": (False, "(" * 64 + "x" + ")" * 64), "signs": (False, "-" * 320 + "x"), "sums": (True, "x" + " + 0" * 62), "products": (True, "x" + " * 1" * 62),
     "minimums": (True, "min(" * 60 + "x" + ", 0)" * 60), "minimums on their right": (True, "min(0, " * 60 + "x" + ")" * 60),
     "absolute values": (True, "abs(" * 60 + "x" + ")" * 60), "tables": (True, "lut(" * 60 + "x" + ", 0:0, 14:14)" * 60),
     "sums before brackets": (False, "0 + " * 255 + "(" * 64 + "x" + ")" * 64), "products before brackets": (False, "1 * " * 255 + "(" * 64 + "x" + ")" * 64),
     "sums before minimums": (False, "0 + " * 255 + "min(0, " * 64 + "x" + ")" * 64), "signs before brackets": (False, "-" * 255 + "(" * 64 + "x" + ")" * 64),
     "signs in brackets": (False, "(----" * 64 + "x" + ")" * 64), "sums in brackets": (False, "(0 + 0 + 0 + 0 + " * 63 + "x" + ")" * 63),
     "products in minimums": (False, "min(0, 1 * 1 * 1 * 1 * " * 63 + "x" + ")" * 63), "sums of products in minimums": (False, "min(0, 0 + 0 + 1 * 1 * " * 63 + "x" + ")" * 63),
+    "signs in minimums": (False, "----min(0, " * 64 + "x" + ")" * 64), "signs before minimums": (False, "-" * 256 + "min(0, " * 64 + "x" + ")" * 64),
     "sums of products in tables": (False, "lut(0 + 0 + 1 * 1 * " * 63 + "x" + ", 0:0, 14:14)" * 63),
 }
 

@@ -24,8 +24,7 @@ const PATROL: &[u8] =
     b"plant 1\nstate x 0 14 3\ninput u -3 3\nnext x = x + u\ntarget 0 2\ntarget 12 14\ngoal reach\nend\n";
 
 /// The plant of the trials, to be kept within its range.
-const KEEP: &[u8] =
-    b"plant 1\nstate x 0 14 3\ninput u -3 3\nnext x = x + u\ngoal keep\nend\n";
+const KEEP: &[u8] = b"plant 1\nstate x 0 14 3\ninput u -3 3\nnext x = x + u\ngoal keep\nend\n";
 
 /// How many samples a loop has at most.
 const SAMPLES: u32 = 20;

@@ -1,7 +1,7 @@
 ghost use Rattle.std.specs.Prelude.{◌≡◌};
 ghost use Rattle.text_control.specs.Followed.{follow_number};
 
-use crate::statuses::{FOLLOWED, NOT_FOLLOWED, NO_INPUT, OVERFLOW, WRONG_SIZE};
+use crate::statuses::{FOLLOWED, NO_INPUT, NOT_FOLLOWED, OVERFLOW, WRONG_SIZE};
 
 /// Whether a next state is one to which the plant's equations may lead.
 #[derive(Clone, Copy, Debug, PartialEq, Eq)]

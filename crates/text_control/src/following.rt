@@ -40,9 +40,7 @@ fn is_sized(plant: &Plant, state: &[i64], input: &[i64], next: &[i64]) -> bool
     ensures { IsTrue result ↔ IsSized plant.now (record { state = state.now; values = input.now; next = next.now }) }
 {
     let states = plant.states() as usize;
-    state.len() == states
-        && input.len() == plant.input_variables() as usize
-        && next.len() == states
+    state.len() == states && input.len() == plant.input_variables() as usize && next.len() == states
 }
 
 /// The first input vector with these values.
