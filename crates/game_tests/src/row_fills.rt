@@ -1,5 +1,7 @@
 //! Rows that are filled slot by slot, and the block in which they lie.
 
+ghost use Rattle.std.specs.Prelude.{◌<◌};
+
 use edge_rows::{RowFill, Rows};
 use raw_slots::Block;
 use std::alloc::Global;
@@ -72,20 +74,32 @@ fn a_filling_is_dropped_by_another_thread(rt: HostRuntime) -> Result<(), Fail> {
     Ok(())
 }
 
-/// Whether so many blocks of 2^31 bytes are had, one after the other.
-fn are_had_in_turn(alloc: Global, blocks: u32) -> bool {
+/// Whether a block of some numbers of 8 bytes is had, and written to.
+fn is_had(alloc: Global, numbers: usize) -> bool
+    requires { 0 < numbers }
+{
+    let Ok(mut block) = Block::<u64>::new(alloc, numbers) else {
+        return false;
+    };
+    block.write(0, 7);
+    true
+}
+
+/// Whether so many blocks of some numbers are had, one after the other.
+fn are_had_in_turn(alloc: Global, blocks: u32, numbers: usize) -> bool
+    requires { 0 < numbers }
+{
     for _block in 0..blocks {
-        let Ok(mut block) = Block::<u64>::new(alloc, 1 << 28) else {
+        if !is_had(alloc, numbers) {
             return false;
-        };
-        block.write(0, 7);
+        }
     }
     true
 }
 
-/// Blocks that weren't given back would fill the 2^47 bytes of addresses that a process has: 2^16 = 65,536 of them do.
+/// Blocks that weren't given back would fill the 2^47 bytes of addresses that a process has: 2^16 = 65,536 of them, of 2^31 bytes each, do.
 #[test]
 fn a_block_is_given_back(rt: HostRuntime) -> Result<(), Fail> {
-    assert!(rt; are_had_in_turn(rt.alloc(), 70_000));
+    assert!(rt; are_had_in_turn(rt.alloc(), 70_000, 1 << 28));
     Ok(())
 }
