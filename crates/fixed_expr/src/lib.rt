@@ -11,9 +11,9 @@ mod expr;
 mod lane_eval;
 pub mod lanes;
 mod mentions;
-mod shifts;
 pub mod narrow;
 mod operation;
+mod shifts;
 mod wide;
 
 pub use base::NoMemory;

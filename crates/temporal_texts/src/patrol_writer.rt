@@ -1,9 +1,9 @@
 ghost use Rattle.std.specs.Prelude.{◌≡◌, IfOk};
 ghost use Rattle.temporal_texts.specs.PatrolText.{patrol_text};
 
-use controller_table::header_of;
 use crate::patrol_rows::PatrolRows;
 use crate::turn_lines::TurnLines;
+use controller_table::header_of;
 use game_core::NoMemory;
 use plant_record::Plant;
 use row_runs::FramedText;
