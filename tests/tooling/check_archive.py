@@ -166,7 +166,10 @@ def check_archive(report, room):
         members = tar.getmembers()
     report.expect("archive: owners, modes and times", ({(0, 0)}, {0o644, 0o755}, 1), ({(member.uid, member.gid) for member in members},
                   {member.mode for member in members if not member.issym()}, len({member.mtime for member in members})))
-    return found
+    # What was made by a strict mask, others can't read.
+    shutil.copyfile(found, room / found.name)
+    (room / found.name).chmod(0o644)
+    return room / found.name
 
 
 def check_use(report, room, archive):
