@@ -256,7 +256,7 @@ def check_library(report, ran, top, place, environment):
     if shutil.which("pkg-config", path=environment["PATH"]):
         words = ran("pkg-config", "--cflags", "--libs", "gaffcurrant", PKG_CONFIG_PATH=str(folder))
         report.expect("archive: pkg-config", (0, ""), words[::2])
-        words = words[1]
+        words = words[1].strip()
         version = re.search(r"^version: (\S+)$", (report.top / "CITATION.cff").read_text(), re.M).group(1)
         report.expect("archive: pkg-config tells the version", f"{version}\n", ran("pkg-config", "--modversion", "gaffcurrant", PKG_CONFIG_PATH=str(folder))[1])
     else:
