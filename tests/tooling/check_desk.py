@@ -47,7 +47,7 @@ def check_why(report, model, table):
     table = report.room / "two.table"
     table.write_bytes(report.run(("synth", "1"), two.read_bytes())[1])
     status, output, error = report.tool("why", table, "0.5", "--model", model)
-    report.holds("why by the model of another plant", status == 1 and "it has no `p`, which the text's plant has" in error, error)
+    report.holds("why by the model of another plant", status == 1 and "isn't the table's: its states are x, those of the table p" in error, error)
 
 
 def check_sim(report, model, texts):

@@ -72,8 +72,8 @@ def need(what, *modules):
 
 def is_there(module):
     """Whether a module can be loaded; matplotlib, which makes a folder for its settings when it is, has to be found alone."""
-    if module == "matplotlib":
-        return importlib.util.find_spec(module) is not None
+    if module == "matplotlib" or not importlib.util.find_spec(module):
+        return bool(importlib.util.find_spec(module))
     try:
         importlib.import_module(module)
     except ImportError:
@@ -109,7 +109,7 @@ class Progress:
 
     def put(self, said, now):
         self.told, self.is_shown = now, True
-        print(f"\r{self.name}: {said}\033[K", end="", file=sys.stderr, flush=True)
+        print(f"\r{self.name}: {said} \033[K", end="", file=sys.stderr, flush=True)
 
     @contextmanager
     def during(self, what):
