@@ -87,10 +87,11 @@ def check_real(report):
     report.expect("the middle of a unit", (39.55, 0.555), real.middle([395, 55]))
     for what, state in (("too long", [1, 2, 3]), ("no number", [float("nan"), 0]), ("without end", [float("inf"), 0])):
         report.expect(f"a real state {what} is refused", "ValueError", fault_of(lambda state=state: real.rank(state)))
-    docks, metres = read_text((report.top / "examples/docks/docks.patrol").read_bytes()), Units({"x": Fraction(2), "y": Fraction(1, 2)}, {"x": "m"})
+    docks, metres = read_text((report.top / "examples/docks/docks.patrol").read_bytes()), Units({"x": Fraction(2), "y": Fraction(1, 2), "u": Fraction(1, 4)}, {"x": "m"})
     patrol = docks.in_units(metres)
-    # In 2 m and half metres: 360 and 180 of the plant's units.
-    report.expect("a patrol in units", (20, (-24.0, -24.0), [docks.turn_after(0, state) for state in ([360, 180], [40, 40])]),
+    # In 2 m and half metres: 360 and 180 of the plant's units. A quarter is what 1 of u stands for.
+    u, v = docks.turns[0].choice([360, 180])
+    report.expect("a patrol in units", (20, (u / 4, v), [docks.turn_after(0, state) for state in ([360, 180], [40, 40])]),
                   (patrol.turns[0].rank([720, 90]), patrol.turns[0].choice([720, 90]), [patrol.turn_after(0, state) for state in ([720, 90], [80, 20])]))
     report.expect("a patrol without a row says so in units", "x = 999998 m, y = 0.5 has no row", str(row_fault(lambda: patrol.turns[1].rank([999999, 0.9]))))
     report.expect("scale by its line", "line 1: `bogus` begins no line", str(fault_of(lambda: scale("bogus\n")))[:30])
