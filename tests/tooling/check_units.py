@@ -82,6 +82,10 @@ def check_course(report):
     18, so that x has gone 2.5 of 4 parts of its way; and back the same."""
     view = View(read_plant(ANGLE), Units(), ["h", "x"])
     report.expect("what comes round", [36, None], view.plant.periods)
+    held = ANGLE.replace(b"-54:-18, -19:17, -18:-18, 17:17, 18:-18, 53:17", b"-18:-18, 17:17")
+    by_quotient = ANGLE.replace(b"lut(h + u, -54:-18, -19:17, -18:-18, 17:17, 18:-18, 53:17)", b"h + u - (h + u + 18) / 36 * 36")
+    report.expect("what is held at its ends, and what comes round by a quotient, or by one of another size", [[None, None], [36, None], [None, None]],
+                  [read_plant(text).periods for text in (held, by_quotient, by_quotient.replace(b"/ 36 * 36", b"/ 35 * 35"))])
     gone = Course(view, None, [[15, 2], [-17, 6], [15, 2]])
     report.expect("the line of a run over the end", [(15.5, 2.5), (18, 5.0), None, (-18, 5.0), (-16.5, 6.5), (-18, 5.0), None, (18, 5.0), (15.5, 2.5)],
                   [None if math.isnan(h) else (h, x) for h, x in zip(*gone.line)])
