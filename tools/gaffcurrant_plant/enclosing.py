@@ -228,8 +228,8 @@ class Looked:
         self.low, self.high, self.width = (numpy.array([state[k] for state in plant.states]).reshape(-1, 1) for k in (1, 2, 3))
 
     def touch(self, won, inputs, turn=0):
-        """The Touch of rows: for each cell whether it has one, and its input."""
-        cells = numpy.flatnonzero(won[:self.plant.cells])
+        """The Touch of rows: for each cell whether it has one, and its input, below 0 where nothing is applied."""
+        cells = numpy.flatnonzero(won & (inputs >= 0))
         vectors = inputs[cells]
         for vector in range(self.plant.vectors):
             mine = cells[vectors == vector]
