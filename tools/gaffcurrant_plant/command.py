@@ -113,23 +113,21 @@ class Progress:
 
     @contextmanager
     def during(self, what):
-        """Says for how long something goes on that can't say how far it is."""
+        """Says for how long something goes on that can't say how far it is; what is a text, or gives one."""
         ended = threading.Event()
 
         def watch():
             while not ended.wait(0.5):
-                now = time.monotonic()
-                if now - self.begun > 2:
-                    self.put(f"{what}, {now - self.begun:.0f} s so far", now)
+                self.say(what() if callable(what) else what)
 
         watcher = threading.Thread(target=watch, daemon=True)
-        if self.is_on:
+        if self.is_on or self.has_lines:
             watcher.start()
         try:
             yield
         finally:
             ended.set()
-            if self.is_on:
+            if watcher.is_alive():
                 watcher.join()
             self.end()
 
