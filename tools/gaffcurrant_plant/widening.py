@@ -4,7 +4,6 @@ ways, widens by a layer of cells where ways touch, and begins again. Needs numpy
 import math
 from collections import Counter
 
-from .arrays import Turns
 from .command import Progress, Trouble
 from .doubles import need_numpy, numpy
 from .enclosing import Looked
@@ -154,6 +153,7 @@ class Looks:
         return self.last
 
     def look(self, text):
+        from .arrays import Turns
         try:
             turns = Turns(written(self.word, text, 2))
             turns = [turns.cells(turn) for turn in range(turns.count)]
