@@ -50,7 +50,7 @@ SCALED = [
     (HEAD + "sample 0.5\nd x = v\nd v = u\ntarget 8 9 -0.2 0.2\ngoal reach\n",
      ["# sampled with 0.5 exactly: the linear equations of x, v", "noise r_x -1 2", "noise r_v -1 1", "next x = x + (4 * v + u) / 8 + r_x", "next v = v + u / 2 + r_v"]),
     ("sample 0.5\nparam k 1/4\nstate v 0 1 0.1 0.001\ninput u 1 0 1\nd v = k*(u - 1) - v\ngoal keep\n",
-     ["next v = (606531 * v + 98367335 * u - 98367335) / 1000000 + r_v"]),
+     ["next v = (6065 * v + 983673 * u - 983673) / 10000 + r_v"]),
     # A state that isn't whole within a sample but is at samples is exact: h + 0.3 * t / 0.3.
     ("sample 0.3\nstate h 0 12 1 1\nexact h\nwrap h\ninput t 1 -1 0 1\nd h = t/0.3\ngoal keep\n", ["next h = h + t - (h + t) / 12 * 12"]),
     # -x turns the quantising round: the real value lies up to one below, and a rounding more.
