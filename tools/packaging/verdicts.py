@@ -108,7 +108,8 @@ def main(words):
         sys.stdin.reconfigure(errors="replace")
         keep(top, file, sys.stdin)
         return 0
-    print("\n".join(name for name in crates(top) if name not in known(top, file)), end="")
+    found = known(top, file)
+    print("\n".join(name for name in crates(top) if name not in found), end="")
     return 0
 
 
