@@ -201,8 +201,8 @@ def check_install(report):
                           cwd=report.room)
     report.expect("gaffcurrant-page", (0, ""), (done.returncode, done.stderr))
     names = sorted(path.name for path in (room / "bin").glob("gaffcurrant-*"))
-    tools = [path for path in (report.top / "tools").iterdir() if path.is_file() and not path.suffix and path.name != "library"]
-    report.expect("a program for each of tools/ but the script library", sorted(f"gaffcurrant-{path.name}" for path in tools), names)
+    tools = [path for path in (report.top / "tools").iterdir() if path.is_file() and not path.suffix and path.name not in ("library", "program")]
+    report.expect("a program for each of tools/ but the scripts library and program", sorted(f"gaffcurrant-{path.name}" for path in tools), names)
     done = subprocess.run([room / "bin/python", "-c", "from gaffcurrant_plant.solving import program; print(program())"], capture_output=True, check=False, text=True,
                           env=environment, cwd=report.room)
     report.expect("the installed module runs the launcher", str(report.top / "gaffcurrant"), done.stdout.strip())
