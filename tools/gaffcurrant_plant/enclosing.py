@@ -263,10 +263,7 @@ class Looked:
             return cells
         firsts = numpy.array(numpy.unravel_index(numbers, counts)) * size
         lasts = numpy.minimum(firsts + size, numpy.array(self.plant.counts).reshape(-1, 1)) - 1
-        left = numpy.arange(numbers.size)
-        for count in self.counts:
-            left = left[self.patterns_of(firsts[:, left], lasts[:, left], inputs, count).any(axis=0)]
-        return cells[numpy.isin(at, left)]
+        return cells[self.patterns_of(firsts, lasts, inputs, self.counts[0]).any(axis=0)[at]]
 
     def places(self, cells):
         return numpy.array(numpy.unravel_index(cells, self.plant.counts))
