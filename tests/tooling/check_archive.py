@@ -16,7 +16,7 @@ from pathlib import Path
 
 PACKAGING = "tools/packaging"
 TOOLS = ("between", "check", "diff", "header", "lint", "page", "picture", "scale", "sim", "sweep", "why")
-CALLS = ("begin_turn", "close", "control", "control_each", "open", "rank", "sizes", "visit")
+CALLS = ("begin_turn", "close", "control", "control_each", "follows", "open", "rank", "sizes", "version", "visit")
 NOBODY = 65534
 LINE = "logic=proved functions=3 sum=0123 logic-built=trusted"
 # Opens a text by Python's Controller, as a user's own program does.
@@ -160,7 +160,7 @@ def check_archive(report, room):
     report.holds("archive: PROOF has the line that is known", f"    base {LINE}\n" in page)
     report.holds("archive: PROOF tells the lines that aren't", "    synth_cli no line: an earlier run" in page)
     report.holds("archive: PROOF has the sum of the program", f"{hashlib.sha256(report.program.read_bytes()).hexdigest()}  gaffcurrant (x86_64)\n" in page)
-    report.holds("archive: PROOF has what is trusted", "- The Rattle kit: its prover" in page and "ARM64" not in page.split("## What is trusted")[1])
+    report.holds("archive: PROOF has what is trusted", "- The Rattle kit: its logic, its prover" in page and "tools/runtime/heap.c" in page.split("## What is trusted")[1])
     found = next(folder.glob("gaffcurrant-*-x86_64-linux.tar.xz"))
     with tarfile.open(found) as tar:
         members = tar.getmembers()

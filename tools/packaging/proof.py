@@ -43,16 +43,12 @@ For the processors, whose files stand above:
 ## What is trusted
 
 {trusted}
-{runtime}
+
 ## What this page rests on
 
 It was written by the program that made the files, on the machine on which the crates were proved. Nothing signs it, and
 no part of it can be checked without the kit. With the kit, `./gaffcurrant --archive FOLDER` in a clone of the commit makes
 all of it again.
-"""
-RUNTIME = """- On ARM64 the C lines that stand in for the kit's own: for the heap (tools/runtime/heap.c), and in the program for
-  its arguments and errno (tools/runtime/arguments.c); Debian's compiler and glibc for ARM64. What threads share is read and
-  written by sequentially consistent steps of the compiler; that the processor orders them so is trusted.
 """
 
 
@@ -64,8 +60,7 @@ def page(about, made, processors, lines):
     logic = re.search(r"^logic \S+: (.*)$", logs[0][1], re.M)
     return PAGE.format(about=about, logic=logic.group(1) if logic else "not told", trusted=trusted(), built=indented(built),
                        files=indented(f"{sum_of(made / processor / name)}  {name} ({processor})" for processor in processors for name in FILES),
-                       verdicts=indented(f"{name} {lines.get(name, LACKING)}" for name in names),
-                       runtime=RUNTIME if "aarch64" in processors else "")
+                       verdicts=indented(f"{name} {lines.get(name, LACKING)}" for name in names))
 
 
 def sum_of(path):
