@@ -64,7 +64,7 @@ class Pages:
         """A page of the whole header, and one of each call, by the comment that stands before it."""
         whole, *_ = re.match(r"/\* gaffcurrant\.h: (.*?)\*/", header, re.DOTALL).groups()
         comment = r"^/\* ((?:(?!\*/).)*)\*/\n"
-        calls = re.findall(rf"{comment}((?:int32_t|void) (gaffcurrant_\w+)\([^;]*\);)", header, re.DOTALL | re.MULTILINE)
+        calls = re.findall(rf"{comment}((?:u?int32_t|void) (gaffcurrant_\w+)\([^;]*\);)", header, re.DOTALL | re.MULTILINE)
         answers = re.findall(r"^#define (GAFFCURRANT_\w+) +(\(?-?\d+\)?) */\* (.*?) \*/$", header, re.MULTILINE)
         (said, struct), = re.findall(rf"{comment}(struct gaffcurrant \{{.*?\}};)", header, re.DOTALL | re.MULTILINE)
         names = [name for *_, name in calls]
