@@ -17,8 +17,8 @@ SEPARATORS = (",", ";", "\t")
 # A name at the beginning of a heading's word, and what may stand behind it as its unit: `v [m/s]`, `v (m/s)`, `v in m/s`.
 NAMED = re.compile(r"([A-Za-z][A-Za-z0-9_]*)\s*(?:[\[(](.*)[\])]|in\s+(\S+))?\Z")
 # Fields without a number: nothing, or a minus, as for the input behind the last sample of a run.
-EMPTY = re.compile(rb"(?<=,)[ \t]*-?[ \t]*(?=[,\n])|(?<=\n)[ \t]*-?[ \t]*(?=,)")
-BLANK = re.compile(rb"(?<=\n)[ \t,]+(?=\n)")
+EMPTY = ((b",-,", b",,"), (b",-,", b",,"), (b",-\n", b",\n"), (b"\n-,", b"\n,"), (b",,", b",nan,"), (b",,", b",nan,"), (b",\n", b",nan\n"), (b"\n,", b"\nnan,"))
+BESIDE = re.compile(rb"[ \t]*([,\n])[ \t]*")
 
 
 class Log(NamedTuple):
@@ -96,7 +96,7 @@ def numbers_of(path: str, body: bytes, first: int, separator: str, wide: int) ->
     text = b"\n" + body + b"\n" * (not body.endswith(b"\n"))
     if separator != ",":
         text = text.replace(b",", b".").replace(separator.encode(), b",")
-    text = EMPTY.sub(b"nan", BLANK.sub(b"", text))
+    text = with_nan(text, wide)
     marks = numpy.frombuffer(text, dtype=numpy.uint8)
     ends = numpy.flatnonzero(marks == ord("\n"))
     begins, ends = ends[:-1] + 1, ends[1:]
@@ -111,6 +111,18 @@ def numbers_of(path: str, body: bytes, first: int, separator: str, wide: int) ->
         raise Trouble(f"{path}: there are no two samples below the heading")
     goes_on = numpy.concatenate([numpy.diff(rows) == 1, [False]])
     return parsed(path, text, begins, ends, rows, first).reshape(-1, wide), first + rows, goes_on
+
+
+def with_nan(text: bytes, wide: int) -> bytes:
+    """The text with `nan` in fields without a number, and lines without any as blank ones."""
+    if b" " in text or b"\t" in text:
+        text = BESIDE.sub(rb"\1", text)
+    if wide > 1:
+        for _ in range(2):
+            text = text.replace(b"\n" + b"," * (wide - 1) + b"\n", b"\n\n")
+    for old, new in EMPTY:
+        text = text.replace(old, new)
+    return text
 
 
 def parsed(path: str, text: bytes, begins: numpy.ndarray, ends: numpy.ndarray, rows: numpy.ndarray, first: int) -> numpy.ndarray:

@@ -1,0 +1,261 @@
+"""What may be wrong with a log whose steps a plant's equations don't explain: each usual mistake is taken away in turn, and told where the steps are explained
+clearly better without it. Needs numpy."""
+
+from __future__ import annotations
+
+import math
+from typing import Callable, Iterator, NamedTuple, Optional
+
+import numpy
+
+from .conforming import Conformity, column
+
+# Steps that are looked at, at most; and for few or many input vectors of a sample that is missing.
+LOOKED, VECTORS = 6000, 32
+# A mistake is told where without it at most this share of the unexplained steps is left, and so much of all steps is explained that wasn't.
+LEFT, GAINED = 0.5, 0.01
+# What explains nearly as much as the best is told too.
+BESIDE = 0.01
+FACTORS = (1000.0, 100.0, 10.0, 3.6, 60.0, 180 / math.pi, 2 * math.pi, 9.80665)
+TURNS = (2 * math.pi, 360.0)
+LATE = (1, 2, -1)
+ROUNDS = 4
+# Gains this near to 1 are none, and what jumps lies so many ranges beyond.
+NEAR_ONE, FAR = 0.02, 8
+LISTED = 4
+
+
+class Cause(NamedTuple):
+    """What explains more: in words; the share of the looked-at steps that is explained with it, and that without."""
+    said: str
+    share: float
+    before: float
+
+
+class Looked:
+    """Steps of a log as doubles: states before and after, and the inputs that act, in the model's units."""
+
+    def __init__(self, conformity: Conformity, at: numpy.ndarray) -> None:
+        self.equations, log = conformity.equations, conformity.log
+        self.at, self.states, self.after, self.inputs = at, log.states[:, at], log.states[:, at + 1], log.inputs[:, at]
+
+    def beyond(self, states: numpy.ndarray, inputs: numpy.ndarray, after: numpy.ndarray) -> tuple[numpy.ndarray, numpy.ndarray]:
+        """What would have to be added to the equations, and how far that lies beyond the ranges, in whole units as doubles."""
+        equations = self.equations
+        with numpy.errstate(all="ignore"):
+            return equations.needed(equations.whole_states(states), inputs / equations.input_sizes, equations.whole_states(after))
+
+    def are_explained(self, states: numpy.ndarray, acting: numpy.ndarray, after: numpy.ndarray, inputs: Optional[numpy.ndarray] = None) -> numpy.ndarray:
+        """Which steps the equations explain from states in the domain, under inputs that may act otherwise than they are given."""
+        equations = self.equations
+        listed = equations.vectors(acting if inputs is None else inputs) >= 0
+        _, beyond = self.beyond(states, acting, after)
+        return listed & equations.are_inside(equations.whole_states(states)) & (abs(beyond) < 1).all(axis=0)
+
+
+class Diagnosis:
+    """The mistakes of a log."""
+
+    def __init__(self, conformity: Conformity) -> None:
+        self.conformity, self.plant, self.units = conformity, conformity.plant, conformity.plant.units
+        steps = conformity.candidates
+        self.looked = Looked(conformity, steps[:: -(-steps.size // LOOKED)] if steps.size else steps)
+        self.names = [state[0] for state in self.plant.states]
+        self.input_names = [name for name, _ in self.plant.inputs]
+        looked = self.looked
+        self.explained = looked.are_explained(looked.states, looked.inputs, looked.after)
+        self.middles = column([(low + high) / 2 for low, high in conformity.stated()])
+        self.halves = column([(high - low) / 2 for low, high in conformity.stated()])
+
+    def causes(self) -> list[Cause]:
+        """What explains clearly more, the best first: of those that explain nearly as much the simplest stand first."""
+        if self.explained.all():
+            return []
+        found = [cause for kind in (self.signs, self.factors, self.late, self.gains, self.offsets) for cause in kind() if self.is_clear(cause)]
+        best = max((cause.share for cause in found), default=0.0)
+        return [cause for cause in found if cause.share >= best - BESIDE]
+
+    @staticmethod
+    def is_clear(cause: Cause) -> bool:
+        return 1 - cause.share <= LEFT * (1 - cause.before) and cause.share >= cause.before + GAINED
+
+    def cause(self, said: str, explained: numpy.ndarray, among: Optional[numpy.ndarray] = None) -> Cause:
+        before = self.explained if among is None else self.explained[among]
+        return Cause(said, float(explained.mean()) if explained.size else 0.0, float(before.mean()) if before.size else 0.0)
+
+    # Signs and units
+
+    def signs(self) -> Iterator[Cause]:
+        for name, scaled in self.scalings(-1.0):
+            yield self.cause(f"{name} with the other sign", scaled)
+
+    def factors(self) -> Iterator[Cause]:
+        for factor in (one for pair in FACTORS for one in (pair, 1 / pair)):
+            said = f"{short_number(factor)} times as large" if factor > 1 else f"{short_number(1 / factor)} times as small"
+            for name, scaled in self.scalings(factor):
+                yield self.cause(f"{name} {said} in the log as in the model: other units", scaled)
+
+    def scalings(self, factor: float) -> Iterator[tuple[str, numpy.ndarray]]:
+        """Which steps are explained with one variable, with all states and with all variables divided by a factor."""
+        looked = self.looked
+        chosen = [([i], []) for i in range(len(self.names))] + [([], [k]) for k in range(len(self.input_names))]
+        words = self.names + self.input_names
+        if len(self.names) > 1:
+            chosen.append((list(range(len(self.names))), []))
+            words.append("each state")
+        if self.input_names:
+            chosen.append((list(range(len(self.names))), list(range(len(self.input_names)))))
+            words.append("each state and input")
+        for name, (states, inputs) in zip(words, chosen):
+            one, other = numpy.ones((len(self.names), 1)), numpy.ones((len(self.input_names), 1))
+            one[states], other[inputs] = factor, factor
+            yield name, looked.are_explained(looked.states / one, looked.inputs / other, looked.after / one)
+
+    # Time
+
+    def late(self) -> Iterator[Cause]:
+        """Inputs of other samples of the same run, those from which so many are there."""
+        log, looked = self.conformity.log, self.looked
+        runs = log.run_numbers()
+        for samples in LATE if self.input_names else ():
+            others = numpy.clip(looked.at - samples, 0, log.lines.size - 1)
+            among = (others == looked.at - samples) & (runs[others] == runs[looked.at]) & ~numpy.isnan(log.inputs[:, others]).any(axis=0)
+            if among.any():
+                explained = looked.are_explained(looked.states[:, among], log.inputs[:, others[among]], looked.after[:, among])
+                count = "one sample" if abs(samples) == 1 else f"{samples} samples"
+                yield self.cause(f"inputs that act {count} {'late' if samples > 0 else 'before they are logged'}", explained, among)
+
+    # Gains and offsets
+
+    def gains(self) -> Iterator[Cause]:
+        """An input that acts stronger or weaker than it is given."""
+        looked = self.looked
+        for k, name in enumerate(self.input_names):
+            gain = self.fitted(lambda value, k=k: (looked.states, raised(looked.inputs, k, factor=value), looked.after), 1.0, 0.05)
+            if gain is not None and min(abs(gain - 1), abs(gain + 1)) > NEAR_ONE:
+                acting = raised(looked.inputs, k, factor=gain)
+                yield self.cause(f"{name} that acts {gain:.3g} times as strong as it is logged", looked.are_explained(looked.states, acting, looked.after, looked.inputs))
+
+    def offsets(self) -> Iterator[Cause]:
+        """A sensor that shows too much, and an input that acts beside its value."""
+        looked, plant = self.looked, self.plant
+        for i, (name, *_, width) in enumerate(plant.states):
+            size = float(self.units.size(name))
+            offset = self.fitted(lambda value, i=i: (raised(looked.states, i, -value), looked.inputs, raised(looked.after, i, -value)), 0.0, width * size)
+            if offset is not None and abs(offset) > size / 2:
+                said = f"{name} that is measured {short_number(abs(offset))}{self.units.word(name)} too {'high' if offset > 0 else 'low'}"
+                yield self.cause(said, looked.are_explained(raised(looked.states, i, -offset), looked.inputs, raised(looked.after, i, -offset)))
+        for k, name in enumerate(self.input_names):
+            offset = self.fitted(lambda value, k=k: (looked.states, raised(looked.inputs, k, value), looked.after), 0.0, float(self.units.size(name)))
+            if offset is not None and offset:
+                said = f"{name} that acts {short_number(abs(offset))}{self.units.word(name)} {'above' if offset > 0 else 'below'} what is logged"
+                yield self.cause(said, looked.are_explained(looked.states, raised(looked.inputs, k, offset), looked.after, looked.inputs))
+
+    def fitted(self, moved: Callable[[float], tuple[numpy.ndarray, numpy.ndarray, numpy.ndarray]], start: float, step: float) -> Optional[float]:
+        """The number by which what has to be added to the equations comes nearest to the middles of the noises' ranges, by least squares over the steps that lie
+        within thrice the usual distance; None where the equations don't depend on it."""
+        value, weights = start, 1 / (self.halves + 1)
+        for _ in range(ROUNDS):
+            here, there = (((self.looked.beyond(*moved(value + more))[0] - self.middles) * weights) for more in (0.0, step))
+            slope = (there - here) / step
+            near = abs(here) <= 3 * numpy.median(abs(here)) + 3
+            slope, here = slope[near & numpy.isfinite(slope)], here[near & numpy.isfinite(slope)]
+            square = float((slope * slope).sum())
+            if square * step * step < 1e-3 * max(slope.size, 1):
+                return None
+            value -= float((slope * here).sum()) / square
+            if not math.isfinite(value):
+                return None
+        return value
+
+    # Single steps
+
+    def events(self) -> list[str]:
+        """What befalls single steps: a state that wraps, samples that are missing, a state that jumps."""
+        conformity, said = self.conformity, []
+        bad = numpy.flatnonzero(~conformity.explained)
+        wrapped, words = self.wraps(bad)
+        said += words
+        bad = bad[~wrapped]
+        skipped = self.skips(bad)
+        if skipped.any() and skipped.mean() >= LEFT:
+            said.append(f"samples that are missing: {count_said(skipped.sum())} fit two samples instead of one, {self.lines_said(bad[skipped])}")
+            bad = bad[~skipped]
+        return said + self.jumps(bad)
+
+    def wraps(self, bad: numpy.ndarray) -> tuple[numpy.ndarray, list[str]]:
+        """Which unexplained steps are explained with a state a turn on, and what is said of them."""
+        conformity, done, said = self.conformity, numpy.zeros(bad.size, dtype=bool), []
+        for i, (name, low, high, _) in enumerate(self.plant.states):
+            size = float(self.units.size(name))
+            others = ~numpy.delete(conformity.beyond[:, bad], i, axis=0).any(axis=0)
+            for turn in (*TURNS, (high - low + 1) * size) if self.plant.periods[i] is None else ():
+                first, last = conformity.stated()[i]
+                away = numpy.abs(conformity.needed[i, bad]) - turn / size
+                # A turn isn't a whole number of units.
+                over = others & ~done & (away > min(first, -last) - 2) & (away < max(last, -first) + 2) & (turn / size > 4 * (last - first + 2))
+                if over.any():
+                    done |= over
+                    said.append(f"an angle that wraps: at {count_said(over.sum())} {name} is a turn of {short_number(turn)} on, {self.lines_said(bad[over])}; unwrap it, "
+                                f"or give the model a line `wrap {name}`")
+        return done, said
+
+    def skips(self, bad: numpy.ndarray) -> numpy.ndarray:
+        """Which of the first unexplained steps are explained by two samples under the step's input and then any other one."""
+        done = numpy.zeros(bad.size, dtype=bool)
+        some = bad[:LOOKED]
+        if not some.size:
+            return done
+        looked = Looked(self.conformity, self.conformity.steps[some])
+        equations, states = looked.equations, looked.equations.whole_states(looked.states)
+        inputs, after = looked.inputs / equations.input_sizes, equations.whole_states(looked.after)
+        with numpy.errstate(all="ignore"):
+            middle = -equations.needed(states, inputs, numpy.zeros_like(after))[0] + self.middles
+            for number in range(self.plant.vectors) if self.plant.vectors <= VECTORS else ():
+                second = inputs * 0 + column(self.plant.vector(number)).reshape(-1, 1)
+                away = abs(equations.needed(middle, second, after)[0] - self.middles)
+                reach = self.halves + 1 + sum(abs(equations.needed(middle + move, second, after)[0] - equations.needed(middle, second, after)[0])
+                                              for move in numpy.diag((self.halves + 1).ravel())[:, :, None])
+                done[:some.size] |= (away <= reach).all(axis=0)
+        return done
+
+    def jumps(self, bad: numpy.ndarray) -> list[str]:
+        """A state that jumps at few steps, far beyond its range."""
+        said, judged = [], self.conformity.steps.size
+        for i, (name, low, high, width) in enumerate(self.plant.states):
+            first, last = self.conformity.stated()[i]
+            beyond = abs(self.conformity.beyond[i, bad])
+            far = beyond > FAR * (last - first + 1) + width
+            if far.any() and far.sum() <= max(2, judged // 50) and far.sum() >= LEFT * numpy.count_nonzero(beyond):
+                size = self.units.size_said(name, int(beyond.max()))
+                said.append(f"a state that jumps: {name} at {count_said(far.sum())}, by up to {size} beyond its range, {self.lines_said(bad[far])}")
+        return said
+
+    def lines_said(self, steps: numpy.ndarray) -> str:
+        """The first lines of steps, in words."""
+        lines = self.conformity.log.lines[self.conformity.steps[steps[:LISTED]] + 1].tolist()
+        return f"line{'s' * (len(lines) > 1)} {', '.join(map(str, lines))}" + " .." * (steps.size > LISTED)
+
+
+def raised(rows: numpy.ndarray, at: int, more: float = 0.0, factor: float = 1.0) -> numpy.ndarray:
+    """Rows of which one is multiplied and raised."""
+    moved = numpy.array(rows)
+    moved[at] = moved[at] * factor + more
+    return moved
+
+
+def short_number(value: float) -> str:
+    return f"{value:.4g}"
+
+
+def count_said(count: int) -> str:
+    return f"{count} step{'s' * (count != 1)}"
+
+
+def diagnosed(conformity: Conformity) -> list[str]:
+    """What may be wrong with a log, in words, the likeliest first: only what explains clearly more steps."""
+    if conformity.steps.size and conformity.explained.all() and conformity.steps.size == conformity.candidates.size:
+        return []
+    diagnosis = Diagnosis(conformity)
+    causes = [f"{cause.said}: that would explain {cause.share:.1%} of the steps, and {cause.before:.1%} are" for cause in diagnosis.causes()]
+    return causes or diagnosis.events()
