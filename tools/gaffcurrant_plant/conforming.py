@@ -44,10 +44,11 @@ class Equations:
         self.values = [numpy.array(sorted(values)) for _, values in plant.inputs]
         self.places = [numpy.array([values.index(value) for value in sorted(values)]) for _, values in plant.inputs]
 
-    def whole_states(self, states: numpy.ndarray) -> numpy.ndarray:
-        """The whole numbers of real states, as doubles, those of states that come round within their range; NaN stays."""
+    def whole_states(self, states: numpy.ndarray, near: float = NEAR) -> numpy.ndarray:
+        """The whole numbers of real states, as doubles, those of states that come round within their range; NaN stays. A value this near below a unit counts as
+        in it."""
         scaled = states / self.sizes
-        whole = numpy.clip(numpy.where(self.exact, numpy.round(scaled), numpy.floor(scaled + NEAR)), -FARTHEST, FARTHEST)
+        whole = numpy.clip(numpy.where(self.exact, numpy.round(scaled), numpy.floor(scaled + near)), -FARTHEST, FARTHEST)
         for i, period in enumerate(self.periods):
             if period is not None:
                 whole[i] = self.low[i] + (whole[i] - self.low[i]) % period
@@ -138,17 +139,40 @@ class Conformity:
         self.whole = equations.whole_states(log.states)
         self.vectors = equations.vectors(log.inputs)
         self.candidates, self.steps, self.left_out = self.chosen(missing)
-        kind, count = equations.batch.kind, self.steps.size
+        count = self.steps.size
         self.needed, self.beyond = (numpy.zeros((len(self.plant.states), count), dtype=numpy.int64) for _ in range(2))
         self.followed = numpy.zeros(count, dtype=bool)
-        values = numpy.array([self.plant.vector(number) for number in range(self.plant.vectors)], dtype=numpy.int64).reshape(self.plant.vectors, -1).T
+        self.values = numpy.array([self.plant.vector(number) for number in range(self.plant.vectors)], dtype=numpy.int64).reshape(self.plant.vectors, -1).T
         for begin in range(0, count, BLOCK):
             tell(begin / count)
-            part, at = slice(begin, begin + BLOCK), self.steps[begin:begin + BLOCK]
-            whole, after = (self.whole[:, one].astype(numpy.int64).astype(kind) for one in (at, at + 1))
-            self.needed[:, part], self.beyond[:, part] = equations.needed(whole, values[:, self.vectors[at]].astype(kind), after)
-            self.followed[part] = equations.are_followed(whole, self.vectors[at], after)
+            part = slice(begin, begin + BLOCK)
+            self.needed[:, part], self.beyond[:, part], self.followed[part] = self.judged(self.steps[part], self.whole)
+        self.judge_again()
         self.explained = ~self.beyond.any(axis=0)
+
+    def judged(self, at: numpy.ndarray, whole: numpy.ndarray) -> tuple[numpy.ndarray, numpy.ndarray, numpy.ndarray]:
+        """What the steps from these samples need, how far beyond the ranges that lies, and whether they are followed, by the samples' whole numbers."""
+        kind, equations = self.equations.batch.kind, self.equations
+        before, after = (whole[:, one].astype(numpy.int64).astype(kind) for one in (at, at + 1))
+        needed, beyond = equations.needed(before, self.values[:, self.vectors[at]].astype(kind), after)
+        return needed, beyond, equations.are_followed(before, self.vectors[at], after)
+
+    def judge_again(self) -> None:
+        """A value at the end of a unit may have been measured on either side of it: steps with such values that aren't explained or followed are judged by the other
+        one too, which is that of the quotient in doubles."""
+        poor = numpy.flatnonzero(self.beyond.any(axis=0) | ~self.followed)
+        at = self.steps[poor]
+        pairs = numpy.stack([at, at + 1], axis=1).ravel()
+        other = self.equations.whole_states(self.log.states[:, pairs], 0.0)
+        differs = (other != self.whole[:, pairs]).any(axis=0).reshape(-1, 2).any(axis=1) & self.equations.are_inside(other[:, ::2])
+        if not differs.any():
+            return
+        whole = numpy.array(self.whole)
+        whole[:, pairs] = other
+        needed, beyond, followed = self.judged(at[differs], whole)
+        better = followed & ~beyond.any(axis=0)
+        chosen = poor[differs][better]
+        self.needed[:, chosen], self.beyond[:, chosen], self.followed[chosen] = needed[:, better], beyond[:, better], True
 
     def chosen(self, missing: numpy.ndarray) -> tuple[numpy.ndarray, numpy.ndarray, dict[str, int]]:
         """The steps with all numbers; those of them that are judged; and how many aren't, by the reason."""

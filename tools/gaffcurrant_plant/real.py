@@ -93,7 +93,7 @@ class Record:
 
 def fields(time, state, inputs):
     """A line of a log."""
-    return ",".join(one if isinstance(one, str) else f"{one:.12g}" for one in [time, *state, *inputs])
+    return ",".join(one if isinstance(one, str) else repr(float(one)).removesuffix(".0") for one in [float(f"{time:.12g}"), *state, *inputs])
 
 
 class Loop:

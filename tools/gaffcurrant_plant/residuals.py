@@ -26,6 +26,7 @@ def draw_residuals(figure: Any, conformity: Conformity) -> None:
         draw_course(course, at, needed * size, beyond != 0)
         course.set_ylabel(f"beside the equation of {units.label(name)}", fontsize=8)
         bars.hist(needed * size, bins=min(BARS, int(numpy.ptp(needed)) + 1) if needed.size else 1, orientation="horizontal", log=True, color=RUN)
+        bars.set_xlim(left=0.5)
     panels[-1][0].set_xlabel(label, fontsize=9)
     panels[-1][1].set_xlabel("steps", fontsize=9)
     panels[0][0].set_title(f"{conformity.steps.size} steps, {conformity.share():.2%} explained by the stated ranges (bands)", fontsize=9)
