@@ -15,14 +15,19 @@ LOOKED, VECTORS = 6000, 32
 # A mistake is told where without it at most this share of the unexplained steps is left, and so much of all steps is explained that wasn't.
 LEFT, GAINED = 0.5, 0.01
 # What explains nearly as much as the best is told too.
-BESIDE = 0.01
+BESIDE = 0.005
 FACTORS = (1000.0, 100.0, 10.0, 3.6, 60.0, 180 / math.pi, 2 * math.pi, 9.80665)
 TURNS = (2 * math.pi, 360.0)
 LATE = (1, 2, -1)
-ROUNDS = 4
+# Rounds of least squares; and the numbers about what they give that are tried, up to this share of it to either side.
+ROUNDS, TRIED, ABOUT = 4, 12, 0.25
 # Gains this near to 1 are none, and what jumps lies so many ranges beyond.
 NEAR_ONE, FAR = 0.02, 8
 LISTED = 4
+
+
+# States before, inputs and states after by a number.
+Moved = Callable[[float], "tuple[numpy.ndarray, numpy.ndarray, numpy.ndarray]"]
 
 
 class Cause(NamedTuple):
@@ -63,6 +68,7 @@ class Diagnosis:
         self.names = [state[0] for state in self.plant.states]
         self.input_names = [name for name, _ in self.plant.inputs]
         looked = self.looked
+        self.widths = numpy.array([float(state[3] * self.units.size(state[0])) for state in self.plant.states])
         self.explained = looked.are_explained(looked.states, looked.inputs, looked.after)
         self.middles = column([(low + high) / 2 for low, high in conformity.stated()])
         self.halves = column([(high - low) / 2 for low, high in conformity.stated()])
@@ -109,7 +115,9 @@ class Diagnosis:
         for name, (states, inputs) in zip(words, chosen):
             one, other = numpy.ones((len(self.names), 1)), numpy.ones((len(self.input_names), 1))
             one[states], other[inputs] = factor, factor
-            yield name, looked.are_explained(looked.states / one, looked.inputs / other, looked.after / one)
+            # A state that hardly moves says nothing of a factor by which it would move still less.
+            if abs(factor) <= 1 or (numpy.ptp(looked.states / one, axis=1)[states] >= self.widths[states]).all():
+                yield name, looked.are_explained(looked.states / one, looked.inputs / other, looked.after / one)
 
     # Time
 
@@ -129,29 +137,46 @@ class Diagnosis:
 
     def gains(self) -> Iterator[Cause]:
         """An input that acts stronger or weaker than it is given."""
-        looked = self.looked
         for k, name in enumerate(self.input_names):
-            gain = self.fitted(lambda value, k=k: (looked.states, raised(looked.inputs, k, factor=value), looked.after), 1.0, 0.05)
-            if gain is not None and min(abs(gain - 1), abs(gain + 1)) > NEAR_ONE:
-                acting = raised(looked.inputs, k, factor=gain)
-                yield self.cause(f"{name} that acts {gain:.3g} times as strong as it is logged", looked.are_explained(looked.states, acting, looked.after, looked.inputs))
+            gain, explained = self.best(self.acting(k, 0.0), 1.0, 0.05)
+            if explained is not None and min(abs(gain - 1), abs(gain + 1)) > NEAR_ONE:
+                yield self.cause(f"{name} that acts about {gain:.3g} times as strong as it is logged", explained)
 
     def offsets(self) -> Iterator[Cause]:
         """A sensor that shows too much, and an input that acts beside its value."""
-        looked, plant = self.looked, self.plant
-        for i, (name, *_, width) in enumerate(plant.states):
+        for i, (name, *_, width) in enumerate(self.plant.states):
             size = float(self.units.size(name))
-            offset = self.fitted(lambda value, i=i: (raised(looked.states, i, -value), looked.inputs, raised(looked.after, i, -value)), 0.0, width * size)
-            if offset is not None and abs(offset) > size / 2:
-                said = f"{name} that is measured {short_number(abs(offset))}{self.units.word(name)} too {'high' if offset > 0 else 'low'}"
-                yield self.cause(said, looked.are_explained(raised(looked.states, i, -offset), looked.inputs, raised(looked.after, i, -offset)))
+            offset, explained = self.best(self.measured(i), 0.0, width * size)
+            if explained is not None and abs(offset) > size / 2:
+                yield self.cause(f"{name} that is measured about {offset_said(offset)}{self.units.word(name)} too {'high' if offset > 0 else 'low'}", explained)
         for k, name in enumerate(self.input_names):
-            offset = self.fitted(lambda value, k=k: (looked.states, raised(looked.inputs, k, value), looked.after), 0.0, float(self.units.size(name)))
-            if offset is not None and offset:
-                said = f"{name} that acts {short_number(abs(offset))}{self.units.word(name)} {'above' if offset > 0 else 'below'} what is logged"
-                yield self.cause(said, looked.are_explained(looked.states, raised(looked.inputs, k, offset), looked.after, looked.inputs))
+            offset, explained = self.best(self.acting(k, 1.0), 0.0, float(self.units.size(name)))
+            if explained is not None and offset:
+                yield self.cause(f"{name} that acts about {offset_said(offset)}{self.units.word(name)} {'above' if offset > 0 else 'below'} what is logged", explained)
 
-    def fitted(self, moved: Callable[[float], tuple[numpy.ndarray, numpy.ndarray, numpy.ndarray]], start: float, step: float) -> Optional[float]:
+    def acting(self, k: int, more: float) -> Moved:
+        """The steps with an input multiplied by a number, or with it added."""
+        looked = self.looked
+        return lambda value: (looked.states, raised(looked.inputs, k, value, 1.0) if more else raised(looked.inputs, k, 0.0, value), looked.after)
+
+    def measured(self, i: int) -> Moved:
+        """The steps with a number taken from a state."""
+        looked = self.looked
+        return lambda value: (raised(looked.states, i, -value), looked.inputs, raised(looked.after, i, -value))
+
+    def best(self, moved: Moved, start: float, step: float) -> tuple[float, Optional[numpy.ndarray]]:
+        """The number with which most steps are explained, near what least squares give, and which these are; None where the equations don't depend on it."""
+        fitted = self.fitted(moved, start, step)
+        if fitted is None:
+            return start, None
+        near = [fitted + ABOUT * (fitted - start) * k / TRIED for k in range(-TRIED, TRIED + 1)]
+        tried = [self.looked.are_explained(*moved(value), self.looked.inputs) for value in near]
+        most = max(one.sum() for one in tried)
+        at = [k for k, one in enumerate(tried) if one.sum() == most]
+        middle = at[len(at) // 2]
+        return near[middle], tried[middle]
+
+    def fitted(self, moved: Moved, start: float, step: float) -> Optional[float]:
         """The number by which what has to be added to the equations comes nearest to the middles of the noises' ranges, by least squares over the steps that lie
         within thrice the usual distance; None where the equations don't depend on it."""
         value, weights = start, 1 / (self.halves + 1)
@@ -248,13 +273,17 @@ def short_number(value: float) -> str:
     return f"{value:.4g}"
 
 
+def offset_said(value: float) -> str:
+    return f"{abs(value):.3g}"
+
+
 def count_said(count: int) -> str:
     return f"{count} step{'s' * (count != 1)}"
 
 
 def diagnosed(conformity: Conformity) -> list[str]:
     """What may be wrong with a log, in words, the likeliest first: only what explains clearly more steps."""
-    if conformity.steps.size and conformity.explained.all() and conformity.steps.size == conformity.candidates.size:
+    if not conformity.candidates.size or conformity.explained.all() and conformity.steps.size == conformity.candidates.size:
         return []
     diagnosis = Diagnosis(conformity)
     causes = [f"{cause.said}: that would explain {cause.share:.1%} of the steps, and {cause.before:.1%} are" for cause in diagnosis.causes()]

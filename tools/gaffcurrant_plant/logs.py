@@ -58,6 +58,8 @@ def read_log(data: bytes, states: Sequence[str], inputs: Sequence[str], units: U
     text = data.removeprefix(b"\xef\xbb\xbf").replace(b"\r\n", b"\n").replace(b"\r", b"\n")
     first = re.match(rb"\s*", text).end()  # type: ignore[union-attr]
     heading, _, body = text[first:].partition(b"\n")
+    if not heading:
+        raise Trouble(f"{path}: the log is empty; its first line names the columns")
     line = text[:first].count(b"\n") + 1
     said = heading.decode("utf-8", "replace").lstrip("# ")
     separator = next((one for one in SEPARATORS if one in said), ",")
