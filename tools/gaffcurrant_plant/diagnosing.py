@@ -12,8 +12,8 @@ from .conforming import Conformity, column
 
 # Steps that are looked at, at most; and for few or many input vectors of a sample that is missing.
 LOOKED, VECTORS = 6000, 32
-# A mistake is told where without it at most this share of the unexplained steps is left, and so much of all steps is explained that wasn't.
-LEFT, GAINED = 0.5, 0.01
+# A mistake is told where without it at most this share of the unexplained steps is left, and so much of all steps, and so many, are explained that weren't.
+LEFT, GAINED, FEWEST = 0.5, 0.01, 5
 # What explains nearly as much as the best is told too.
 BESIDE = 0.005
 FACTORS = (1000.0, 100.0, 10.0, 3.6, 60.0, 180 / math.pi, 2 * math.pi, 9.80665)
@@ -31,10 +31,11 @@ Moved = Callable[[float], "tuple[numpy.ndarray, numpy.ndarray, numpy.ndarray]"]
 
 
 class Cause(NamedTuple):
-    """What explains more: in words; the share of the looked-at steps that is explained with it, and that without."""
+    """What explains more: in words; the share of the looked-at steps that is explained with it, and that without; how many steps were looked at."""
     said: str
     share: float
     before: float
+    steps: int
 
 
 class Looked:
@@ -83,11 +84,12 @@ class Diagnosis:
 
     @staticmethod
     def is_clear(cause: Cause) -> bool:
-        return 1 - cause.share <= LEFT * (1 - cause.before) and cause.share >= cause.before + GAINED
+        gained = cause.share - cause.before
+        return 1 - cause.share <= LEFT * (1 - cause.before) and gained >= GAINED and gained * cause.steps > FEWEST - 0.5
 
     def cause(self, said: str, explained: numpy.ndarray, among: Optional[numpy.ndarray] = None) -> Cause:
         before = self.explained if among is None else self.explained[among]
-        return Cause(said, float(explained.mean()) if explained.size else 0.0, float(before.mean()) if before.size else 0.0)
+        return Cause(said, float(explained.mean()), float(before.mean()), explained.size)
 
     # Signs and units
 
@@ -104,7 +106,7 @@ class Diagnosis:
     def scalings(self, factor: float) -> Iterator[tuple[str, numpy.ndarray]]:
         """Which steps are explained with one variable, with all states and with all variables divided by a factor."""
         looked = self.looked
-        chosen = [([i], []) for i in range(len(self.names))] + [([], [k]) for k in range(len(self.input_names))]
+        chosen: list[tuple[list[int], list[int]]] = [([i], []) for i in range(len(self.names))] + [([], [k]) for k in range(len(self.input_names))]
         words = self.names + self.input_names
         if len(self.names) > 1:
             chosen.append((list(range(len(self.names))), []))
@@ -226,7 +228,8 @@ class Diagnosis:
         return done, said
 
     def skips(self, bad: numpy.ndarray) -> numpy.ndarray:
-        """Which of the first unexplained steps are explained by two samples under the step's input and then any other one."""
+        """Which of the first unexplained steps are explained by two samples, under the step's input and then any other one, and lie farther beyond the ranges than
+        these samples' noises reach."""
         done = numpy.zeros(bad.size, dtype=bool)
         some = bad[:LOOKED]
         if not some.size:
@@ -241,7 +244,7 @@ class Diagnosis:
                 away = abs(equations.needed(middle, second, after)[0] - self.middles)
                 reach = self.halves + 1 + sum(abs(equations.needed(middle + move, second, after)[0] - equations.needed(middle, second, after)[0])
                                               for move in numpy.diag((self.halves + 1).ravel())[:, :, None])
-                done[:some.size] |= (away <= reach).all(axis=0)
+                done[:some.size] |= (away <= reach).all(axis=0) & (abs(self.conformity.beyond[:, some]) > reach).any(axis=0)
         return done
 
     def jumps(self, bad: numpy.ndarray) -> list[str]:

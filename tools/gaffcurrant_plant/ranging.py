@@ -211,7 +211,7 @@ class PlantText(Edited):
             raise Trouble(f"the equation of {name}, which comes round, has no noise to widen; give --model the model")
         alone = [one for one in own if is_added(plant, i, before + [noise[0] for noise in plant.noises].index(one))]
         noise = alone[0] if alone else self.ranges.added.get(name) or self.fresh(name, plant.names())
-        self.ranges.noises.setdefault(noise, next((tuple(map(Fraction, entry[1:])) for entry in plant.noises if entry[0] == noise), (Fraction(0), Fraction(0))))
+        self.ranges.noises.setdefault(noise, next(((Fraction(low), Fraction(high)) for one, low, high in plant.noises if one == noise), (Fraction(0), Fraction(0))))
         least, most = self.ranges.noises[noise]
         self.ranges.noises[noise] = least + low, most + high
 
