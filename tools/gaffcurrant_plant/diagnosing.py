@@ -105,14 +105,15 @@ class Diagnosis:
 
     def scalings(self, factor: float) -> Iterator[tuple[str, numpy.ndarray]]:
         """Which steps are explained with one variable, with all states and with all variables divided by a factor."""
-        looked = self.looked
-        chosen: list[tuple[list[int], list[int]]] = [([i], []) for i in range(len(self.names))] + [([], [k]) for k in range(len(self.input_names))]
+        looked, none = self.looked, list[int]()
+        every, all_inputs = list(range(len(self.names))), list(range(len(self.input_names)))
+        chosen = [([i], none) for i in every] + [(none, [k]) for k in all_inputs]
         words = self.names + self.input_names
-        if len(self.names) > 1:
-            chosen.append((list(range(len(self.names))), []))
+        if len(every) > 1:
+            chosen.append((every, none))
             words.append("each state")
-        if self.input_names:
-            chosen.append((list(range(len(self.names))), list(range(len(self.input_names)))))
+        if all_inputs:
+            chosen.append((every, all_inputs))
             words.append("each state and input")
         for name, (states, inputs) in zip(words, chosen):
             one, other = numpy.ones((len(self.names), 1)), numpy.ones((len(self.input_names), 1))

@@ -112,7 +112,9 @@ class Edited:
         lines = []
         for number, line in enumerate(self.lines, 1):
             bare, mark, comment = line.partition("#")
-            lines += self.written(number, bare.rstrip(), f"  {mark}{comment}" if mark and bare.strip() else mark + comment)
+            kept = f"  {mark}{comment}" if mark else ""
+            made = self.written(number, bare.rstrip(), kept)
+            lines += [line if one == bare.rstrip() + kept else one for one in made]
         return "\n".join(lines) + "\n"
 
     def written(self, number: int, bare: str, comment: str) -> list[str]:
