@@ -12,8 +12,12 @@ from pathlib import Path
 
 TOP = Path(__file__).resolve().parents[2]
 COUNT, BLOCK = int(os.environ.get("GAFFCURRANT_MODELS", 5000)), 25
-# Seconds after which a model is said never to end.
-ENDLESS = 600
+# Seconds of the processor after which a model is said never to end.
+ENDLESS = 300
+
+
+class Endless(Exception):
+    """A model takes as long as if it never ended."""
 FUNCTIONS = ("sin", "cos", "tan", "asin", "acos", "atan", "sinh", "cosh", "tanh", "sqrt", "exp", "log", "abs")
 PIECES_OF_DAMAGE = ("1e30", "-1e30", "1e-30", "0", "-1", "nan", "1e400", "99999999999999999999", "*", "x", "(", ")", ",", "=", "lut(", "sin(", "\u2212", "1/0", "^",
                     "^-1", "^0.5", "#", "\x00", "\ufeff", "cells", "state", "next", "d", "wrap", "exact", "sample", "steps 4", "order 4", "0.1:0.1:9")
@@ -186,17 +190,22 @@ def outcome(text):
     return "text"
 
 
+def endless(*_):
+    raise Endless
+
+
 def main(words):
     sys.path.insert(0, str(TOP / "tools"))
     sys.dont_write_bytecode = True
     sys.setrecursionlimit(20_000)
     is_told = "--tell" in words
+    signal.signal(signal.SIGPROF, endless)
     for seed in range(int(words[0]), int(words[0]) + int(words[1])):
-        signal.alarm(ENDLESS)
+        signal.setitimer(signal.ITIMER_PROF, ENDLESS)
         try:
             said = outcome(model_of(seed))
             if is_told:
-                print(seed, said[:200])
+                print(seed, said[:200], flush=True)
         except Exception:
             print(f"model {seed}: {' '.join(traceback.format_exc().splitlines()[-3:])}"[:400])
     return 0

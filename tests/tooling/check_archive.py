@@ -166,7 +166,10 @@ def check_archive(report, room):
         members = tar.getmembers()
     report.expect("archive: owners, modes and times", ({(0, 0)}, {0o644, 0o755}, 1), ({(member.uid, member.gid) for member in members},
                   {member.mode for member in members if not member.issym()}, len({member.mtime for member in members})))
-    return found
+    # What was made by a strict mask, others can't read.
+    shutil.copyfile(found, room / found.name)
+    (room / found.name).chmod(0o644)
+    return room / found.name
 
 
 def check_use(report, room, archive):
@@ -253,7 +256,7 @@ def check_library(report, ran, top, place, environment):
     if shutil.which("pkg-config", path=environment["PATH"]):
         words = ran("pkg-config", "--cflags", "--libs", "gaffcurrant", PKG_CONFIG_PATH=str(folder))
         report.expect("archive: pkg-config", (0, ""), words[::2])
-        words = words[1]
+        words = words[1].strip()
         version = re.search(r"^version: (\S+)$", (report.top / "CITATION.cff").read_text(), re.M).group(1)
         report.expect("archive: pkg-config tells the version", f"{version}\n", ran("pkg-config", "--modversion", "gaffcurrant", PKG_CONFIG_PATH=str(folder))[1])
     else:

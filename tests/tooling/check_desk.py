@@ -47,7 +47,7 @@ def check_why(report, model, table):
     table = report.room / "two.table"
     table.write_bytes(report.run(("synth", "1"), two.read_bytes())[1])
     status, output, error = report.tool("why", table, "0.5", "--model", model)
-    report.holds("why by the model of another plant", status == 1 and "it has no `p`, which the text's plant has" in error, error)
+    report.holds("why by the model of another plant", status == 1 and "isn't the table's: its states are x, those of the table p" in error, error)
 
 
 def check_sim(report, model, texts):
@@ -132,6 +132,10 @@ def check_without_numpy(report, table):
     status, output, error = report.tool("why", table, "7", "--deep", env=bare)
     wanted = (1, "", "why: --deep needs numpy; on Debian: apt-get install python3-numpy\n")
     report.expect("why --deep without numpy", wanted, (status, output, error))
+    (room / "sitecustomize.py").write_text(lack.replace("name == 'numpy'", "name in ('numpy', 'matplotlib')"))
+    said = "picture: this needs numpy and matplotlib; on Debian: apt-get install python3-numpy python3-matplotlib\n"
+    report.expect("picture without numpy and matplotlib", (1, "", said), report.tool("picture", table, "-o", report.room / "x.png", env=bare))
+    (room / "sitecustomize.py").write_text(lack)
     # Debian's Python is tried once, and has none here either.
     report.expect("why --deep where no Python has numpy", wanted, report.tool("why", table, "7", "--deep", env=bare | {"GAFFCURRANT_PYTHON": ""}))
     for name in ("gate", "lane"):
@@ -152,7 +156,10 @@ def check_film(report, patrol):
     report.expect("a patrol's film", (0, "", ""), answer)
     data = film.read_bytes() if film.exists() else b""
     report.holds("a patrol's film has frames", data.startswith(b"GIF89a") and data.count(b"\x21\xf9\x04") > 10, str(data[:6]))
-    for words, wanted, said in ((["--from", "7", "--from-turn", "2"], 2, "the turns are 0 to 1"),
+    for words, wanted, said in ((["--from", "7", "--from-turn", "2"], 2, "the turns are 0 to 1"), (["--runs", "1001"], 2, "--runs is from 1 to 1000"),
+                                (["--model", report.top / "examples/gate/gate.model"], 1, "gate.model: the model isn't the table's: its states are x, v, those of the table x"),
+                                (["--input", "v"], 2, "--input v: the inputs are u; the number of an input vector goes with --boxes"),
+                                (["--boxes", "7", "--input", "3"], 2, "--input 3: the inputs are u, and the input vectors are 0 to 2"),
                                 (["--from", "7", "--from", "4", "--animate", report.room / "two.gif"], 2, "a film of a patrol shows one run")):
         status, output, error = report.tool("picture", patrol, *words, "-o" if "--animate" not in words else "--size", *([report.room / "x.png"] if "--animate" not in words else ["4", "3"]))
         report.holds(f"picture {words[:4]} says `{said}`", status == wanted and said in error and error.count("\n") == 1, error)

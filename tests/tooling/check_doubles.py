@@ -127,3 +127,10 @@ def check_python(report):
     done = subprocess.run([python, "-c", script], capture_output=True, check=False)
     # 2 turns, 4 kinds of starts and 5 of disturbances.
     report.expect("runs of a patrol begin in each way in each turn", (0, b"40\n"), (done.returncode, done.stdout or done.stderr))
+    script = (f"import sys; sys.path.insert(0, {str(report.top / 'tools')!r})\n"
+              "from gaffcurrant_plant import Trouble\nfrom gaffcurrant_plant.real import real_runs\n"
+              f"model, text = (open({str(docks)!r} + '/docks.' + end, 'rb').read() for end in ('model', 'patrol'))\n"
+              "outcome = real_runs(model, text, runs=20, samples=1, turn=1)\nprint(outcome.runs, sum(outcome.violations.values()))\n"
+              "try:\n    real_runs(model, text.decode(), runs=20, turn=2)\nexcept Trouble as trouble:\n    print(trouble)\n")
+    done = subprocess.run([python, "-c", script], capture_output=True, check=False)
+    report.expect("runs by bytes, from a turn", (0, b"20 0\nthere are 2 turns, from 0; 2 is none\n"), (done.returncode, done.stdout or done.stderr))

@@ -196,7 +196,14 @@ def check_sweep(report, guide):
     status, output, error = report.tool("sweep", "-", "--widths", "1", "0.01", "0.001", data=model.replace("0.01\n", "0.001\n").encode(), env=program)
     report.expect("tools/sweep stops at a limit", (0, "0.3 0.01 limit: cells: 2880000 cells, and 1048576 are the most"),
                   (status, " ".join(output.splitlines()[2].split())))
-    report.holds("tools/sweep tells widths that can't be", "no multiple of the unit" in output.splitlines()[3], output)
+    report.holds("tools/sweep takes a finer unit where a width needs one", "limit: cells: 288000000 cells" in output.splitlines()[3], output)
+    status, output, error = report.tool("sweep", "-", "--widths", "0.001", data=model.replace("0.1 0.01", "cells 24", 1).replace("0.1 0.01", "cells 12").encode(), env=program)
+    report.expect("tools/sweep of widths by the number of cells", (0, "limit: cells: 288000000 cells"), (status, " ".join(output.split()[10:14]).split(",")[0]))
+    boat = "version 2\nsample 0.25\nstate v -4 4 cells 32\ninput u 0.1 -1 0 1\nd v = u - 0.4*v*abs(v)\ngoal keep\n"
+    status, output, error = report.tool("sweep", "-", "--orders", "1", "--steps", "1", "2", data=boat.encode(), env=program)
+    report.expect("tools/sweep of steps", (0, "", [["0.25", "1", "1"], ["0.25", "1", "2"]]), (status, error, [line.split()[:3] for line in output.splitlines()[1:]]))
+    status, output, error = report.tool("sweep", "-", "--steps", "2", data=b"state x 0 1 0.1 0.1\nnext x = x\ngoal keep\n", env=program)
+    report.expect("tools/sweep of steps where there are none", (2, "", "sweep: --orders and --steps need a model with lines `d`\n"), (status, output, error))
     for words, wanted, said in ((["--times", "0"], 2, "isn't above 0"), (["--times", "x"], 2, "no number"), (["--workers", "65"], 2, "1 to 64")):
         status, output, error = report.tool("sweep", "-", *words, data=model.encode(), env=program)
         report.expect(f"tools/sweep {words}", (wanted, "", 1), (status, output, error.count("\n")))

@@ -212,8 +212,8 @@ def followed_samples(plant):
 
 def corners_about(plant, low, high):
     """The least and the greatest points of a box of cells, and one past each of them in each state."""
-    sides = plant.sides(low, high)
-    ends = [(first + begin * width, first + (end + 1) * width - 1) for (begin, end), (_, first, _, width) in zip(sides, plant.states)]
+    extents = plant.extents(low, high)
+    ends = [(first + begin * width, first + (end + 1) * width - 1) for (begin, end), (_, first, _, width) in zip(extents, plant.states)]
     least, greatest = [one for one, _ in ends], [one for _, one in ends]
     return [least, greatest, *([*least[:i], least[i] - 1, *least[i + 1:]] for i in range(len(ends))), *([*greatest[:i], greatest[i] + 1, *greatest[i + 1:]] for i in range(len(ends)))]
 

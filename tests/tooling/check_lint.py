@@ -88,8 +88,31 @@ BARE = "x has no noise, and moves by whole cells, by -3 under u = -3: a measurem
        "noise of -1 to 1, unless the state is a whole number by itself"
 
 
+# An angle in cells of three numbers, which comes round behind 35. A step of 4 moves the three numbers of a cell into two others, and across the range's end
+# the box is the whole range. The obstacle is two numbers wide, and numbers move by 5 at most: 4, and one beside the middle.
+ANGLE = ["plant 2", "state h 0 35 3", "input u -4 4", "next h = lut(h + u, -36:0, -1:35, 0:0, 35:35, 36:0, 71:35)", "target 0 2", "obstacle 17 18", "goal reach", "end"]
+ANGLE_NOTES = ["size: deviation of h: 1; half a cell is 1; a box meets up to 2 places, of sampled boxes up to 2, and all 12 across the range's end",
+               "size: step of h: -4 under u = -4; 4 under u = 4; a cell is 3 wide"]
+
+
+def check_angle(report):
+    """Steps and deviations of a state that comes round are those about the middle, wherever its range ends: by `lut`, and by a quotient with cells of one number."""
+    status, output, error = report.tool("lint", "-", data="\n".join(ANGLE + [""]).encode())
+    report.expect("lint of an angle", (0, ""), (status, error))
+    for line in ANGLE_NOTES:
+        report.holds(f"lint of an angle says `{line}`", line in output.splitlines(), output)
+    # 16 - 4 is 12, and 17 is 4 wide and more: an obstacle of two numbers is passed by a step of 4, and one of 5 isn't.
+    for obstacle, wanted in (("obstacle 17 18", True), ("obstacle 15 20", False)):
+        output = report.tool("lint", "-", data=changed(ANGLE, 6, obstacle))[1]
+        report.expect(f"lint of an angle notes `{obstacle}` as thin", wanted, "may pass it between two" in output)
+    bare = ["plant 1", "state h 0 35 1", "input u -4 4", "next h = h + u - (h + u) / 36 * 36", "target 0 2", "goal reach", "end"]
+    output = report.tool("lint", "-", data="\n".join(bare + [""]).encode())[1]
+    report.holds("lint of an angle by a quotient", "size: step of h: -4 under u = -4; 4 under u = 4; a cell is 1 wide" in output.splitlines(), output)
+
+
 def check(report):
     check_cases(report)
+    check_angle(report)
     for step, said, wanted in KEPT_NOTES:
         _, output, _ = report.tool("lint", "-", data=changed(KEPT, 3, f"input u -{step} {step}"))
         report.expect(f"lint of a plant to be kept, steps of {step}, notes `{said}`", wanted, said in output)

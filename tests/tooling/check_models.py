@@ -24,7 +24,16 @@ LINES = [
 TRIED = [
     ("version 2\n" + STATE + "input s 0.1 -1:0.1:1\nnext x = min(max(x + 0.3*tan(s), 0), 9.9)\ngoal keep\n", "functions of one input alone are taken at its listed values"),
     ("version 1\n" + STATE + "input s 0.1 -0.4 0 0.3\nnext x = min(max(x + 0.3*exp(s), 0), 9.9)\ngoal keep\n", "functions are made of up to"),
-    ("version 2\nsample 0.1\n" + STATE + "input u 1 -1 0 1\nd x = max(u, 0) + abs(u) - x\ngoal keep\n", "by a Taylor polynomial of order 3"),
+    ("version 2\nsample 0.1\n" + STATE + "input u 1 -1 0 1\nd x = max(u, 0) + abs(u) - x\ngoal keep\n", "sampled with 0.1 exactly: the linear equation of x"),
+    ("version 2\nsample 0.1\n" + STATE + "input u 1 -1 0 1\nd x = max(u, 0) + abs(u) - (x + 1)^1.5/(x + 2)\ngoal keep\n", "by a Taylor polynomial of order"),
+    ("version 2\nsample 0.1\n" + STATE + "input u 1 -1 0 1\nd x = 0.1*u*lut(x, 0, 3, 1, 3.4, 2.00005, 3.6, 10, 4.1) - x/20\ngoal keep\n", "by a Taylor polynomial of order 1"),
+    ("version 1\n" + STATE + "input u 1 -1 0 1\nnext x = 5 + lut(x + 0.001*x*x, 0, -3, 1, 3.4, 2.5, 3.6, 10, 3.6) + u\ngoal keep\n", "functions are made of up to"),
+    ("version 2\nsample 0.1\nstate x -4 4 cells 32\nstate y -2 2 cells 16\ninput u 1 -1 0 1\nnoise w -0.1 0.1\nd x = y\nd y = u - 2*y - x + w\ngoal keep\n",
+     "sampled with 0.1 exactly: the linear equations of x, y"),
+    ("version 2\nsample 0.3\nsteps 3\nstate x -4 4 cells 32\nstate y -2 2 cells 16\nstate z 0 4 cells 16\ninput u 1 -1 0 1\nnoise w -0.1 0.1\nd x = y\n"
+     "d y = u - 2*y - x + w\nd z = sin(x)*z/9 - abs(y)\ngoal keep\n", "sampled with 0.3 exactly: the linear equations of x, y"),
+    ("version 2\nsample 0.2\nstate x 1 3 cells 20\nstate y 4 6 cells 20\ninput u 0.1 0.5 0.7\nd x = x*y*u/5 - x^3/20\nd y = x*x*y/50 - x*sqrt(y)*u/9\ngoal keep\n",
+     "about the middles"),
     ("version 2\nsample 0.1\n" + STATE + "input u 1 -1 0 1\nd x = atan(x)*sinh(u/2) - tanh(x)\ngoal keep\n", "functions of one input alone"),
     ("version 2\n" + STATE + "next x = 3 + asin(x/20) + acos(x/20) + 0.0001*cosh(x) + atan2(x, 3)\ngoal keep\n", "straight pieces"),
     ("version 2\nstate h -180 180 cells 24 0.1\nwrap h\ninput u 0.1 -20 0 20\nnoise w -1 1\nnext h = h + u + 5*sin(pi/180*h) + w\ngoal keep\n", "next h = lut("),

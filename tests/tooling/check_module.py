@@ -10,7 +10,7 @@ import subprocess
 import sys
 from fractions import Fraction
 
-from gaffcurrant_plant import NoRow, Refused, Trouble, Units, read_plant, read_table, scale, simulate, solve
+from gaffcurrant_plant import NoRow, Refused, Trouble, Units, read_plant, read_table, read_text, scale, simulate, solve
 from gaffcurrant_plant.loop import read_trace
 from gaffcurrant_plant.model import read_model
 
@@ -39,6 +39,7 @@ def check(report):
     check_page(report)
     check_runs(report)
     check_real(report)
+    check_named(report)
     check_arrays(report)
     check_types(report)
     check_install(report)
@@ -86,8 +87,32 @@ def check_real(report):
     report.expect("the middle of a unit", (39.55, 0.555), real.middle([395, 55]))
     for what, state in (("too long", [1, 2, 3]), ("no number", [float("nan"), 0]), ("without end", [float("inf"), 0])):
         report.expect(f"a real state {what} is refused", "ValueError", fault_of(lambda state=state: real.rank(state)))
+    docks, metres = read_text((report.top / "examples/docks/docks.patrol").read_bytes()), Units({"x": Fraction(2), "y": Fraction(1, 2), "u": Fraction(1, 4)}, {"x": "m"})
+    patrol = docks.in_units(metres)
+    # In 2 m and half metres: 360 and 180 of the plant's units. A quarter is what 1 of u stands for.
+    u, v = docks.turns[0].choice([360, 180])
+    report.expect("a patrol in units", (20, (u / 4, v), [docks.turn_after(0, state) for state in ([360, 180], [40, 40])]),
+                  (patrol.turns[0].rank([720, 90]), patrol.turns[0].choice([720, 90]), [patrol.turn_after(0, state) for state in ([720, 90], [80, 20])]))
+    report.expect("a patrol without a row says so in units", "x = 999998 m, y = 0.5 has no row", str(row_fault(lambda: patrol.turns[1].rank([999999, 0.9]))))
     report.expect("scale by its line", "line 1: `bogus` begins no line", str(fault_of(lambda: scale("bogus\n")))[:30])
     report.expect("scale gives a plant", 2, read_plant(scale("state x 0 1 0.1 0.1\nnext x = x\ngoal keep\n", 2).encode()).version)
+
+
+def row_fault(call):
+    """What a state without a row is refused with."""
+    try:
+        return call()
+    except NoRow as fault:
+        return fault
+
+
+def check_named(report):
+    """A variable GAFFCURRANT that names nothing is named."""
+    named = os.environ.pop("GAFFCURRANT")
+    os.environ["GAFFCURRANT"] = "/nowhere/gaffcurrant"
+    said = fault_of(lambda: solve(LINE))
+    os.environ["GAFFCURRANT"] = named
+    report.expect("a program that isn't there", "the environment variable GAFFCURRANT names `/nowhere/gaffcurrant`, and there is no such program", said)
 
 
 def check_arrays(report):
@@ -113,6 +138,8 @@ def check_arrays(report):
     units = Units({"p": Fraction(1, 10), "v": Fraction(1, 100)})
     report.expect("whole numbers of real states", [[3, 30], [395, -1]], arrays.whole_states(table.plant, units, [[0.3, 0.3], [39.59, -0.001]]).tolist())
     report.expect("a run in units", [35.05, 0.005], arrays.run_of(samples, units, table.plant).states[0].round(6).tolist())
+    units.exact = {"p"}
+    report.expect("a run in units, one of them exact", [35.0, 0.005], arrays.run_of(samples, units, table.plant).states[0].round(6).tolist())
 
 
 def check_block(report, table):
@@ -178,8 +205,8 @@ def check_install(report):
                           cwd=report.room)
     report.expect("gaffcurrant-page", (0, ""), (done.returncode, done.stderr))
     names = sorted(path.name for path in (room / "bin").glob("gaffcurrant-*"))
-    tools = [path for path in (report.top / "tools").iterdir() if path.is_file() and not path.suffix and path.name != "library"]
-    report.expect("a program for each of tools/ but the script library", sorted(f"gaffcurrant-{path.name}" for path in tools), names)
+    tools = [path for path in (report.top / "tools").iterdir() if path.is_file() and not path.suffix and path.name not in ("library", "program")]
+    report.expect("a program for each of tools/ but the scripts library and program", sorted(f"gaffcurrant-{path.name}" for path in tools), names)
     done = subprocess.run([room / "bin/python", "-c", "from gaffcurrant_plant.solving import program; print(program())"], capture_output=True, check=False, text=True,
                           env=environment, cwd=report.room)
     report.expect("the installed module runs the launcher", str(report.top / "gaffcurrant"), done.stdout.strip())

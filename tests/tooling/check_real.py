@@ -128,6 +128,7 @@ class Real:
         self.exact, self.wraps = ([words[1] for words in lines if words[0] == keyword] for keyword in ("exact", "wrap"))
         sides = ["".join(words[3:]).replace("^", "**") for words in lines if words[0] in ("d", "next")]
         room = {name: getattr(math, name) for name in ("sin", "cos", "tan", "asin", "acos", "atan", "sinh", "cosh", "tanh", "sqrt", "exp", "log", "pi")}
+        room |= {words[1]: float(words[2]) for words in lines if words[0] == "param"} | {"lut": curve}
         exec("\n    ".join(self.lines_of_plain(sides) if self.time is None else self.lines_of_path(sides)), room)
         self.after = room["after"]
 
@@ -155,6 +156,15 @@ class Real:
         """The state after a sample under random noises."""
         noises = [drawn(draws, low, high) for _, low, high in self.noises * (1 if self.time is None else 2)]
         return self.after(*state, *inputs, *noises)
+
+
+def curve(at, *points):
+    """The straight pieces through points X0, Y0, X1, Y1 .. at a value, which keep their ends' values beyond these."""
+    pairs = list(zip(points[::2], points[1::2]))
+    if at <= pairs[0][0]:
+        return pairs[0][1]
+    pieces = zip(pairs, pairs[1:])
+    return next((y + (at - x) * (z - y) / (end - x) for (x, y), (end, z) in pieces if at <= end), pairs[-1][1])
 
 
 def drawn(draws, low, high):

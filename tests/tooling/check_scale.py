@@ -38,7 +38,21 @@ SCALED = [
     (HEAD + "next x = x - 0.5*v\nnext v = v + 0.5*u\ntarget 8 9 -0.2 0.2\ngoal reach\n",
      ["next x = x + (-v) / 2 + r_x", "next v = v + u / 2 + r_v"]),
     # A state that stands in another term too stays in the quotient with it.
-    ("state x 0 10 0.1 0.01\nnext x = x - x*x/10\ngoal keep\n", ["next x = (1000 * x - x * x) / 1000 + r_x"]),
+    ("denominator 1000\nstate x 0 10 0.1 0.01\nnext x = x - x*x/10\ngoal keep\n", ["next x = (1000 * x - x * x) / 1000 + r_x", "noise r_x -3 2"]),
+    # With z = x - 500 it is 500 + z - (500 + z)^2 / 1000 = 250 - z * z / 1000. Quantising moves that by -2 * z / 1000, so by less than 1 to either side, and
+    # a rounding beside; the quotient leaves less than 1.
+    ("state x 0 10 0.1 0.01\nnext x = x - x*x/10\ngoal keep\n", ["next x = ((x - 500) * (-(x - 500)) + 250000) / 1000 + r_x", "noise r_x -2 2",
+                                                              "# chosen: as the equations are, about the middles", "#   tried: as the equations are: a noise of -3 to 2 for x"]),
+    # A power of high degree: none of its coefficients needs many digits.
+    ("state x 0 1 0.1 0.0001\nnext x = 0.333*x*x*x*x*x*x\ngoal keep\n", ["noise r_x -2 3"]),
+    # Lines `d` that are linear are sampled exactly: x + v/2 + u/8 and v + u/2 as above. With a parameter and a constant: v' = (u - 1)/4 - v, of which e^-0.5
+    # is 0.606531 and 1 - e^-0.5 is 0.393469, here over 4 and of inputs of 0.01 in units of 0.01.
+    (HEAD + "sample 0.5\nd x = v\nd v = u\ntarget 8 9 -0.2 0.2\ngoal reach\n",
+     ["# sampled with 0.5 exactly: the linear equations of x, v", "noise r_x -1 2", "noise r_v -1 1", "next x = x + (4 * v + u) / 8 + r_x", "next v = v + u / 2 + r_v"]),
+    ("sample 0.5\nparam k 1/4\nstate v 0 1 0.1 0.001\ninput u 1 0 1\nd v = k*(u - 1) - v\ngoal keep\n",
+     ["next v = (6065 * v + 983673 * u - 983673) / 10000 + r_v"]),
+    # A state that isn't whole within a sample but is at samples is exact: h + 0.3 * t / 0.3.
+    ("sample 0.3\nstate h 0 12 1 1\nexact h\nwrap h\ninput t 1 -1 0 1\nd h = t/0.3\ngoal keep\n", ["next h = h + t - (h + t) / 12 * 12"]),
     # -x turns the quantising round: the real value lies up to one below, and a rounding more.
     ("state x -5 5 1 1\nnext x = -x\ngoal keep\n", ["noise r_x -2 0", "next x = -x + r_x"]),
     # An exact state is a whole number by itself, and no rounding moves it; one that wraps comes round.
@@ -93,6 +107,12 @@ COMPLAINTS = [
     (LINE + "target 0\n", "the line is `target LO_x HI_x`: 2 numbers are due, here are 1"),
     (LINE + "target 1 0\n", "LO, 1, has to be below HI, 0"),
     (LINE + "obstacle x <= 0.5\n", "an inequality has `<` or `>`, and no `=`"),
+    (LINE + "next x = x\ntarget 2 3\ngoal reach\n", "line 3: the target's x, 2 to 3, is outside of the range of x, 0 to 1"),
+    (LINE + "next x = x\ngoal reach\n", "the model has `goal reach` and no `target` line"),
+    (LINE + "next x = 1e30*x\ngoal keep\n", "line 2: the equation of x may come to 1e+30 over the ranges, 1e+31 units of x, and 1e+16 are the most"),
+    (LINE + "next x = lut(x, 0, 1)\ngoal keep\n", "takes 2 to 32 points, two numbers each; here are 2 numbers"),
+    (LINE + "next x = lut(x, 1, 0, 0, 1)\ngoal keep\n", "line 2: the first numbers of the points of `lut` rise from point to point"),
+    (LINE + "next x = lut(x, 0, x, 1, 1)\ngoal keep\n", "line 2: behind its first comma `lut` takes numbers"),
     (LINE + "next x = x\ntarget 0.31 0.39\ngoal reach\n", "a target from 0.31 to 0.39 holds no whole unit of x, which is 0.1"),
     (LINE + "goal stay\n", "is solved by `stay` or `patrol`"),
     (LINE + "target 0 1\ngoal keep\n", "line 3: `goal keep` has no targets"),

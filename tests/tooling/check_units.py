@@ -1,8 +1,10 @@
 """Units go from a model through the comments of its plant text into a C header, and values in them become whole numbers."""
 
+import math
 from fractions import Fraction
 
 from gaffcurrant_plant.command import Trouble
+from gaffcurrant_plant.drawing import Course
 from gaffcurrant_plant.reader import read_plant
 from gaffcurrant_plant.units import Units, decimal, read_units
 from gaffcurrant_plant.view import View
@@ -31,6 +33,8 @@ def check(report):
     report.expect("a value in words", "u = -0.5 m/s^2", units.said("u", -1))
     check_header(report, plant)
     check_view(report)
+    check_points(report)
+    check_course(report)
     for text, said in ((b"plant 1\nend\n", "no comments `# unit"), (b"state x 0 1 0.1 0.1\nunit y m\n", "line 2: `unit NAME WORD`"),
                        (b"\xff\xfe", "begins no line of a model")):
         report.holds(f"units of {text[:20]} are refused", said in fault_of(text), fault_of(text))
@@ -58,6 +62,37 @@ def check_view(report):
         except Trouble as trouble:
             told = str(trouble)
         report.holds(f"a state {words} {fix} of a picture says `{said}`", said in told, told)
+
+
+def check_points(report):
+    """On an axis of a picture a whole number by itself is a point, in the middle of what is drawn for it; any other stands for what lies up to the next."""
+    plant = read_plant(b"plant 1\nstate d 0 3 1\nnext d = d\ngoal keep\nend\n")
+    sizes, words = {"d": Fraction(1, 2)}, {"d": "m"}
+    for exact, wanted in (((), (0.0, 2.0)), (("d",), (-0.25, 1.75))):
+        view = View(plant, Units(sizes, words, set(exact)))
+        report.expect(f"the range of an axis, exact: {exact}", wanted, view.range(0))
+        report.expect(f"where a run is drawn at 3, exact: {exact}", 1.75 - 0.25 * bool(exact), view.at(0, 3 + Fraction(1, 2)))
+
+
+ANGLE = b"plant 2\nstate h -18 17 3\nstate x 0 9 1\ninput u -4 4\nnext h = lut(h + u, -54:-18, -19:17, -18:-18, 17:17, 18:-18, 53:17)\nnext x = x\ngoal keep\nend\n"
+
+
+def check_course(report):
+    """The way of a run leaves at one edge of a state that comes round, and comes in at the other. From 15.5 to -16.5 it is 4 the shorter way: 2.5 to the edge at
+    18, so that x has gone 2.5 of 4 parts of its way; and back the same."""
+    view = View(read_plant(ANGLE), Units(), ["h", "x"])
+    report.expect("what comes round", [36, None], view.plant.periods)
+    held = ANGLE.replace(b"-54:-18, -19:17, -18:-18, 17:17, 18:-18, 53:17", b"-18:-18, 17:17")
+    by_quotient = ANGLE.replace(b"lut(h + u, -54:-18, -19:17, -18:-18, 17:17, 18:-18, 53:17)", b"h + u - (h + u + 18) / 36 * 36")
+    report.expect("what is held at its ends, and what comes round by a quotient, or by one of another size", [[None, None], [36, None], [None, None]],
+                  [read_plant(text).periods for text in (held, by_quotient, by_quotient.replace(b"/ 36 * 36", b"/ 35 * 35"))])
+    gone = Course(view, None, [[15, 2], [-17, 6], [15, 2]])
+    report.expect("the line of a run over the end", [(15.5, 2.5), (18, 5.0), None, (-18, 5.0), (-16.5, 6.5), (-18, 5.0), None, (18, 5.0), (15.5, 2.5)],
+                  [None if math.isnan(h) else (h, x) for h, x in zip(*gone.line)])
+    report.expect("the points of its samples", [0, 4, 8], gone.ends)
+    report.expect("a part of it", 5, len(gone.upto(1)[0]))
+    inside = Course(view, None, [[-17, 2], [0, 3]])
+    report.expect("a line that stays inside", [[-16.5, 0.5], [2.5, 3.5]], inside.line)
 
 
 def check_header(report, plant):

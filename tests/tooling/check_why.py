@@ -93,6 +93,44 @@ rows 2
 end
 """
 
+# An angle in cells of three numbers that comes round behind 35, by hand: from 30 to 32 a step of 4 leads to 34, 35 and 0, and the box is the whole range.
+ANGLE = b"""table 2
+plant 2
+state h 0 35 3
+input u -4 4
+next h = lut(h + u, -36:0, -1:35, 0:0, 35:35, 36:0, 71:35)
+target 0 2
+goal reach
+end
+rows 1
+0 0 0 -
+end
+"""
+AROUND = ["input 1 (u = 4)", "  deviation: h 1", "  growth bound: h 34 to 0 round the end; span over the cell: h 34 to 0 round the end",
+          "  successor box: h 0 to 35 (the whole of h, since it reaches across the range's end)", "  successors: 12"]
+# From 33 to 35 a step of 4 leads to 37 to 39, which are 1 to 3.
+BEHIND = ["input 1 (u = 4)", "  deviation: h 1", "  growth bound: h 1 to 3; span over the cell: h 1 to 3", "  successor box: h 1 to 3", "  successors: 2"]
+
+# Two stations on a line of ten cells of three numbers, with an obstacle between them: each can be left and reached again, and none leads to the other. The
+# second with an end less holds no cell.
+APART = """patrol 1
+plant 1
+state x 0 29 3
+input u -3 3
+next x = x + u
+target 0 5
+target 24 {}
+obstacle 12 14
+goal reach
+end
+turn 0 rows 0
+turn 1 rows 0
+end
+"""
+NO_ROUND = [("29", "no turn has a row: each target can be reached from itself, but from target 0 no way leads to target 1 for sure"),
+            ("25", "no turn has a row: target 1 of 0 to 1 is the first that can't be reached from itself, since no cell lies in it whole and off the obstacles")]
+# A target of one cell, in which no input may be held: it is left by 3 or 6 to the right for ever.
+ONWARD = APART.format("29").replace("input u -3 3", "input u 3 6")
 COMPLAINTS = [
     (["0", "0"], 2, "a state of this plant has 1 numbers (x), here are 2"),
     (["15"], 1, "x = 15 is outside 0 to 14"),
@@ -138,6 +176,9 @@ def check(report):
         status, output, error = report.tool("why", "-", *words, data=HAND)
         report.expect(f"why {words}", (wanted, ""), (status, output))
         report.holds(f"why {words} says `{said}`", said in error and error.count("\n") == 1, error)
+    for cell, wanted in ((10, AROUND), (11, BEHIND)):
+        output = report.tool("why", "-", "--cell", cell, "--input", "1", data=ANGLE)[1]
+        report.expect(f"why of an angle, cell {cell}", wanted, output.splitlines()[1:6])
     check_damaged(report)
     check_deep(report)
 
@@ -151,6 +192,12 @@ def check_deep(report):
         text = "\n".join(["table 1", "plant 1", "state x 0 14 3", *lines, "end", f"rows {len(rows)}", *rows, "end", ""])
         status, output, error = report.tool("why", "--deep", "-", state, data=text.encode())
         report.expect(f"why --deep of {lines}", (0, wanted, ""), (status, output.splitlines()[1:], error))
+    for end, said in NO_ROUND:
+        output = report.tool("why", "--deep", "-", "0", data=APART.format(end).encode())[1]
+        report.expect(f"why --deep of a patrol without rows, to {end}", said, output.splitlines()[1])
+    output = report.tool("why", "--deep", "-", "0", data=ONWARD.encode())[1]
+    report.expect("why --deep of a patrol that can't come back", "no turn has a row: target 0 of 0 to 1 is the first that can't be reached from itself, from none of its 2 cells",
+                  output.splitlines()[1])
     _, output, _ = report.tool("why", "--deep", report.top / "examples/cart/cart.table", "0", "-100")
     beside = frontier_of_the_cart((report.top / "examples/cart/cart.table").read_bytes())
     report.expect("why --deep counts the causes of the frontier", beside, sum(map(int, re.findall(r"^  (\d+): ", output, re.M))))
@@ -174,8 +221,9 @@ def check_damaged(report):
     table = (report.top / "examples/line/line.table").read_bytes()
     for what, data, line in (("no row count", table.replace(b"rows 5", b"rows x"), 9), ("a row too many",
                              table.replace(b"rows 5", b"rows 4"), 14), ("no last line", table[:-4], 15),
-                             ("a falling cell", table.replace(b"1 3 1", b"0 3 1"), 11), ("a plant", table[8:], 1),
+                             ("a falling cell", table.replace(b"1 3 1", b"0 3 1"), 11), ("a plant", table[8:], 1), ("a byte order mark", b"\xef\xbb\xbf" + table, 1),
                              ("an input too large", table.replace(b"0 4 1", b"0 4 2"), 10)):
         status, output, error = report.tool("why", "-", "7", data=data)
         report.expect(f"why on {what}", (1, "", 1), (status, output, error.count("\n")))
         report.holds(f"why on {what} names line {line}", f"malformed: line {line}:" in error, error)
+        report.expect(f"why on {what} says byte order mark", what == "a byte order mark", "byte order mark" in error)

@@ -22,6 +22,8 @@ def check(report, browser):
     check_keys(report, browser, table)
     check_cause(report, browser, table)
     check_fields(report, browser)
+    check_round(report, browser)
+    check_inputs(report, browser)
     check_link(report, browser)
     check_reading(report, browser)
     check_exact(report, browser)
@@ -151,6 +153,62 @@ def check_exact(report, browser):
     browser.wait(f"{PANEL}.includes('0.25 to 0.375 m')")
     panel = browser.evaluate(PANEL)
     report.holds("a whole number by itself has one number", "h\n3\n" in panel, panel)
+    # 28 directions, each in the middle of its place.
+    ticks = dict(browser.evaluate("probe.desk().maps[0].numbersOf(2, 3)"))
+    report.holds("a whole number by itself stands in the middle of its cell", abs(ticks["0"] - 0.5 / 28) < 1e-9 and abs(ticks["10"] - 10.5 / 28) < 1e-9, str(ticks))
+
+
+# An angle that comes round behind 17, and a state that stays. Every cell is kept, by the first input.
+ROUND = """table 2
+plant 2
+state h -18 17 3
+state x 0 9 1
+input u -4 4
+next h = lut(h + u, -54:-18, -19:17, -18:-18, 17:17, 18:-18, 53:17)
+next x = x
+goal keep
+end
+rows 1
+0 119 - 0
+end
+"""
+# From -17 a step of -4 leads to -21, which is 15: in places of three numbers from 0.5 down to 0, and from 12, the other end, to 33.5 / 3.
+PIECES = [[[0.5, 2.5], [0, 2.5]], [[12, 2.5], [33.5 / 3, 2.5]]]
+
+
+def check_round(report, browser):
+    """A run leaves at one edge of a state that comes round, and comes in at the other: on the map, and over time with a gap."""
+    (report.room / "round.table").write_text(ROUND)
+    open_page(report, browser, [report.room / "round.table"])
+    browser.evaluate("probe.desk().run([-17, 2])")
+    pieces = browser.evaluate("(([run]) => piecesOf(run.ways[0], run.text.plant.periods))(probe.desk().runsNow())")
+    near = len(pieces) == 2 and all(abs(a - b) < 1e-9 for one, other in zip(pieces, PIECES) for p, q in zip(one, other) for a, b in zip(p, q))
+    report.holds("the pieces of a way round", near, str(pieces))
+    points = browser.evaluate("(([run]) => valuesOf(run, 0, probe.desk().view.units).slice(0, 5).map(([, value]) => (Number.isNaN(value) ? null : value)))(probe.desk().runsNow())")
+    report.expect("an angle over time", [-16.5, -18, None, 18, 15.5], [value and round(value, 9) for value in points])
+
+
+def check_inputs(report, browser):
+    """By one input of several: a colour for each of its values, whatever the other is, told in the legend and kept in the link."""
+    path = report.room / "vehicle.table"
+    table = read_text(path.read_bytes())
+    plant, draws = table.plant, random.Random(7)
+    open_page(report, browser, [path])
+    browser.evaluate("probe.set('input', 1)")
+    legend = "document.querySelector('figure .legend').innerText"
+    browser.wait(f"{legend}.includes('t = 2')")
+    report.expect("the legend of an input", [f"t = {value}" for value in range(-2, 3)], [line for line in browser.evaluate(legend).splitlines() if line.startswith("t = ")])
+    report.holds("the link keeps the input", "&by=input&input=t&" in browser.evaluate("probe.desk().view.link()"))
+    place = browser.evaluate("probe.desk().view.places[2]")
+    cells = [plant.cell_at([draws.randrange(82), draws.randrange(82), place]) for _ in range(400)]
+    cells = [cell for cell in cells if table.rows.get(cell, (None, None))[1] is not None]
+    seen = {}
+    for cell, colour in zip(cells, browser.evaluate(f"probe.colours({cells})")):
+        seen.setdefault(plant.vector(table.rows[cell][1])[1], []).append(tuple(colour))
+    # Where a frame or a line is drawn over a cell it has another colour.
+    usual = {value: max(set(colours), key=colours.count) for value, colours in seen.items()}
+    right = sum(colours.count(usual[value]) for value, colours in seen.items())
+    report.holds("a value of an input has one colour", right >= 0.95 * len(cells) and len(set(usual.values())) == len(usual) >= 3, f"{right} of {len(cells)}, {usual}")
 
 
 def role_of(node):

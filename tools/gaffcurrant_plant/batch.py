@@ -96,14 +96,14 @@ class Batch:
             low, high = numpy.maximum(low, least), numpy.minimum(high, most)
         return low, high
 
-    def sides(self, ends, states=None):
+    def extents(self, ends, states=None):
         """For each state, or for some, the first and the last place of boxes, clipped to the domain, and whether they lie in it."""
-        sides, inside = [], numpy.array(True)
+        extents, inside = [], numpy.array(True)
         for (low, high), i in zip(ends, states or range(len(ends))):
             (_, least, most, width), count = self.plant.states[i], self.plant.counts[i]
             inside = inside & numpy.asarray((low >= least) & (high <= most), dtype=bool)
-            sides.append([numpy.clip((numpy.asarray(end) - least) // width, 0, count - 1).astype(numpy.int64) for end in (low, high)])
-        return sides, inside
+            extents.append([numpy.clip((numpy.asarray(end) - least) // width, 0, count - 1).astype(numpy.int64) for end in (low, high)])
+        return extents, inside
 
     def blocks(self, cells):
         """Arrays of cells as columns, few enough for one block each, with the row of all input vectors."""
@@ -136,8 +136,8 @@ class Batch:
                 else:
                     values[name - wide] = self.numbers(plant.inputs[name - wide][1])[places]
                     numbers = numbers + places * math.prod(sizes[name + 1:])
-            sides, inside = self.sides([self.box(i, lows, values, self.moves[i][numbers])], [i])
-            (met[begin:begin + step] if names else met)[...] = fans(sides) * inside
+            extents, inside = self.extents([self.box(i, lows, values, self.moves[i][numbers])], [i])
+            (met[begin:begin + step] if names else met)[...] = fans(extents) * inside
         return met, names
 
     def first_of(self, plant):
@@ -153,10 +153,10 @@ class Batch:
         return list(zip(zip(*columns[:half]), zip(*columns[half:])))
 
 
-def fans(sides):
+def fans(extents):
     """How many cells meet boxes."""
     total = 1
-    for first, last in sides:
+    for first, last in extents:
         total = total * (last - first + 1)
     return total
 
@@ -202,9 +202,9 @@ class Sums:
         self.flat = padded.reshape(-1)
         self.strides = [int(numpy.prod([count + 1 for count in counts[i + 1:]], dtype=numpy.int64)) for i in range(len(counts))]
 
-    def over(self, sides, i=0, index=0):
+    def over(self, extents, i=0, index=0):
         """The sums over boxes from their first to their last places."""
-        if i == len(sides):
+        if i == len(extents):
             return self.flat[index]
-        first, last = sides[i]
-        return self.over(sides, i + 1, index + (last + 1) * self.strides[i]) - self.over(sides, i + 1, index + first * self.strides[i])
+        first, last = extents[i]
+        return self.over(extents, i + 1, index + (last + 1) * self.strides[i]) - self.over(extents, i + 1, index + first * self.strides[i])

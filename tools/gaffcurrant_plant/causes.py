@@ -63,27 +63,27 @@ class Lost:
         """Works out a block of cells."""
         places, part = self.batch.places(cells), slice(begin, begin + len(cells))
         lows = self.batch.lows(places)
-        sides, inside = self.batch.sides(self.batch.boxes(lows, vectors))
-        for ends, (first, last) in zip(self.ends, sides):
+        extents, inside = self.batch.extents(self.batch.boxes(lows, vectors))
+        for ends, (first, last) in zip(self.ends, extents):
             ends[0, part], ends[1, part] = first, last
-        fan = fans(sides)
-        lost = fan - won.over(sides)
+        fan = fans(extents)
+        lost = fan - won.over(extents)
         self.fan[part], self.lost[part] = numpy.where(inside, fan, 0), numpy.where(inside, lost, 0)
         comes_back = ~self.has[cells] & numpy.array(True)
-        for (first, last), place in zip(sides, places):
+        for (first, last), place in zip(extents, places):
             comes_back = comes_back & (first <= place) & (place <= last)
         if self.table.keeps:
             comes_back = comes_back & (lost == 1)
         stops = numpy.where(comes_back, number_of(ITSELF), LEADS_ON)
-        stops = numpy.where(blocked.over(sides) > 0, number_of(OBSTACLE), stops)
+        stops = numpy.where(blocked.over(extents) > 0, number_of(OBSTACLE), stops)
         self.stops[part] = numpy.where(inside, numpy.where(lost > 0, stops, FREE), number_of(EDGE))
         if not self.table.keeps:
             self.is_still[part] = numpy.any(inside, axis=-1).reshape(-1) & numpy.all(comes_back | ~inside, axis=-1).reshape(-1) & numpy.ones(len(cells), bool)
-        middles, within = self.batch.sides([(middle, middle) for middle in self.batch.middles(lows, vectors)])
+        middles, within = self.batch.extents([(middle, middle) for middle in self.batch.middles(lows, vectors)])
         cell = sum(place * stride for (place, _), stride in zip(middles, self.batch.strides))
         self.promising[part] = within & self.has[cell]
 
-    def sides(self, chosen):
+    def extents(self, chosen):
         """For each state the first and last places of the boxes of chosen pairs, which an index of `stops` gives."""
         return [(ends[0][chosen].astype(numpy.int64), ends[1][chosen].astype(numpy.int64)) for ends in self.ends]
 
@@ -103,12 +103,12 @@ class Lost:
         """Which cells without a row the inputs of some cells may lead to."""
         shape = [count + 1 for count in self.plant.counts]
         rows, vectors = numpy.nonzero(self.lost[ring] > 0)
-        sides = self.sides((ring[rows], vectors))
+        extents = self.extents((ring[rows], vectors))
         paint = numpy.zeros(int(numpy.prod(shape)), dtype=numpy.int64)
         for corner in range(2 ** len(shape)):
             bits = [corner >> i & 1 for i in range(len(shape))]
             index = numpy.zeros(len(rows), dtype=numpy.int64)
-            for bit, (first, last), count in zip(bits, sides, shape):
+            for bit, (first, last), count in zip(bits, extents, shape):
                 index = index * count + (last + 1 if bit else first)
             paint += (-1) ** sum(bits) * numpy.bincount(index, minlength=len(paint))
         paint = paint.reshape(shape)
@@ -156,14 +156,14 @@ class Lost:
         """Those of some lost cells whose boxes, taken together, meet a cell that is marked."""
         if not len(rows):
             return rows
-        sides = [(numpy.min(ends[0][rows], axis=1).astype(numpy.int64), numpy.max(ends[1][rows], axis=1).astype(numpy.int64)) for ends in self.ends]
-        return rows[marks.over(sides) > 0]
+        extents = [(numpy.min(ends[0][rows], axis=1).astype(numpy.int64), numpy.max(ends[1][rows], axis=1).astype(numpy.int64)) for ends in self.ends]
+        return rows[marks.over(extents) > 0]
 
     def total(self, rows, marks):
         """For each of some lost cells how many marked cells the boxes of its inputs meet in all."""
         if not len(rows):
             return numpy.zeros(0, dtype=numpy.int64)
-        return numpy.sum(numpy.where(self.lost[rows] > 0, marks.over(self.sides(rows)), 0), axis=1)
+        return numpy.sum(numpy.where(self.lost[rows] > 0, marks.over(self.extents(rows)), 0), axis=1)
 
 
 class Frontier:
@@ -200,9 +200,9 @@ class Frontier:
         """The numbers of the causes behind the lost successors of pairs: of the nearest ones the most frequent."""
         if not hasattr(self, "found"):
             label, chosen = lost.behind(), numpy.zeros(len(rows), dtype=numpy.int64)
-            sides = lost.sides((rows, vectors))
+            extents = lost.extents((rows, vectors))
             for marks in ([lost.marks(has) for has in lost.causes], [lost.marks(label == number) for number in range(1, len(CAUSES) + 1)]):
-                counts = numpy.stack([mark.over(sides) for mark in marks])
+                counts = numpy.stack([mark.over(extents) for mark in marks])
                 chosen = numpy.where((chosen == 0) & (counts.max(axis=0) > 0), counts.argmax(axis=0) + 1, chosen)
             self.found = chosen
         return self.found
@@ -224,7 +224,7 @@ class Rounds:
             round_number += 1
             marks = Sums(new, self.plant.counts)
             met = lost.touching(standing, marks)
-            left[met] &= marks.over(lost.sides(met)) == 0 if len(met) else True
+            left[met] &= marks.over(lost.extents(met)) == 0 if len(met) else True
             fallen = met[~left[met].any(axis=1)]
             new = numpy.zeros(self.plant.cells, dtype=bool)
             new[lost.cells[fallen]] = True
@@ -242,7 +242,7 @@ class Rounds:
         while self.number[cell]:
             cuts = []
             for vector in numpy.flatnonzero(self.lost.fan[self.lost.at[cell]] > 0):
-                part = tuple(slice(int(first), int(last) + 1) for first, last in self.lost.sides((self.lost.at[cell], vector)))
+                part = tuple(slice(int(first), int(last) + 1) for first, last in self.lost.extents((self.lost.at[cell], vector)))
                 numbers = grid[part]
                 least = numbers[numbers != NEVER].min(initial=numpy.iinfo(numbers.dtype).max)
                 if least <= self.number[cell]:
@@ -266,8 +266,8 @@ class Round:
     def whole(self, box):
         """Which cells lie whole in a box, and in no obstacle."""
         mask, ends = numpy.zeros(self.plant.counts, dtype=bool), zip(box, self.plant.states)
-        sides = [(-((least - max(low, least)) // width), (min(high, most) + 1 - least) // width) for (low, high), (_, least, most, width) in ends]
-        mask[tuple(slice(first, max(first, end)) for first, end in sides)] = True
+        extents = [(-((least - max(low, least)) // width), (min(high, most) + 1 - least) // width) for (low, high), (_, least, most, width) in ends]
+        mask[tuple(slice(first, max(first, end)) for first, end in extents)] = True
         return mask.reshape(-1) & ~self.lost.blocked
 
     def returning(self, goal):
@@ -285,7 +285,7 @@ class Round:
         standing = numpy.flatnonzero(numpy.any(self.lost.fan > 0, axis=1))
         while numpy.any(new):
             met = self.lost.touching(standing, Sums(new, self.plant.counts))
-            inside = Sums(reached, self.plant.counts).over(self.lost.sides(met)) if len(met) else numpy.zeros((0, self.plant.vectors))
+            inside = Sums(reached, self.plant.counts).over(self.lost.extents(met)) if len(met) else numpy.zeros((0, self.plant.vectors))
             found = met[numpy.any((inside == self.lost.fan[met]) & (self.lost.fan[met] > 0), axis=1)]
             led[self.lost.cells[found]] = True
             new = led & ~reached

@@ -22,6 +22,8 @@ PIECES = {1: (8, 7, 6, 5, 4, 3, 2), 2: (31, 24, 16, 10, 6)}
 # where that is so, as long as the boxes become less by a factor. So do polynomials about the middles of the ranges.
 ORDERS, LAST, STEPS = (1, 2, 3), 4, (2, 3, 4)
 WORTH, SIMPLER = Fraction(9, 10), Fraction(19, 20)
+# Boxes on the way that are tried before nothing more is that isn't asked for.
+MOST_TRIALS = 10_000
 # Boxes in which the domain is looked at, and the most input vectors for which it is each time: at first, and again for the planting that is chosen.
 COARSE, FINE = (96, 12), (288, 64)
 
@@ -48,6 +50,7 @@ class Chooser:
     def __init__(self, model):
         self.model, self.best, self.tried = model, None, []
         self.block = Block(model) if model.flows else None
+        self.trials = 0
         # Whether polynomials as they are, and those about the middles of the ranges, are tried.
         self.forms = [False, True]
 
@@ -59,7 +62,7 @@ class Chooser:
             self.take_samplings()
         if not self.best:
             raise self.tried[0][1]
-        if self.best.flow and self.best.is_rest_wide():
+        if self.best.flow and self.best.is_rest_wide() and self.trials <= MOST_TRIALS:
             self.sharpen()
         if self.model.flows or self.best.room.is_nested:
             self.best.tell(self.words_of_best(), [pair for pair in self.tried if pair[1] is not self.best])
@@ -96,9 +99,12 @@ class Chooser:
         """Tries orders in so many steps; another planting is kept where its boxes are less than the best one's by a factor."""
         bound = box_size(self.best) * worth if self.best else None
         for order in orders:
+            if self.best and self.trials > MOST_TRIALS:
+                return
             words = f"order {order}" + (f" in {steps} steps" if steps > 1 else "")
             try:
                 flow = flow_of(self.model, order, steps, self.block)
+                self.trials += flow.trials
             except Failure as failure:
                 self.tried.append((words, failure))
                 continue

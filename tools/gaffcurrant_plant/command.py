@@ -72,8 +72,8 @@ def need(what, *modules):
 
 def is_there(module):
     """Whether a module can be loaded; matplotlib, which makes a folder for its settings when it is, has to be found alone."""
-    if module == "matplotlib":
-        return importlib.util.find_spec(module) is not None
+    if module == "matplotlib" or not importlib.util.find_spec(module):
+        return bool(importlib.util.find_spec(module))
     try:
         importlib.import_module(module)
     except ImportError:
@@ -109,27 +109,25 @@ class Progress:
 
     def put(self, said, now):
         self.told, self.is_shown = now, True
-        print(f"\r{self.name}: {said}\033[K", end="", file=sys.stderr, flush=True)
+        print(f"\r{self.name}: {said} \033[K", end="", file=sys.stderr, flush=True)
 
     @contextmanager
     def during(self, what):
-        """Says for how long something goes on that can't say how far it is."""
+        """Says for how long something goes on that can't say how far it is; what is a text, or gives one."""
         ended = threading.Event()
 
         def watch():
             while not ended.wait(0.5):
-                now = time.monotonic()
-                if now - self.begun > 2:
-                    self.put(f"{what}, {now - self.begun:.0f} s so far", now)
+                self.say(what() if callable(what) else what)
 
         watcher = threading.Thread(target=watch, daemon=True)
-        if self.is_on:
+        if self.is_on or self.has_lines:
             watcher.start()
         try:
             yield
         finally:
             ended.set()
-            if self.is_on:
+            if watcher.is_alive():
                 watcher.join()
             self.end()
 

@@ -151,6 +151,9 @@ def unit_for(interval, fineness=20000):
     size = max(abs(interval[0]), abs(interval[1]), interval[1] - interval[0])
     if not size:
         return Fraction(1)
+    if not Fraction(1, 10 ** 280) < size < 10 ** 280:
+        # Past what doubles have.
+        return Fraction(10) ** math.floor(math.log10(size.numerator) - math.log10(size.denominator) - math.log10(fineness))
     return Fraction(10) ** math.floor(math.log10(float(size) / fineness))
 
 

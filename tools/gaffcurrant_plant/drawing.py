@@ -209,7 +209,7 @@ class Course:
         ranges = [view.range(place) if period else None for place, period in enumerate(periods)]
         samples, points, self.ends = list(zip(*self.places)), [], []
         for number, sample in enumerate(samples):
-            if number:
+            if number and any(periods):
                 for crossing in crossings(samples[number - 1], sample, periods, ranges):
                     points += [crossing[0], (NAN,) * len(sample), crossing[1]]
             self.ends.append(len(points))

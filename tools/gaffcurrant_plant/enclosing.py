@@ -218,8 +218,8 @@ class Looked:
     neighbours, and alone where these together may touch something. kinds: for each pair the number of what it may touch in `patterns`, whose first
     is nothing, or UNKNOWN; a pattern tells of each wall, and behind them whether no enclosure was found."""
 
-    def __init__(self, model, plant, has_bounds=True, tell=lambda: None):
-        self.model, self.plant, self.tell = model, plant, tell
+    def __init__(self, model, plant, has_bounds=True):
+        self.model, self.plant = model, plant
         self.ways, self.walls = Ways(model), Walls(model, has_bounds)
         self.counts = self.ways.substeps(plant)
         self.kinds = numpy.full((plant.vectors, plant.cells), UNKNOWN, dtype=numpy.int32)
@@ -228,8 +228,8 @@ class Looked:
         self.low, self.high, self.width = (numpy.array([state[k] for state in plant.states]).reshape(-1, 1) for k in (1, 2, 3))
 
     def touch(self, won, inputs, turn=0):
-        """The Touch of rows: for each cell whether it has one, and its input."""
-        cells = numpy.flatnonzero(won[:self.plant.cells])
+        """The Touch of rows: for each cell whether it has one, and its input, below 0 where nothing is applied."""
+        cells = numpy.flatnonzero(won & (inputs >= 0))
         vectors = inputs[cells]
         for vector in range(self.plant.vectors):
             mine = cells[vectors == vector]
@@ -276,7 +276,6 @@ class Looked:
             part = slice(begin, begin + COLUMNS)
             lows, highs = self.low + firsts[:, part] * self.width, self.low + (lasts[:, part] + 1) * self.width - 1
             self.enclose(lows, highs, inputs, count, found[:, part])
-            self.tell()
         return found
 
     def enclose(self, lows, highs, inputs, count, found):

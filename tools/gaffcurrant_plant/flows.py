@@ -33,7 +33,8 @@ class Flow:
 
     def __init__(self, model, maths, order, count, block, boxes):
         self.model, self.maths, self.order, self.count, self.block = model, maths, order, count, block
-        self.time, self.found = model.sample / count, {}
+        # How often a box was tried, by which the cost is known.
+        self.time, self.found, self.trials = model.sample / count, {}, 0
         self.names = [state[0] for state in model.states]
         self.sides = model.flows
         middles = {name: number((low + high) / 2) for name, low, high in model.noises}
@@ -169,6 +170,7 @@ class Flow:
         whole, end = maths.between(0, time), maths.number(time)
         for _ in range(MOST_TRIALS):
             known = {}
+            self.trials += 1
             slopes = {name: self.value(name, side, box, known) for name, side in zip(self.names, self.sides)}
             after = {name: area[name] + whole * slope for name, slope in slopes.items()}
             if all(box[name].a <= one.a and one.b <= box[name].b for name, one in after.items()):

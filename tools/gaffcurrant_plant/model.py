@@ -14,7 +14,6 @@ from .polynomial import Fault, number_of
 from .reader import MOST, NAME, NO_NAMES, VALUES
 from .refused import Failure
 
-
 # Parts of a cell where the unit is chosen by itself: an odd number of which a decimal width has decimal parts.
 FINENESS = 125
 

@@ -18,12 +18,15 @@ LINES = {
         "Makes a plant of version 1, in which functions become `min` and `max` of straight lines. Without this line "
         "the plant is of version 2: functions become `lut`, and boxes lie within the spans over a cell."
     ),
-    "denominator D": "The coefficients become whole numbers over D. Without this line a power of ten is chosen.",
+    "denominator D": (
+        "The coefficients become whole numbers over D. Without this line a power of ten is chosen, and polynomials are "
+        "written about the middles of the ranges if that makes the boxes smaller."
+    ),
     "pieces N": "Each function has N straight pieces, 2 to 31. Without this line it has as many as fit.",
     "sample T": "The sampling time of lines `A` or `d`.",
     "order K": (
-        "The order of the Taylor polynomials of lines `d`, 1 to 3. Without this line it is the one that gives the "
-        "smallest boxes."
+        "The order of the Taylor polynomials of lines `d`, 1 to 4. Without this line it is the one that gives the "
+        "smallest boxes (1 with `min`, `max`, `abs` or `lut` of what varies within a sample)."
     ),
     "steps N": (
         "A sample of lines `d` is N Taylor polynomials, one after the other, 1 to 8. Without this line it is as many "
@@ -55,9 +58,15 @@ LINES = {
     "unit NAME WORD": "The name of a state's or an input's unit, such as m/s, for pictures (may be left out).",
     "next NAME = EXPRESSION": (
         "The next value, one line for each state, with + - * / ^ (powers by numbers), sin cos tan asin acos atan sinh "
-        "cosh tanh sqrt exp log abs, min(a, b), max(a, b), atan2(y, x) and pi."
+        "cosh tanh sqrt exp log abs, min(a, b), max(a, b), atan2(y, x) and pi. `lut(a, x0, y0, x1, y1, ..)` is a curve as "
+        "it was measured, by 2 to 32 points with rising x: straight from point to point, and beyond them the first or the "
+        "last y."
     ),
-    "d NAME = EXPRESSION": "The same as a differential equation, instead of the `next` lines.",
+    "d NAME = EXPRESSION": (
+        "The same as a differential equation, instead of the `next` lines. Equations that are linear, with numbers and "
+        "parameters as weights of the states, and that name no state with another kind of equation, are sampled exactly, "
+        "as lines `A` are."
+    ),
     "target LO HI ..": "A box, LO <= x < HI for each state.",
     "obstacle LO HI ..": "The same. In both, `*` instead of LO HI stands for any value of a state.",
     "obstacle SUM < SUM": (
@@ -85,10 +94,12 @@ noise.
 
 Of functions the noise bounds what their straight pieces leave out. A function of one input alone is taken at the
 input's values, so that this is next to nothing. Of differential equations the noise bounds what the Taylor polynomial
-leaves out, by interval arithmetic over a box that holds the states on the way.""",
+leaves out, by interval arithmetic over a box that holds the states on the way. Of a linear one it bounds only the
+model's noises. Comments in the plant say which order, steps and form were chosen, and what else was tried with which
+noise.""",
     "What it needs": """\
-Functions and lines `d` need mpmath (Debian: apt-get install python3-mpmath), `between` needs numpy. Status 0: the
-plant was written; 1: the model can't be read or scaled; 2: wrong arguments.""",
+Functions and lines `d` need mpmath (Debian: apt-get install python3-mpmath), but for lines `d` that are all linear.
+`between` needs numpy. Status 0: the plant was written; 1: the model can't be read or scaled; 2: wrong arguments.""",
 }
 
 PAGE = """\

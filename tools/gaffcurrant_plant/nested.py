@@ -70,7 +70,7 @@ class Nested(Scaled):
 
     def factor(self, name, polynomial, denominator):
         """The Inner of a variable times a polynomial."""
-        finer = self.finer_for(name, polynomial)
+        finer = 1 if all((scale * denominator).denominator == 1 for scale in polynomial.values()) else self.finer_for(name, polynomial)
         inner = self.nest(polynomial, denominator * finer)
         more = tuple(end / finer for end in inner.more)
         if finer > 1:

@@ -193,14 +193,14 @@ class Plant:
         """The states in which a box leaves the domain, as their numbers."""
         return [i for i, (_, first, last, _) in enumerate(self.states) if low[i] < first or high[i] > last]
 
-    def sides(self, low, high):
-        """The first and the last place of a box in the domain, in each state."""
+    def extents(self, low, high):
+        """The first and the last index of a box in the domain, in each state."""
         return [((low[i] - first) // width, (high[i] - first) // width)
                 for i, (_, first, _, width) in enumerate(self.states)]
 
     def fan(self, low, high):
         """How many cells meet a box in the domain."""
-        return math.prod(last - first + 1 for first, last in self.sides(low, high))
+        return math.prod(last - first + 1 for first, last in self.extents(low, high))
 
     def successors(self, cell, vector):
         """The cells that meet the box of a pair, in rising order; none where it leaves the domain."""
@@ -208,7 +208,7 @@ class Plant:
         if self.leaves(low, high):
             return []
         cells = [0]
-        for (first, last), count in zip(self.sides(low, high), self.counts):
+        for (first, last), count in zip(self.extents(low, high), self.counts):
             cells = [cell * count + place for cell in cells for place in range(first, last + 1)]
         return cells
 

@@ -152,7 +152,7 @@ class Planting:
         return "\n".join(lines + [f"goal {model.goal}", "end", ""])
 
     def sampling_said(self):
-        """The comments on how differential equations are sampled, and on the form of polynomials."""
+        """The comments on how differential equations are sampled."""
         model, lines = self.model, []
         if self.flow:
             steps = f", in {self.flow.count} steps" if self.flow.count > 1 else ""
@@ -160,7 +160,12 @@ class Planting:
         linear = [state[0] for state in model.states if self.block and state[0] in self.block]
         if linear:
             lines.append(f"# sampled with {said(model.sample)} exactly: the linear equation{'s' * (len(linear) > 1)} of {', '.join(linear)}")
-        nested = [state[0] for state, equation in zip(model.states, self.scaled) if isinstance(equation, Nested)]
+        return lines
+
+    def denominators_said(self):
+        """The comments on the denominators of the equations."""
+        nested = [f"{state[0]} over {equation.denominator}" for state, equation in zip(self.model.states, self.scaled) if isinstance(equation, Nested)]
+        lines = [f"# coefficients are whole numbers over {self.denominator}"] if len(nested) < len(self.scaled) else []
         return lines + [f"# polynomials about the middles of the ranges: {', '.join(nested)}"] * bool(nested)
 
     def tell(self, chosen, tried):
@@ -206,8 +211,7 @@ class Planting:
         lines += [f"{unit_said(model, name, unit)}: {'a whole number by itself' if name in model.exact else LIES}" for name, *_, unit in model.states]
         lines += [unit_said(model, name, unit) for name, unit, _ in model.inputs]
         lines += [f"# a measured value may be a rounding beside, up to {said(BESIDE)} of a unit"] * any(name not in model.exact for name, *_ in model.states)
-        lines.append(f"# coefficients are whole numbers over {self.denominator}")
-        lines += self.sampling_said()
+        lines += self.denominators_said() + self.sampling_said()
         kinds = {self.room.variables[name].kind for name in self.room.curves.values()}
         if "listed" in kinds:
             lines.append("# functions of one input alone are taken at its listed values")

@@ -14,19 +14,19 @@ class Boxes:
 
     def __init__(self, batch, vector):
         plant, wide = batch.plant, len(batch.plant.counts)
-        values, self.sides, self.inside = [column[vector] for column in batch.values], [], numpy.array(True)
+        values, self.extents, self.inside = [column[vector] for column in batch.values], [], numpy.array(True)
         for i in range(wide):
             lows = [low + numpy.arange(count if j in plant.uses[i] else 1).reshape([-1 if k == j else 1 for k in range(wide)]) * width
                     for j, ((_, low, _, width), count) in enumerate(zip(plant.states, plant.counts))]
-            (side,), inside = batch.sides([batch.box(i, lows, values, batch.moves[i][vector])], [i])
+            (extent,), inside = batch.extents([batch.box(i, lows, values, batch.moves[i][vector])], [i])
             kind = numpy.int16 if max(plant.counts) < 2 ** 15 else numpy.int32
-            self.sides.append([numpy.broadcast_to(end, numpy.broadcast_shapes(end.shape, (1,) * wide)).astype(kind) for end in side])
+            self.extents.append([numpy.broadcast_to(end, numpy.broadcast_shapes(end.shape, (1,) * wide)).astype(kind) for end in extent])
             self.inside = self.inside & inside
 
     def back(self, counts):
         """Where a box holds its own cell."""
         own = numpy.array(True)
-        for i, ((first, last), count) in enumerate(zip(self.sides, counts)):
+        for i, ((first, last), count) in enumerate(zip(self.extents, counts)):
             place = numpy.arange(count).reshape([-1 if k == i else 1 for k in range(len(counts))])
             own = own & (first <= place) & (place <= last)
         return own
@@ -34,7 +34,7 @@ class Boxes:
     def within(self, other):
         """Where its boxes lie within those of another vector."""
         held = self.inside
-        for (first, last), (least, most) in zip(self.sides, other.sides):
+        for (first, last), (least, most) in zip(self.extents, other.extents):
             held = held & (least <= first) & (last <= most)
         return held
 
@@ -80,7 +80,7 @@ def dominated(boxes, wanted, left):
 def does_at(boxes, vector, other, cells):
     """Whether the boxes of another vector lie within at some cells."""
     return all(numpy.all(at(first, cells) <= at(start, cells)) and numpy.all(at(end, cells) <= at(last, cells))
-               for (first, last), (start, end) in zip(boxes[vector].sides, boxes[other].sides))
+               for (first, last), (start, end) in zip(boxes[vector].extents, boxes[other].extents))
 
 
 def at(array, cells):

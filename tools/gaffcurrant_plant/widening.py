@@ -4,7 +4,6 @@ ways, widens by a layer of cells where ways touch, and begins again. Needs numpy
 import math
 from collections import Counter
 
-from .arrays import Turns
 from .command import Progress, Trouble
 from .doubles import need_numpy, numpy
 from .enclosing import Looked
@@ -108,16 +107,16 @@ class Layers:
 def text_between(planting, word, has_bounds, progress=None):
     """The plant text whose table keeps the ways off the model's obstacles, and in its domain where that is asked for."""
     need_numpy()
-    found, faults, looks = [], [], Looks(planting, word, has_bounds, progress or Progress("scale", has_lines=True))
-    for number, choice in enumerate(CHOICES, 1):
-        looks.choice = number
-        try:
-            found.append(Widened(looks, *choice))
-        except Trouble as trouble:
-            faults.append(trouble)
-        if found and found[0].rounds == 0:
-            break
-    looks.progress.end()
+    found, faults, looks = [], [], Looks(planting, word, has_bounds)
+    with (progress or Progress("scale", has_lines=True)).during(looks.said):
+        for number, choice in enumerate(CHOICES, 1):
+            looks.choice = number
+            try:
+                found.append(Widened(looks, *choice))
+            except Trouble as trouble:
+                faults.append(trouble)
+            if found and found[0].rounds == 0:
+                break
     if not found:
         raise faults[0]
     return max(found, key=lambda one: one.rows).text
@@ -132,26 +131,29 @@ class Look:
 
 
 class Looks:
-    """Looks at plants, at each once, since several choices begin alike, and tells how far that is."""
+    """Looks at plants, at each once, since several choices begin alike. choice: the number of the choice that is tried; last: the Look before."""
 
-    def __init__(self, planting, word, has_bounds, progress):
+    def __init__(self, planting, word, has_bounds):
         self.planting, self.model, self.word, self.has_bounds = planting, planting.model, word, has_bounds
-        self.known, self.choice = {}, 1
-        self.progress = progress
-        self.ways = Looked(self.model, planting.plant, has_bounds, lambda: self.progress.say(f"{self.said}; enclosing ways"))
-        self.said = "between: the plant as it is"
+        self.known, self.choice, self.last = {}, 1, None
+        self.ways = Looked(self.model, planting.plant, has_bounds)
+
+    def said(self):
+        """How far it is."""
+        if self.last is None:
+            return "between: solving the plant as it is, and enclosing its ways"
+        return f"between: way {self.choice} of {len(CHOICES)} to widen obstacles, plant {len(self.known) + 1}; the one before has {self.last.rows} rows, and the ways " \
+               f"of {self.last.walls.shape[1]} may touch"
 
     def at(self, text):
         """The Look at a plant text."""
         if text not in self.known:
-            self.progress.say(f"{self.said}; solving")
             self.known[text] = self.look(text)
-        look = self.known[text]
-        self.said = f"between: way {self.choice} of {len(CHOICES)} to widen obstacles, {len(self.known)} plants solved; the last has {look.rows} rows, of which the ways " \
-                    f"of {look.walls.shape[1]} may touch"
-        return look
+        self.last = self.known[text]
+        return self.last
 
     def look(self, text):
+        from .arrays import Turns
         try:
             turns = Turns(written(self.word, text, 2))
             turns = [turns.cells(turn) for turn in range(turns.count)]

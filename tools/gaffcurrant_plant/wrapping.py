@@ -41,10 +41,10 @@ def inner_of(node, low, size):
 
 
 def is_saw(points, low, size):
-    """Whether points are those of teeth that each rise over a turn from the lowest number to the highest."""
+    """Whether points are those of two teeth or more that each rise over a turn from the lowest number to the highest. One alone holds values at its ends."""
     first = points[0][0]
     teeth = [point for begin in range(first, first + size * (len(points) // 2), size) for point in ((begin, low), (begin + size - 1, low + size - 1))]
-    return (first - low) % size == 0 and list(points) == teeth
+    return len(teeth) > 2 and (first - low) % size == 0 and list(points) == teeth
 
 
 def has_quotient(value, taken, low, size):

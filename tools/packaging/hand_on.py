@@ -1,10 +1,12 @@
-"""Installs the proved program, the C library and the tools, takes them away, and makes archives of them. ./gaffcurrant calls it, with what it made:
+"""Installs the proved program, the C library and the tools, takes them away, and makes archives of them. ./gaffcurrant
+calls it, with what it made:
 
-    hand_on.py install PREFIX --made FOLDER --verdicts FILE      puts them below PREFIX, or below $DESTDIR/PREFIX
-    hand_on.py uninstall PREFIX                                  takes away what the list there names
-    hand_on.py archive FOLDER --made FOLDER --verdicts FILE      makes an archive for each processor, their sums, and the page PROOF
+    hand_on.py install PREFIX --made FOLDER --verdicts FILE    puts them below PREFIX, or below $DESTDIR/PREFIX
+    hand_on.py uninstall PREFIX                                takes away what the list there names
+    hand_on.py archive FOLDER --made FOLDER --verdicts FILE    makes an archive for each processor, sums, and the page PROOF
 
-FOLDER/PROCESSOR of --made holds the program, the library and what the proofs said; the file of --verdicts, the lines of the crates in the current folder."""
+FOLDER/PROCESSOR of --made holds the program, the library and what the proofs said; the file of --verdicts, the lines of
+the crates in the current folder."""
 
 import argparse
 import hashlib
@@ -33,7 +35,8 @@ def below_destdir(prefix):
 
 
 def install(top, entries):
-    """Puts a tree below a folder, in the place of one that was put there before, with a list of its files and of the folders that were made for them."""
+    """Puts a tree below a folder, in the place of one that was put there before, with a list of its files and of the
+    folders that were made for them."""
     if (top / tree.LIST).is_file():
         uninstall(top)
     taken = [name for name in [*entries, tree.LIST] if os.path.lexists(top / name)]
@@ -47,7 +50,8 @@ def install(top, entries):
 
 
 def uninstall(top):
-    """Takes away what the list names: files, what Python compiled of them, and the folders that were made for them, where these are then empty."""
+    """Takes away what the list names: files, what Python compiled of them, and the folders that were made for them, where
+    these are then empty."""
     try:
         names = (top / tree.LIST).read_text().splitlines()
     except FileNotFoundError:
@@ -82,10 +86,12 @@ def archive(folder, entries, name, time):
         top = Path(room) / name
         top.mkdir()
         tree.write(entries, top)
-        pack = ["tar", "--create", "--format=gnu", "--sort=name", f"--mtime={time}", "--owner=0", "--group=0", "--numeric-owner", "--mode=u=rwX,go=rX", name]
+        pack = ["tar", "--create", "--format=gnu", "--sort=name", f"--mtime={time}", "--owner=0", "--group=0",
+                "--numeric-owner", "--mode=u=rwX,go=rX", name]
+        press = ["xz", "--threads=1", "-9", "--check=crc64"]
         with open(folder / f"{name}.tar.xz", "wb") as file:
             packed = subprocess.Popen(pack, cwd=room, stdout=subprocess.PIPE, env=os.environ | {"LC_ALL": "C"})
-            pressed = subprocess.run(["xz", "--threads=1", "-9", "--check=crc64"], stdin=packed.stdout, stdout=file, check=False)
+            pressed = subprocess.run(press, stdin=packed.stdout, stdout=file, check=False)
             packed.stdout.close()
             if packed.wait() or pressed.returncode:
                 raise Trouble(f"{name}.tar.xz couldn't be written")
@@ -101,7 +107,8 @@ def archives(folder, made, known, page):
         names.append(f"{name}.tar.xz")
     (folder / "PROOF").write_text(page)
     names.append("PROOF")
-    (folder / SUMS).write_text("".join(f"{hashlib.sha256((folder / name).read_bytes()).hexdigest()}  {name}\n" for name in names))
+    sums = [f"{hashlib.sha256((folder / name).read_bytes()).hexdigest()}  {name}\n" for name in names]
+    (folder / SUMS).write_text("".join(sums))
     return [*names, SUMS]
 
 

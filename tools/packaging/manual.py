@@ -2,9 +2,18 @@
 
 import re
 
+# What stands between a name and what it is.
+DASH = "\\-"
+# Signs of which troff would make others; the backslash is the first, as the others get one.
+SIGNS = {"\\": "\\e", "-": DASH, "`": "\\(ga", "'": "\\(aq", "^": "\\(ha", "~": "\\(ti"}
+ABOUT = "synthesises table controllers for plants; the program is proved"
+PROVED = ("The program was proved before it was built; docs/CLAIM.md says what of it is proved.", "It has these forms.")
+INCLUDE = "#include <gaffcurrant.h>"
+
 
 class Pages:
-    """Pages of one version, for the programs gaffcurrant-NAME by their names: each method answers them as texts by their files' names."""
+    """Pages of one version, for the programs gaffcurrant-NAME by their names: each method answers them as texts by their
+    files' names."""
 
     def __init__(self, version, date, programs):
         self.version, self.date = version, date
@@ -13,21 +22,27 @@ class Pages:
     def title(self, name, section):
         return f'.TH {plain(name.upper())} {section} "{self.date}" "gaffcurrant {self.version}" "Gaffcurrant"'
 
+    @staticmethod
+    def head(name, about):
+        return [".SH NAME", f"{plain(name)} {DASH} {plain(lowered(about))}", ".SH SYNOPSIS"]
+
     def of_installed(self, text):
         """A text that names programs of the repository names those that are installed."""
-        return re.sub(rf"\btools/({'|'.join(self.programs)})\b", r"gaffcurrant-\1", text).replace("./gaffcurrant", "gaffcurrant")
+        named = re.sub(rf"\btools/({'|'.join(self.programs)})\b", r"gaffcurrant-\1", text)
+        return named.replace("./gaffcurrant", "gaffcurrant")
 
     def launcher(self, forms):
         """The page of the program, by its forms."""
         head, *rest = forms.rstrip("\n").split("\n")
         pairs = [re.split(r" {2,}", line.strip(), maxsplit=1) for line in rest if line.startswith("  ")]
-        lines = [self.title("gaffcurrant", 1), ".SH NAME", f"gaffcurrant {DASH} synthesises table controllers for plants; the program is proved", ".SH SYNOPSIS"]
+        lines = [self.title("gaffcurrant", 1), ".SH NAME", f"gaffcurrant {DASH} {ABOUT}", ".SH SYNOPSIS"]
         lines += separated([plain(form) for form, _ in pairs], ".br")
-        lines += [".SH DESCRIPTION", "The program was proved before it was built; docs/CLAIM.md says what of it is proved.", "It has these forms."]
+        lines += [".SH DESCRIPTION", *PROVED]
         for form, what in pairs:
             lines += [".TP", f".B {plain(form)}", plain(what[0].upper() + what[1:] + ".")]
         lines += [".PP", *(plain(line) for line in rest if not line.startswith("  "))]
-        return {"gaffcurrant.1": joined(lines + see_also([*(f"gaffcurrant-{name}(1)" for name in self.programs), "gaffcurrant(3)"]))}
+        others = [f"gaffcurrant-{name}(1)" for name in self.programs]
+        return {"gaffcurrant.1": joined(lines + see_also([*others, "gaffcurrant(3)"]))}
 
     def tool(self, name, help_text):
         """The page of a program of tools/."""
@@ -36,7 +51,7 @@ class Pages:
         name = f"gaffcurrant-{name}"
         about = " ".join(about.split())
         first, _, more = about.partition(". ")
-        lines = [self.title(name, 1), ".SH NAME", plain(f"{name} ") + DASH + plain(f" {lowered(first.rstrip('.'))}"), ".SH SYNOPSIS", *verbatim(f"gaffcurrant-{usage}")]
+        lines = [self.title(name, 1), *self.head(name, first.rstrip(".")), *verbatim(f"gaffcurrant-{usage}")]
         if more:
             lines += [".SH DESCRIPTION", plain(more)]
         while rest and re.match(r"(positional arguments|options|optional arguments):\n", rest[0]):
@@ -48,31 +63,30 @@ class Pages:
     def library(self, header):
         """A page of the whole header, and one of each call, by the comment that stands before it."""
         whole, *_ = re.match(r"/\* gaffcurrant\.h: (.*?)\*/", header, re.DOTALL).groups()
-        calls = re.findall(r"^/\* ((?:(?!\*/).)*)\*/\n((?:int32_t|void) (gaffcurrant_\w+)\([^;]*\);)", header, re.DOTALL | re.MULTILINE)
+        comment = r"^/\* ((?:(?!\*/).)*)\*/\n"
+        calls = re.findall(rf"{comment}((?:int32_t|void) (gaffcurrant_\w+)\([^;]*\);)", header, re.DOTALL | re.MULTILINE)
         answers = re.findall(r"^#define (GAFFCURRANT_\w+) +(\(?-?\d+\)?) */\* (.*?) \*/$", header, re.MULTILINE)
-        struct = re.search(r"^/\* (A controller: .*?)\*/\n(struct gaffcurrant \{.*?\};)", header, re.DOTALL | re.MULTILINE)
+        (said, struct), = re.findall(rf"{comment}(struct gaffcurrant \{{.*?\}};)", header, re.DOTALL | re.MULTILINE)
         names = [name for *_, name in calls]
         first, *rest = paragraphs(whole)
-        lines = [self.title("gaffcurrant", 3), ".SH NAME", f"gaffcurrant {DASH} {plain(first.rstrip('.'))}", ".SH SYNOPSIS", *verbatim("#include <gaffcurrant.h>"), ".PP",
-                 *verbatim(struct.group(2)), ".PP", *verbatim("\n".join(call for _, call, _ in calls)), ".SH DESCRIPTION", *told(rest + paragraphs(struct.group(1))), ".SH ANSWERS"]
+        lines = [self.title("gaffcurrant", 3), *self.head("gaffcurrant", first.rstrip(".")), *verbatim(INCLUDE), ".PP",
+                 *verbatim(struct), ".PP", *verbatim("\n".join(call for _, call, _ in calls)),
+                 ".SH DESCRIPTION", *told(rest + paragraphs(said)), ".SH ANSWERS"]
         for name, number, what in answers:
             lines += [".TP", f".B {plain(name)} {plain(number.strip('()'))}", plain(what)]
         pages = {"gaffcurrant.3": joined(lines + see_also([f"{name}(3)" for name in names]))}
         for comment, call, name in calls:
             said = paragraphs(comment)
             first = said[0].partition(". ")[0].rstrip(".")
-            pages[f"{name}.3"] = joined([self.title(name, 3), ".SH NAME", f"{plain(name)} {DASH} {plain(lowered(first))}", ".SH SYNOPSIS", *verbatim("#include <gaffcurrant.h>"),
-                                         ".PP", *verbatim(call), ".SH DESCRIPTION", *told(said), *see_also(["gaffcurrant(3)"])])
+            pages[f"{name}.3"] = joined([self.title(name, 3), *self.head(name, first), *verbatim(INCLUDE), ".PP", *verbatim(call),
+                                         ".SH DESCRIPTION", *told(said), *see_also(["gaffcurrant(3)"])])
         return pages
-
-
-# What stands between a name and what it is.
-DASH = "\\-"
 
 
 def plain(text):
     """Text as troff prints it: backslashes, signs that it would make others of, and lines that it would take for its own."""
-    text = text.replace("\\", "\\e").replace("-", "\\-").replace("`", "\\(ga").replace("'", "\\(aq").replace("^", "\\(ha").replace("~", "\\(ti")
+    for sign, name in SIGNS.items():
+        text = text.replace(sign, name)
     return re.sub(r"^(?=\.)", r"\\&", text, flags=re.MULTILINE)
 
 

@@ -30,8 +30,9 @@ Sums (SHA-256) of what was built of the proved crates:
 
 ## Verdicts
 
-The last line that the kit's prover printed of each crate, in `rt ci`, which proves from nothing. `functions` counts those that were proved. A word with
-`=trusted` names what was taken as it was built: the kit's logic, and the libraries below, whose own lines stand here.
+The last line that the kit's prover printed of each crate, in `rt ci`, which proves from nothing. `functions` counts those
+that were proved. A word with `=trusted` names what was taken as it was built: the kit's logic, and the libraries below,
+whose own lines stand here.
 
 {verdicts}
 
@@ -45,26 +46,36 @@ For the processors, whose files stand above:
 {runtime}
 ## What this page rests on
 
-It was written by the program that made the files, on the machine on which the crates were proved. Nothing signs it, and no part of it can be checked
-without the kit. With the kit, `./gaffcurrant --archive FOLDER` in a clone of the commit proves and builds all of it again.
+It was written by the program that made the files, on the machine on which the crates were proved. Nothing signs it, and
+no part of it can be checked without the kit. With the kit, `./gaffcurrant --archive FOLDER` in a clone of the commit makes
+all of it again.
 """
-RUNTIME = """- On ARM64 the C lines that stand in for the kit's own: for the heap (tools/runtime/heap.c), and in the program for its arguments and errno
-  (tools/runtime/arguments.c); Debian's compiler and glibc for ARM64. What threads share is read and written by sequentially consistent steps of the
-  compiler; that the processor orders them so is trusted.
+RUNTIME = """- On ARM64 the C lines that stand in for the kit's own: for the heap (tools/runtime/heap.c), and in the program for
+  its arguments and errno (tools/runtime/arguments.c); Debian's compiler and glibc for ARM64. What threads share is read and
+  written by sequentially consistent steps of the compiler; that the processor orders them so is trusted.
 """
 
 
 def page(about, made, processors, lines):
     """The page of what lies in made/PROCESSOR, with the verdict lines of the crates by their names."""
     names = verdicts.needed(Path(), ROOTS)
-    logs = {processor: [path.read_text() for path in sorted((made / processor).glob("*.log"))] for processor in processors}
-    said = [(processor, line) for processor in processors for log in logs[processor] for line in log.splitlines() if line.startswith("logic=")]
-    logic = re.search(r"^logic \S+: (.*)$", logs[processors[0]][0], re.M)
-    sums = [f"{hashlib.sha256((made / processor / name).read_bytes()).hexdigest()}  {name} ({processor})" for processor in processors for name in FILES]
-    trusted = re.search(r"^## What is trusted\n\n(.*)", (TOP / "docs/CLAIM.md").read_text(), re.M | re.S).group(1).split("\n## ")[0].strip()
-    return PAGE.format(about=about, logic=logic.group(1) if logic else "not told", files=indented(sums), trusted=trusted,
+    logs = [(processor, log.read_text()) for processor in processors for log in sorted((made / processor).glob("*.log"))]
+    built = [f"{processor} {line}" for processor, log in logs for line in log.splitlines() if line.startswith("logic=")]
+    logic = re.search(r"^logic \S+: (.*)$", logs[0][1], re.M)
+    return PAGE.format(about=about, logic=logic.group(1) if logic else "not told", trusted=trusted(), built=indented(built),
+                       files=indented(f"{sum_of(made / processor / name)}  {name} ({processor})" for processor in processors for name in FILES),
                        verdicts=indented(f"{name} {lines.get(name, LACKING)}" for name in names),
-                       built=indented(f"{processor} {line}" for processor, line in said), runtime=RUNTIME if "aarch64" in processors else "")
+                       runtime=RUNTIME if "aarch64" in processors else "")
+
+
+def sum_of(path):
+    return hashlib.sha256(path.read_bytes()).hexdigest()
+
+
+def trusted():
+    """The part of docs/CLAIM.md."""
+    claim = (TOP / "docs/CLAIM.md").read_text()
+    return re.search(r"^## What is trusted\n\n(.*?)(?=^## |\Z)", claim, re.M | re.S).group(1).strip()
 
 
 def indented(lines):

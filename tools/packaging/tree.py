@@ -86,11 +86,11 @@ def commit():
 
 
 def tree_of(made, known, processor, page):
-    """The files and links by their paths. In the folder `made` lie the program and the library for the processor; `known` is the About, and page is what
-    was proved."""
+    """The files and links by their paths. In the folder `made` lie the program and the library for the processor; `known` is
+    the About, and page is what was proved."""
     names = [path.name for path in programs()]
-    return (programs_of(made, known, processor, names) | library_of(made, known) | module() | manual_of(known, names) | completion_of(names)
-            | documents() | {f"{DOCUMENTS}/PROOF": File(page.encode())})
+    return (programs_of(made, known, processor, names) | library_of(made, known) | module() | manual_of(known, names)
+            | completion_of(names) | documents() | {f"{DOCUMENTS}/PROOF": File(page.encode())})
 
 
 def programs_of(made, known, processor, names):
@@ -105,17 +105,25 @@ def programs_of(made, known, processor, names):
 def launcher():
     """The launcher of the program where it is installed, by functions of the repository's."""
     script = (TOP / "gaffcurrant").read_text()
-    said, *others = (re.search(rf"^(?:#.*\n)*{name}\(\) \{{(?:.*\}}$|\n(?:.*\n)*?\}}$)", script, re.M).group() for name in ("forms", "say", "run_program"))
-    said = re.sub(r"^  \./gaffcurrant --(?!help|version).*\n", "", said, flags=re.M).replace("./gaffcurrant", "gaffcurrant")
+    said, *others = (function(script, name) for name in ("forms", "say", "run_program"))
+    said = re.sub(r"^  \./gaffcurrant --(?!help|version).*\n", "", said, flags=re.M)
+    said = said.replace("./gaffcurrant", "gaffcurrant")
     said = re.sub(r"\bdocs/", f"$top/{DOCUMENTS}/docs/", said.replace("<<'FORMS'", "<<FORMS").replace("`", "\\`"))
     return LAUNCHER % "\n\n".join([said, *others])
 
 
+def function(script, name):
+    """A function of a script of bash, with the comment before it."""
+    return re.search(rf"^(?:#.*\n)*{name}\(\) \{{(?:.*\}}$|\n(?:.*\n)*?\}}$)", script, re.M).group()
+
+
 def library_of(made, known):
     name = f"libgaffcurrant.so.{known.version}"
-    return {"lib/libgaffcurrant.a": File((made / "libgaffcurrant.a").read_bytes()), f"lib/{name}": File((made / "libgaffcurrant.so").read_bytes(), 0o755),
+    return {"lib/libgaffcurrant.a": File((made / "libgaffcurrant.a").read_bytes()),
+            f"lib/{name}": File((made / "libgaffcurrant.so").read_bytes(), 0o755),
             f"lib/libgaffcurrant.so.{known.version.split('.')[0]}": Link(name), "lib/libgaffcurrant.so": Link(name),
-            "include/gaffcurrant.h": File((TOP / "include/gaffcurrant.h").read_bytes()), "lib/pkgconfig/gaffcurrant.pc": File((PKG_CONFIG % known.version).encode())}
+            "include/gaffcurrant.h": File((TOP / "include/gaffcurrant.h").read_bytes()),
+            "lib/pkgconfig/gaffcurrant.pc": File((PKG_CONFIG % known.version).encode())}
 
 
 def module():
@@ -136,7 +144,8 @@ def installed_forms():
         script = Path(room) / "bin/gaffcurrant"
         script.parent.mkdir()
         script.write_text(launcher())
-        return subprocess.run(["bash", script, "--help"], capture_output=True, check=True).stderr.decode().replace(f"{room}/{DOCUMENTS}/", "")
+        said = subprocess.run(["bash", script, "--help"], capture_output=True, check=True).stderr.decode()
+        return said.replace(f"{room}/{DOCUMENTS}/", "")
 
 
 def help_of(name):
@@ -146,17 +155,23 @@ def help_of(name):
 
 def completion_of(names):
     commands = ["gaffcurrant", *(f"gaffcurrant-{name}" for name in names)]
-    text = (TOOLS / "packaging/completion.bash").read_text() + f"complete -o default -F _gaffcurrant {' '.join(commands)}\n"
+    script = (TOOLS / "packaging/completion.bash").read_text()
+    script += f"complete -o default -F _gaffcurrant {' '.join(commands)}\n"
     folder = "share/bash-completion/completions"
-    return {f"{folder}/gaffcurrant": File(text.encode())} | {f"{folder}/{name}": Link("gaffcurrant") for name in commands[1:]}
+    links = {f"{folder}/{name}": Link("gaffcurrant") for name in commands[1:]}
+    return {f"{folder}/gaffcurrant": File(script.encode())} | links
 
 
 def documents():
     """The repository's documents and examples; of a clone those that are its own."""
     own = git("ls-files", "-z", *KEPT)
-    paths = own.split("\0")[:-1] if own else [str(path.relative_to(TOP)) for one in KEPT for path in [TOP / one, *(TOP / one).rglob("*")] if path.is_file()]
+    paths = own.split("\0")[:-1] if own else [str(path.relative_to(TOP)) for one in KEPT for path in (TOP / one, *(TOP / one).rglob("*"))]
     paths = [path for path in paths if path not in LEFT and "__pycache__" not in path and (TOP / path).is_file()]
-    return {f"{DOCUMENTS}/{path}": File((TOP / path).read_bytes(), 0o755 if os.access(TOP / path, os.X_OK) else 0o644) for path in sorted(paths)}
+    return {f"{DOCUMENTS}/{path}": document(TOP / path) for path in sorted(paths)}
+
+
+def document(path):
+    return File(path.read_bytes(), 0o755 if os.access(path, os.X_OK) else 0o644)
 
 
 def folders(tree):

@@ -1,8 +1,11 @@
-"""Keeps the verdict line of each crate, as the kit's gate prints it, by a sum of what the verdict is about: the kit, the crate's files, and those of the
-crates below. The gate prints no line of a crate that an earlier run proved, so its line of then is kept here. In a folder with crates.txt:
+"""Keeps the verdict line of each crate, as the kit's gate prints it, by a sum of what the verdict is about: the kit, the
+crate's files, and those of the crates below. The gate prints no line of a crate that an earlier run proved, so its line of
+then is kept here. In a folder with crates.txt:
 
-    rt ci | verdicts.py keep FILE      hands on what `rt ci` prints, and puts the lines of crates whose files haven't changed meanwhile into the file
-    verdicts.py lacking FILE           prints the crates whose line isn't in the file"""
+    rt ci | verdicts.py keep FILE    hands on what `rt ci` prints, and keeps the lines of the crates that it proves in the file
+    verdicts.py lacking FILE         prints the crates whose line isn't in the file
+
+No line is kept of a crate whose files have changed meanwhile."""
 
 import hashlib
 import os
@@ -19,16 +22,18 @@ MOST = 1000
 def kit():
     """The kit's own line, or None where there is none."""
     try:
-        return subprocess.run(["rt", "version"], stdin=subprocess.DEVNULL, capture_output=True, check=False).stdout.decode().strip() or None
+        said = subprocess.run(["rt", "version"], stdin=subprocess.DEVNULL, capture_output=True, check=False)
     except OSError:
         return None
+    return said.stdout.decode().strip() or None
 
 
 def crates(top):
     """The crates of crates.txt, lowest first: each one's line, and the crates that it names."""
     lines = [line for line in (top / "crates.txt").read_text().splitlines() if line.strip() and not line.startswith("#")]
     named = {line.split(":")[0].split()[0]: line for line in lines}
-    return {name: (line, [below for below in line.split(":", 1)[1].split() if below in named]) for name, line in named.items()}
+    below = {name: line.split(":", 1)[1].split() for name, line in named.items()}
+    return {name: (line, [one for one in below[name] if one in named]) for name, line in named.items()}
 
 
 def needed(top, roots):
@@ -67,8 +72,8 @@ def said(log):
 
 def kept(file):
     """The lines of the file, by name and sum."""
-    lines = file.read_text().splitlines() if file.exists() else []
-    return {tuple(line.split(" ", 2)[:2]): line.split(" ", 2)[2] for line in lines if re.fullmatch(r"\w+ [0-9a-f]{64} logic=proved .*", line)}
+    found = re.findall(r"^(\w+) ([0-9a-f]{64}) (logic=proved .*)$", file.read_text() if file.exists() else "", re.M)
+    return {(name, sum_of): line for name, sum_of, line in found}
 
 
 def known(top, file):
@@ -85,11 +90,12 @@ def keep(top, file, log):
         sys.stdout.flush()
         lines.append(line)
     verdicts, after = said("".join(lines)), sums(top)
-    new = {(name, before[name]): verdict for name, verdict in verdicts.items() if name in before and before[name] == after.get(name)}
+    new = {(name, before[name]): verdicts[name] for name in verdicts if name in before and before[name] == after.get(name)}
     if new:
         old = {key: line for key, line in kept(file).items() if key not in new}
+        all_of_them = [f"{name} {of_files} {line}\n" for (name, of_files), line in (old | new).items()]
         written = file.with_name(f"{file.name}.{os.getpid()}")
-        written.write_text("".join(f"{name} {of_files} {line}\n" for (name, of_files), line in list((old | new).items())[-MOST:]))
+        written.write_text("".join(all_of_them[-MOST:]))
         written.replace(file)
 
 
@@ -102,7 +108,8 @@ def main(words):
         sys.stdin.reconfigure(errors="replace")
         keep(top, file, sys.stdin)
         return 0
-    print("\n".join(name for name in crates(top) if name not in known(top, file)), end="")
+    found = known(top, file)
+    print("\n".join(name for name in crates(top) if name not in found), end="")
     return 0
 
 

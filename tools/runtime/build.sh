@@ -12,7 +12,9 @@ use_target() {
     aarch64) cc=${CC:-aarch64-linux-gnu-gcc} ar=${AR:-aarch64-linux-gnu-ar} ;;
     *) echo "${0##*/}: --target takes aarch64 or x86_64" >&2; exit 2 ;;
   esac
-  command -v "$cc" >/dev/null || { echo "${0##*/}: there is no $cc (on Debian: apt-get install gcc-aarch64-linux-gnu)" >&2; exit 70; }
+  command -v "$cc" >/dev/null && return
+  echo "${0##*/}: there is no $cc (on Debian: apt-get install gcc-aarch64-linux-gnu)" >&2
+  exit 70
 }
 
 # The crates that crates.txt names for one.
@@ -28,8 +30,8 @@ build_standing() {
     words+=(--extern "$name=$rlib")
   done
   for name in "$top"/crates/*/out/rlib; do words+=(-L "dependency=$name"); done
-  "$kit/bin/rattle" build --crate-name "$crate" "${words[@]}" --antt-project "$kit/rattle/logic/antt-project.json" --logic-built "$kit/logic_built" \
-    --toolchain "$kit/toolchain" "$@"
+  "$kit/bin/rattle" build --crate-name "$crate" "${words[@]}" --antt-project "$kit/rattle/logic/antt-project.json" \
+    --logic-built "$kit/logic_built" --toolchain "$kit/toolchain" "$@"
 }
 
 # Compiles lines of tools/runtime for the target: compile_runtime NAME OBJECT.

@@ -1,5 +1,5 @@
-/* The heap of what the kit builds for a processor other than x86-64, for which it has no such lines: its contracts of these
-   names (libc/src/heap.rt), over malloc. Trusted: nothing proves these lines. */
+/* The heap of what the kit builds for a processor other than x86-64, for which it has no such lines: its contracts of
+   these names (libc/src/heap.rt), over malloc. Trusted: nothing proves these lines. */
 #include <stdbool.h>
 #include <stddef.h>
 #include <stdlib.h>

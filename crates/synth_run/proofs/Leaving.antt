@@ -21,10 +21,10 @@ pub solved_on : (p : Description) (goal : GoalKind) (solved : SolvedAbstraction)
 solved_on p goal solved same abstraction h = record {
   game = game_of solved.game;
   abstraction = abstraction;
-  of_game = subst (λ (k : GoalKind). IsBoardFor k (game_of solved.game) solved.board) same h.of_game;
+  of_game = subst (λ (k : GoalKind). IsBoardFor k (game_of solved.game) solved.solution.board) same h.of_game;
   at = h.at;
   settled = h.settled;
-  reckoned = subst (λ (k : GoalKind). IsReckonedFor k (game_of solved.game) solved.root.accounts) same h.reckoned;
+  reckoned = subst (λ (k : GoalKind). IsReckonedFor k (game_of solved.game) solved.solution.root.accounts) same h.reckoned;
 }
 
 -- a board and its root that are kept

@@ -10,11 +10,11 @@ function verdictOf(text, turn, cell, vector) {
   const plant = text.plant, box = plant.box(cell, vector);
   const leaves = plant.leaves(box);
   if (leaves.length) return { vector, box, kind: "edge", leaves, obstacles: [], others: [], lost: 0, fan: 0 };
-  const sides = plant.sides(box);
-  const fan = sides.reduce((product, [first, last]) => product * (last - first + 1), 1);
+  const extents = plant.extents(box);
+  const fan = extents.reduce((product, [first, last]) => product * (last - first + 1), 1);
   const verdict = { vector, box, leaves, fan, obstacles: [], others: [], lost: 0, isItself: false, within: 0 };
   let looked = 0;
-  for (const one of plant.cellsOf(sides)) {
+  for (const one of plant.cellsOf(extents)) {
     if (++looked > MOST_SUCCESSORS) break;
     if (text.goesOn(turn, one)) verdict.within = Math.max(verdict.within, text.left(turn, one) + 1);
     else noteLost(verdict, one, cell, text.obstacles[one]);

@@ -45,8 +45,8 @@ function valueColours(plant, i) {
   return new Map(values.map((value, k) => [value, colour(value, k)]));
 }
 
-/** The colours of a plant's input vectors: a few of their own, or shades in the order of their values; where an input is
- * chosen, those of its values. */
+/** The colours of a plant's input vectors: a few of their own, or shades in the order of their values; where an input
+ * is chosen, those of its values. */
 function inputColours(plant, input) {
   if (input >= 0) {
     const known = valueColours(plant, input);

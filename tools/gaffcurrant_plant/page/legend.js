@@ -38,7 +38,8 @@ function inputKeys(text, view) {
 }
 
 function vectorKeys({ plant }, view) {
-  const ordered = orderedInputs(plant), colours = inputColours(plant, -1), name = (k) => inputSaid(plant, view.units, k);
+  const ordered = orderedInputs(plant), colours = inputColours(plant, -1);
+  const name = (k) => inputSaid(plant, view.units, k);
   if (ordered.length > MOST_KEYS) return [barOf(LIGHT_TO_DARK, name(ordered[0]), name(ordered[ordered.length - 1]))];
   return ordered.map((k) => keyOf(colours[k], name(k)));
 }

@@ -98,9 +98,9 @@ class Plant {
   obstacleCells() {
     const cells = new Uint8Array(this.cells);
     for (const box of this.obstacles) {
-      const sides = this.sides(box).map(([first, last], i) => [Math.max(first, 0), Math.min(last, this.counts[i] - 1)]);
-      const [first, last] = sides.pop();
-      for (const base of first <= last ? this.cellsOf(sides) : []) cells.fill(1, base + first, base + last + 1);
+      const extents = this.extents(box).map(([first, last], i) => [Math.max(first, 0), Math.min(last, this.counts[i] - 1)]);
+      const [first, last] = extents.pop();
+      for (const base of first <= last ? this.cellsOf(extents) : []) cells.fill(1, base + first, base + last + 1);
     }
     return cells;
   }
@@ -137,18 +137,18 @@ class Plant {
   }
 
   /** The first and the last place of a box along each state. */
-  sides(box) {
+  extents(box) {
     return box.map(([low, high], i) => [this.placeOf(i, low), this.placeOf(i, high)]);
   }
 
   /** The cells of some places along each state, in rising order. */
-  * cellsOf(sides, i = 0, base = 0) {
-    if (i === sides.length) {
+  * cellsOf(extents, i = 0, base = 0) {
+    if (i === extents.length) {
       yield base;
       return;
     }
-    for (let place = sides[i][0]; place <= sides[i][1]; place++) {
-      yield* this.cellsOf(sides, i + 1, base + place * this.strides[i]);
+    for (let place = extents[i][0]; place <= extents[i][1]; place++) {
+      yield* this.cellsOf(extents, i + 1, base + place * this.strides[i]);
     }
   }
 }

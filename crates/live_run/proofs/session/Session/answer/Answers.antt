@@ -17,7 +17,7 @@ returns-clause-answer c =
     let answered : IsAnswerOf t numbers result = elim c.match-answered.branch [
       | in-Some-answered w ↦ elim c.match-self.branch [
         | in-Some x ↦ rw w.result-is (by_readers x.in-Some.readers s.readers s.count s.table t numbers c.point-point.result x.choice-answered.result w.in-Some-answered.choice
-            c.self.invariant.2 x.in-Some.is c.in_ok-table.ensures.value size c.point-point.ensures x.choice-answered.ensures.answer (sym x.answered-is ∙ w.in-Some-answered.is))
+            c.self.invariant.1 x.in-Some.is c.in_ok-table.ensures.value size c.point-point.ensures x.choice-answered.ensures.answer (sym x.answered-is ∙ w.in-Some-answered.is))
         | in-None x ↦ (let clash : None ≡ Some w.in-Some-answered.choice = sym x.answered-is ∙ w.in-Some-answered.is in absurd (cc))
       ]
       | in-None-answered w ↦ rw w.result-is (by_table t numbers c.point-point.result w.choice.result size c.point-point.ensures (record { chosen = w.choice.ensures.chosen; none = w.choice.ensures.none }))
