@@ -92,9 +92,9 @@ class Equations:
     def are_followed(self, whole: numpy.ndarray, vectors: numpy.ndarray, after: numpy.ndarray) -> numpy.ndarray:
         """Which next states lie in the domain, in a cell of the box of their state's cell, the box being in the domain: what `Controller.follows` says."""
         places = [(row - state[1]) // state[3] for row, state in zip(whole, self.plant.states)]
-        sides, inside = self.batch.sides(self.batch.boxes(self.batch.lows(places), vectors))
+        extents, inside = self.batch.extents(self.batch.boxes(self.batch.lows(places), vectors))
         followed = inside & self.are_inside(after)
-        for (first, last), row, (_, low, _, width) in zip(sides, after, self.plant.states):
+        for (first, last), row, (_, low, _, width) in zip(extents, after, self.plant.states):
             place = (row - low) // width
             followed = followed & (first <= place) & (place <= last)
         return numpy.broadcast_to(followed, vectors.shape)
