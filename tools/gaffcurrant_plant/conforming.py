@@ -1,5 +1,6 @@
-"""Whether measured steps belong to a plant: for each step of a log the least disturbance that explains it by the plant's own equations in whole units, rounding
-and quantising included, and whether the next state lies in the box of the state's cell. Needs numpy."""
+"""Whether measured steps belong to a plant: for each step of a log the least disturbance that explains it by the
+plant's own equations in whole units, rounding and quantising included, and whether the next state lies in the box of
+the state's cell. Needs numpy."""
 
 from __future__ import annotations
 
@@ -23,32 +24,36 @@ SHARES = (Fraction(1), Fraction(999, 1000), Fraction(99, 100))
 
 
 class Equation(NamedTuple):
-    """One equation: value: its value over arrays; ends: the ends of what its noises add beside their being 0, where they are only added, else None, and
-    then span gives the ends of its value over the noises' ranges."""
+    """One equation: value: its value over arrays; ends: the ends of what its noises add beside their being 0, where
+    they are only added, else None, and then span gives the ends of its value over the noises' ranges."""
     value: Callable[[Sequence[Any]], Any]
     ends: Optional[tuple[int, int]]
     span: Callable[[Sequence[Any]], Any]
 
 
 class Equations:
-    """A plant's equations over arrays of states and inputs in whole units, a row for each variable. States that come round are counted on."""
+    """A plant's equations over arrays of states and inputs in whole units, a row for each variable. States that come
+    round are counted on."""
 
     def __init__(self, plant: Plant, units: Units) -> None:
         self.plant, self.batch = plant, Batch(plant)
         nodes = plant.rolled.equations
-        self.equations = [Equation(compiled(node, ARRAY_SHAPES, ROOM), added_noise(node, plant), compiled_span(node, ARRAY_SPANS, ROOM)) for node in nodes]
+        self.equations = [Equation(compiled(node, ARRAY_SHAPES, ROOM), added_noise(node, plant),
+                                   compiled_span(node, ARRAY_SPANS, ROOM)) for node in nodes]
         self.low, self.high = (column([state[k] for state in plant.states]) for k in (1, 2))
-        self.sizes, self.input_sizes = (column([float(units.size(entry[0])) for entry in entries]) for entries in (plant.states, plant.inputs))
+        self.sizes, self.input_sizes = (column([float(units.size(entry[0])) for entry in entries])
+                                        for entries in (plant.states, plant.inputs))
         self.exact = column([state[0] in units.exact for state in plant.states])
         self.periods = plant.periods
         self.values = [numpy.array(sorted(values)) for _, values in plant.inputs]
         self.places = [numpy.array([values.index(value) for value in sorted(values)]) for _, values in plant.inputs]
 
     def whole_states(self, states: numpy.ndarray, near: float = NEAR) -> numpy.ndarray:
-        """The whole numbers of real states, as doubles, those of states that come round within their range; NaN stays. A value this near below a unit counts as
-        in it."""
+        """The whole numbers of real states, as doubles, those of states that come round within their range; NaN stays.
+        A value this near below a unit counts as in it."""
         scaled = states / self.sizes
-        whole = numpy.clip(numpy.where(self.exact, numpy.round(scaled), numpy.floor(scaled + near)), -FARTHEST, FARTHEST)
+        whole = numpy.clip(numpy.where(self.exact, numpy.round(scaled), numpy.floor(scaled + near)), -FARTHEST,
+                           FARTHEST)
         for i, period in enumerate(self.periods):
             if period is not None:
                 whole[i] = self.low[i] + (whole[i] - self.low[i]) % period
@@ -69,15 +74,18 @@ class Equations:
             vectors = vectors * len(values) + places[at]
         return numpy.where(good, vectors, -1)
 
-    def needed(self, whole: numpy.ndarray, inputs: numpy.ndarray, after: numpy.ndarray) -> tuple[numpy.ndarray, numpy.ndarray]:
-        """For each state, a row, what would have to be added to its equation with noises of 0 to give the next state, and by how much that lies beyond what
-        the noises' ranges give: above 0 over them, below 0 under them. Arrays of whole numbers, or of doubles."""
+    def needed(self, whole: numpy.ndarray, inputs: numpy.ndarray, after: numpy.ndarray) -> tuple[numpy.ndarray,
+                                                                                                 numpy.ndarray]:
+        """For each state, a row, what would have to be added to its equation with noises of 0 to give the next state,
+        and by how much that lies beyond what the noises' ranges give: above 0 over them, below 0 under them. Arrays of
+        whole numbers, or of doubles."""
         plant, noises = self.plant, len(self.plant.noises)
         variables = [*whole, *inputs]
         needed, beyond = (numpy.zeros(whole.shape, dtype=whole.dtype) for _ in range(2))
         for i, (equation, period) in enumerate(zip(self.equations, self.periods)):
             base = equation.value(variables + [0] * noises)
-            low, high = equation.ends or (end - base for end in equation.span([(one, one) for one in variables] + [noise[1:] for noise in plant.noises]))
+            low, high = equation.ends or (end - base for end in equation.span([(one, one) for one in variables]
+                                                                              + [noise[1:] for noise in plant.noises]))
             away = after[i] - base
             if period is not None:
                 middle = (low + high) // 2
@@ -90,7 +98,8 @@ class Equations:
         return [equation.ends for equation in self.equations]
 
     def are_followed(self, whole: numpy.ndarray, vectors: numpy.ndarray, after: numpy.ndarray) -> numpy.ndarray:
-        """Which next states lie in the domain, in a cell of the box of their state's cell, the box being in the domain: what `Controller.follows` says."""
+        """Which next states lie in the domain, in a cell of the box of their state's cell, the box being in the domain:
+        what `Controller.follows` says."""
         places = [(row - state[1]) // state[3] for row, state in zip(whole, self.plant.states)]
         extents, inside = self.batch.extents(self.batch.boxes(self.batch.lows(places), vectors))
         followed = inside & self.are_inside(after)
@@ -101,7 +110,8 @@ class Equations:
 
 
 def added_noise(node: tuple, plant: Plant) -> Optional[tuple[int, int]]:
-    """The least and the greatest sum of the noises of an equation that only adds them, each once; None of another one."""
+    """The least and the greatest sum of the noises of an equation that only adds them, each once; None of another
+    one."""
     first = len(plant.states) + len(plant.inputs)
     signs: dict[int, int] = {}
 
@@ -128,11 +138,13 @@ def column(values: Sequence[Any]) -> numpy.ndarray:
 
 
 class Conformity:
-    """What a log says of a plant. steps: the samples with which the judged steps begin; needed and beyond: of each state, a row, in whole units, what its equation
-    leaves unexplained, and how much of it the stated ranges don't explain; explained and followed: for each step; left_out: how many steps aren't judged, by the
-    reason; gaps: the samples behind which some are missing; sample: the log's sampling time."""
+    """What a log says of a plant. steps: the samples with which the judged steps begin; needed and beyond: of each
+    state, a row, in whole units, what its equation leaves unexplained, and how much of it the stated ranges don't
+    explain; explained and followed: for each step; left_out: how many steps aren't judged, by the reason; gaps: the
+    samples behind which some are missing; sample: the log's sampling time."""
 
-    def __init__(self, equations: Equations, log: Log, sample: Optional[float], tell: Callable[[float], None] = lambda share: None) -> None:
+    def __init__(self, equations: Equations, log: Log, sample: Optional[float],
+                 tell: Callable[[float], None] = lambda share: None) -> None:
         self.equations, self.log, self.plant = equations, log, equations.plant
         self.sample, missing = sampling_of(log, sample)
         self.gaps = numpy.flatnonzero(missing)
@@ -142,7 +154,8 @@ class Conformity:
         count = self.steps.size
         self.needed, self.beyond = (numpy.zeros((len(self.plant.states), count), dtype=numpy.int64) for _ in range(2))
         self.followed = numpy.zeros(count, dtype=bool)
-        self.values = numpy.array([self.plant.vector(number) for number in range(self.plant.vectors)], dtype=numpy.int64).reshape(self.plant.vectors, -1).T
+        self.values = numpy.array([self.plant.vector(number) for number in range(self.plant.vectors)],
+                                  dtype=numpy.int64).reshape(self.plant.vectors, -1).T
         for begin in range(0, count, BLOCK):
             tell(begin / count)
             part = slice(begin, begin + BLOCK)
@@ -151,20 +164,22 @@ class Conformity:
         self.explained = ~self.beyond.any(axis=0)
 
     def judged(self, at: numpy.ndarray, whole: numpy.ndarray) -> tuple[numpy.ndarray, numpy.ndarray, numpy.ndarray]:
-        """What the steps from these samples need, how far beyond the ranges that lies, and whether they are followed, by the samples' whole numbers."""
+        """What the steps from these samples need, how far beyond the ranges that lies, and whether they are followed,
+        by the samples' whole numbers."""
         kind, equations = self.equations.batch.kind, self.equations
         before, after = (whole[:, one].astype(numpy.int64).astype(kind) for one in (at, at + 1))
         needed, beyond = equations.needed(before, self.values[:, self.vectors[at]].astype(kind), after)
         return needed, beyond, equations.are_followed(before, self.vectors[at], after)
 
     def judge_again(self) -> None:
-        """A value at the end of a unit may have been measured on either side of it: steps with such values that aren't explained or followed are judged by the other
-        one too, which is that of the quotient in doubles."""
+        """A value at the end of a unit may have been measured on either side of it: steps with such values that aren't
+        explained or followed are judged by the other one too, which is that of the quotient in doubles."""
         poor = numpy.flatnonzero(self.beyond.any(axis=0) | ~self.followed)
         at = self.steps[poor]
         pairs = numpy.stack([at, at + 1], axis=1).ravel()
         other = self.equations.whole_states(self.log.states[:, pairs], 0.0)
-        differs = (other != self.whole[:, pairs]).any(axis=0).reshape(-1, 2).any(axis=1) & self.equations.are_inside(other[:, ::2])
+        differs = (other != self.whole[:, pairs]).any(axis=0).reshape(-1, 2).any(axis=1)
+        differs &= self.equations.are_inside(other[:, ::2])
         if not differs.any():
             return
         whole = numpy.array(self.whole)
@@ -172,7 +187,8 @@ class Conformity:
         needed, beyond, followed = self.judged(at[differs], whole)
         better = followed & ~beyond.any(axis=0)
         chosen = poor[differs][better]
-        self.needed[:, chosen], self.beyond[:, chosen], self.followed[chosen] = needed[:, better], beyond[:, better], True
+        self.needed[:, chosen], self.beyond[:, chosen] = needed[:, better], beyond[:, better]
+        self.followed[chosen] = True
 
     def chosen(self, missing: numpy.ndarray) -> tuple[numpy.ndarray, numpy.ndarray, dict[str, int]]:
         """The steps with all numbers; those of them that are judged; and how many aren't, by the reason."""
@@ -180,7 +196,8 @@ class Conformity:
         has_state = ~numpy.isnan(log.states).any(axis=0)
         has_all = has_state & ~numpy.isnan(log.inputs).any(axis=0)
         steps = numpy.flatnonzero(log.goes_on)
-        reasons = {"samples are missing in between": missing[steps], "a number is missing": ~(has_all[steps] & has_state[steps + 1]),
+        reasons = {"samples are missing in between": missing[steps],
+                   "a number is missing": ~(has_all[steps] & has_state[steps + 1]),
                    "the state lies outside of the ranges": ~equations.are_inside(self.whole)[steps],
                    "an input has none of its values": self.vectors[steps] < 0}
         left_out, left = {}, numpy.ones(steps.size, dtype=bool)
@@ -196,17 +213,20 @@ class Conformity:
         return float(self.explained.mean()) if self.steps.size else 0.0
 
     def stated(self) -> list[tuple[int, int]]:
-        """For each state what its noises may add, in whole units; where they aren't only added, the most that they added at a step."""
+        """For each state what its noises may add, in whole units; where they aren't only added, the most that they
+        added at a step."""
         return [ends or (int((needed - beyond).min(initial=0)), int((needed - beyond).max(initial=0)))
                 for ends, needed, beyond in zip(self.equations.stated(), self.needed, self.beyond)]
 
     def ranges(self, share: Fraction = Fraction(1)) -> list[tuple[int, int]]:
-        """For each state a range, in whole units, of which at least this share of the steps needs a number: as many of them lie below as above."""
+        """For each state a range, in whole units, of which at least this share of the steps needs a number: as many of
+        them lie below as above."""
         left = self.steps.size - -(-self.steps.size * share.numerator // share.denominator)
         return [middle_of(row, left) for row in self.needed]
 
     def worst(self, most: int = 10) -> list[int]:
-        """The steps, as places in `steps`, that lie farthest beyond the ranges beside the cells' widths, at most so many."""
+        """The steps, as places in `steps`, that lie farthest beyond the ranges beside the cells' widths, at most so
+        many."""
         far = (abs(self.beyond) / column([state[3] for state in self.plant.states])).max(axis=0)
         order = numpy.argsort(-far, kind="stable")[:most]
         return [int(at) for at in order if far[at] > 0]
@@ -221,7 +241,8 @@ def middle_of(numbers: numpy.ndarray, left: int) -> tuple[int, int]:
     return int(cut[below]), int(cut[above])
 
 
-def conform(plant: Plant, log: Log, units: Optional[Units] = None, sample: Optional[float] = None, tell: Callable[[float], None] = lambda share: None) -> Conformity:
-    """What a log says of a plant, in these units, its own whole ones where they are left out. sample is the model's sampling time, where it is known. Raises Trouble
-    where the log's samples are otherwise apart."""
+def conform(plant: Plant, log: Log, units: Optional[Units] = None, sample: Optional[float] = None,
+            tell: Callable[[float], None] = lambda share: None) -> Conformity:
+    """What a log says of a plant, in these units, its own whole ones where they are left out. sample is the model's
+    sampling time, where it is known. Raises Trouble where the log's samples are otherwise apart."""
     return Conformity(Equations(plant, units or plant.units), log, sample, tell)

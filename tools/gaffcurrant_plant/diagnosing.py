@@ -1,5 +1,5 @@
-"""What may be wrong with a log whose steps a plant's equations don't explain: each usual mistake is taken away in turn, and told where the steps are explained
-clearly better without it. Needs numpy."""
+"""What may be wrong with a log whose steps a plant's equations don't explain: each usual mistake is taken away in turn,
+and told where the steps are explained clearly better without it. Needs numpy."""
 
 from __future__ import annotations
 
@@ -12,7 +12,8 @@ from .conforming import Conformity, column
 
 # Steps that are looked at, at most; and for few or many input vectors of a sample that is missing.
 LOOKED, VECTORS = 6000, 32
-# A mistake is told where without it at most this share of the unexplained steps is left, and so much of all steps, and so many, are explained that weren't.
+# A mistake is told where without it at most this share of the unexplained steps is left, and so much of all steps, and
+# so many, are explained that weren't.
 LEFT, GAINED, FEWEST = 0.5, 0.01, 5
 # What explains nearly as much as the best is told too.
 BESIDE = 0.005
@@ -31,7 +32,8 @@ Moved = Callable[[float], "tuple[numpy.ndarray, numpy.ndarray, numpy.ndarray]"]
 
 
 class Cause(NamedTuple):
-    """What explains more: in words; the share of the looked-at steps that is explained with it, and that without; how many steps were looked at."""
+    """What explains more: in words; the share of the looked-at steps that is explained with it, and that without; how
+    many steps were looked at."""
     said: str
     share: float
     before: float
@@ -45,14 +47,19 @@ class Looked:
         self.equations, log = conformity.equations, conformity.log
         self.at, self.states, self.after, self.inputs = at, log.states[:, at], log.states[:, at + 1], log.inputs[:, at]
 
-    def beyond(self, states: numpy.ndarray, inputs: numpy.ndarray, after: numpy.ndarray) -> tuple[numpy.ndarray, numpy.ndarray]:
-        """What would have to be added to the equations, and how far that lies beyond the ranges, in whole units as doubles."""
+    def beyond(self, states: numpy.ndarray, inputs: numpy.ndarray, after: numpy.ndarray) -> tuple[numpy.ndarray,
+                                                                                                  numpy.ndarray]:
+        """What would have to be added to the equations, and how far that lies beyond the ranges, in whole units as
+        doubles."""
         equations = self.equations
         with numpy.errstate(all="ignore"):
-            return equations.needed(equations.whole_states(states), inputs / equations.input_sizes, equations.whole_states(after))
+            return equations.needed(equations.whole_states(states), inputs / equations.input_sizes,
+                                    equations.whole_states(after))
 
-    def are_explained(self, states: numpy.ndarray, acting: numpy.ndarray, after: numpy.ndarray, inputs: Optional[numpy.ndarray] = None) -> numpy.ndarray:
-        """Which steps the equations explain from states in the domain, under inputs that may act otherwise than they are given."""
+    def are_explained(self, states: numpy.ndarray, acting: numpy.ndarray, after: numpy.ndarray,
+                      inputs: Optional[numpy.ndarray] = None) -> numpy.ndarray:
+        """Which steps the equations explain from states in the domain, under inputs that may act otherwise than they
+        are given."""
         equations = self.equations
         listed = equations.vectors(acting if inputs is None else inputs) >= 0
         _, beyond = self.beyond(states, acting, after)
@@ -78,7 +85,8 @@ class Diagnosis:
         """What explains clearly more, the best first: of those that explain nearly as much the simplest stand first."""
         if self.explained.all():
             return []
-        found = [cause for kind in (self.signs, self.factors, self.late, self.gains, self.offsets) for cause in kind() if self.is_clear(cause)]
+        found = [cause for kind in (self.signs, self.factors, self.late, self.gains, self.offsets)
+                 for cause in kind() if self.is_clear(cause)]
         best = max((cause.share for cause in found), default=0.0)
         return [cause for cause in found if cause.share >= best - BESIDE]
 
@@ -99,7 +107,8 @@ class Diagnosis:
 
     def factors(self) -> Iterator[Cause]:
         for factor in (one for pair in FACTORS for one in (pair, 1 / pair)):
-            said = f"{short_number(factor)} times as large" if factor > 1 else f"{short_number(1 / factor)} times as small"
+            many = short_number(max(factor, 1 / factor))
+            said = f"{many} times as {'large' if factor > 1 else 'small'}"
             for name, scaled in self.scalings(factor):
                 yield self.cause(f"{name} {said} in the log as in the model: other units", scaled)
 
@@ -130,11 +139,14 @@ class Diagnosis:
         runs = log.run_numbers()
         for samples in LATE if self.input_names else ():
             others = numpy.clip(looked.at - samples, 0, log.lines.size - 1)
-            among = (others == looked.at - samples) & (runs[others] == runs[looked.at]) & ~numpy.isnan(log.inputs[:, others]).any(axis=0)
+            among = (others == looked.at
+                     - samples) & (runs[others] == runs[looked.at]) & ~numpy.isnan(log.inputs[:, others]).any(axis=0)
             if among.any():
-                explained = looked.are_explained(looked.states[:, among], log.inputs[:, others[among]], looked.after[:, among])
+                explained = looked.are_explained(looked.states[:, among], log.inputs[:, others[among]],
+                                                 looked.after[:, among])
                 count = "one sample" if abs(samples) == 1 else f"{samples} samples"
-                yield self.cause(f"inputs that act {count} {'late' if samples > 0 else 'before they are logged'}", explained, among)
+                yield self.cause(f"inputs that act {count} {'late' if samples > 0 else 'before they are logged'}",
+                                 explained, among)
 
     # Gains and offsets
 
@@ -151,16 +163,23 @@ class Diagnosis:
             size = float(self.units.size(name))
             offset, explained = self.best(self.measured(i), 0.0, width * size)
             if explained is not None and abs(offset) > size / 2:
-                yield self.cause(f"{name} that is measured about {offset_said(offset)}{self.units.word(name)} too {'high' if offset > 0 else 'low'}", explained)
+                way = "high" if offset > 0 else "low"
+                yield self.cause(f"{name} that is measured about {self.offset_said(name, offset)} too {way}", explained)
         for k, name in enumerate(self.input_names):
             offset, explained = self.best(self.acting(k, 1.0), 0.0, float(self.units.size(name)))
             if explained is not None and offset:
-                yield self.cause(f"{name} that acts about {offset_said(offset)}{self.units.word(name)} {'above' if offset > 0 else 'below'} what is logged", explained)
+                way = "above" if offset > 0 else "below"
+                said = f"{name} that acts about {self.offset_said(name, offset)} {way} what is logged"
+                yield self.cause(said, explained)
+
+    def offset_said(self, name: str, value: float) -> str:
+        return f"{abs(value):.3g}{self.units.word(name)}"
 
     def acting(self, k: int, more: float) -> Moved:
         """The steps with an input multiplied by a number, or with it added."""
         looked = self.looked
-        return lambda value: (looked.states, raised(looked.inputs, k, value, 1.0) if more else raised(looked.inputs, k, 0.0, value), looked.after)
+        return lambda value: (looked.states, raised(looked.inputs, k, value, 1.0) if more
+                              else raised(looked.inputs, k, 0.0, value), looked.after)
 
     def measured(self, i: int) -> Moved:
         """The steps with a number taken from a state."""
@@ -168,7 +187,8 @@ class Diagnosis:
         return lambda value: (raised(looked.states, i, -value), looked.inputs, raised(looked.after, i, -value))
 
     def best(self, moved: Moved, start: float, step: float) -> tuple[float, Optional[numpy.ndarray]]:
-        """The number with which most steps are explained, near what least squares give, and which these are; None where the equations don't depend on it."""
+        """The number with which most steps are explained, near what least squares give, and which these are; None where
+        the equations don't depend on it."""
         fitted = self.fitted(moved, start, step)
         if fitted is None:
             return start, None
@@ -180,11 +200,13 @@ class Diagnosis:
         return near[middle], tried[middle]
 
     def fitted(self, moved: Moved, start: float, step: float) -> Optional[float]:
-        """The number by which what has to be added to the equations comes nearest to the middles of the noises' ranges, by least squares over the steps that lie
-        within thrice the usual distance; None where the equations don't depend on it."""
+        """The number by which what has to be added to the equations comes nearest to the middles of the noises' ranges,
+        by least squares over the steps that lie within thrice the usual distance; None where the equations don't depend
+        on it."""
         value, weights = start, 1 / (self.halves + 1)
         for _ in range(ROUNDS):
-            here, there = (((self.looked.beyond(*moved(value + more))[0] - self.middles) * weights) for more in (0.0, step))
+            here, there = (((self.looked.beyond(*moved(value + more))[0] - self.middles) * weights)
+                           for more in (0.0, step))
             slope = (there - here) / step
             near = abs(here) <= 3 * numpy.median(abs(here)) + 3
             slope, here = slope[near & numpy.isfinite(slope)], here[near & numpy.isfinite(slope)]
@@ -207,7 +229,8 @@ class Diagnosis:
         bad = bad[~wrapped]
         skipped = self.skips(bad)
         if skipped.any() and skipped.mean() >= LEFT:
-            said.append(f"samples that are missing: {count_said(skipped.sum())} fit two samples instead of one, {self.lines_said(bad[skipped])}")
+            said.append(f"samples that are missing: {count_said(skipped.sum())} fit two samples instead of one, "
+                        f"{self.lines_said(bad[skipped])}")
             bad = bad[~skipped]
         return said + self.jumps(bad)
 
@@ -221,16 +244,18 @@ class Diagnosis:
                 first, last = conformity.stated()[i]
                 away = numpy.abs(conformity.needed[i, bad]) - turn / size
                 # A turn isn't a whole number of units.
-                over = others & ~done & (away > min(first, -last) - 2) & (away < max(last, -first) + 2) & (turn / size > 4 * (last - first + 2))
+                near = (away > min(first, -last) - 2) & (away < max(last, -first) + 2)
+                over = others & ~done & near & (turn / size > 4 * (last - first + 2))
                 if over.any():
                     done |= over
-                    said.append(f"an angle that wraps: at {count_said(over.sum())} {name} is a turn of {short_number(turn)} on, {self.lines_said(bad[over])}; unwrap it, "
-                                f"or give the model a line `wrap {name}`")
+                    said.append(f"an angle that wraps: at {count_said(over.sum())} {name} is a turn of "
+                                f"{short_number(turn)} on, {self.lines_said(bad[over])}; unwrap it, or give the model "
+                                f"a line `wrap {name}`")
         return done, said
 
     def skips(self, bad: numpy.ndarray) -> numpy.ndarray:
-        """Which of the first unexplained steps are explained by two samples, under the step's input and then any other one, and lie farther beyond the ranges than
-        these samples' noises reach."""
+        """Which of the first unexplained steps are explained by two samples, under the step's input and then any other
+        one, and lie farther beyond the ranges than these samples' noises reach."""
         done = numpy.zeros(bad.size, dtype=bool)
         some = bad[:LOOKED]
         if not some.size:
@@ -243,9 +268,11 @@ class Diagnosis:
             for number in range(self.plant.vectors) if self.plant.vectors <= VECTORS else ():
                 second = inputs * 0 + column(self.plant.vector(number)).reshape(-1, 1)
                 away = abs(equations.needed(middle, second, after)[0] - self.middles)
-                reach = self.halves + 1 + sum(abs(equations.needed(middle + move, second, after)[0] - equations.needed(middle, second, after)[0])
+                reach = self.halves + 1 + sum(abs(equations.needed(middle + move, second, after)[0]
+                                                  - equations.needed(middle, second, after)[0])
                                               for move in numpy.diag((self.halves + 1).ravel())[:, :, None])
-                done[:some.size] |= (away <= reach).all(axis=0) & (abs(self.conformity.beyond[:, some]) > reach).any(axis=0)
+                is_far = (abs(self.conformity.beyond[:, some]) > reach).any(axis=0)
+                done[:some.size] |= (away <= reach).all(axis=0) & is_far
         return done
 
     def jumps(self, bad: numpy.ndarray) -> list[str]:
@@ -257,7 +284,8 @@ class Diagnosis:
             far = beyond > FAR * (last - first + 1) + width
             if far.any() and far.sum() <= max(2, judged // 50) and far.sum() >= LEFT * numpy.count_nonzero(beyond):
                 size = self.units.size_said(name, int(beyond.max()))
-                said.append(f"a state that jumps: {name} at {count_said(far.sum())}, by up to {size} beyond its range, {self.lines_said(bad[far])}")
+                said.append(f"a state that jumps: {name} at {count_said(far.sum())}, by up to {size} beyond its range, "
+                            f"{self.lines_said(bad[far])}")
         return said
 
     def lines_said(self, steps: numpy.ndarray) -> str:
@@ -277,18 +305,16 @@ def short_number(value: float) -> str:
     return f"{value:.4g}"
 
 
-def offset_said(value: float) -> str:
-    return f"{abs(value):.3g}"
-
-
 def count_said(count: int) -> str:
     return f"{count} step{'s' * (count != 1)}"
 
 
 def diagnosed(conformity: Conformity) -> list[str]:
     """What may be wrong with a log, in words, the likeliest first: only what explains clearly more steps."""
-    if not conformity.candidates.size or conformity.explained.all() and conformity.steps.size == conformity.candidates.size:
+    are_judged = conformity.steps.size == conformity.candidates.size
+    if not conformity.candidates.size or are_judged and conformity.explained.all():
         return []
     diagnosis = Diagnosis(conformity)
-    causes = [f"{cause.said}: that would explain {cause.share:.1%} of the steps, and {cause.before:.1%} are" for cause in diagnosis.causes()]
+    causes = [f"{cause.said}: that would explain {cause.share:.1%} of the steps, and {cause.before:.1%} are"
+              for cause in diagnosis.causes()]
     return causes or diagnosis.events()

@@ -1,4 +1,5 @@
-"""What a table, a stay text or a patrol text promises, beside a log: where a row's input was applied, the next state has a row, and the rank falls. Needs numpy."""
+"""What a table, a stay text or a patrol text promises, beside a log: where a row's input was applied, the next state
+has a row, and the rank falls. Needs numpy."""
 
 from __future__ import annotations
 
@@ -11,8 +12,8 @@ from .real import Rows
 
 
 class Promises(NamedTuple):
-    """Of the judged steps of a Conformity: applied: at which the row's input was applied; broken: at which it was, and the next state has no row, or its rank hasn't
-    fallen as it is promised."""
+    """Of the judged steps of a Conformity: applied: at which the row's input was applied; broken: at which it was, and
+    the next state has no row, or its rank hasn't fallen as it is promised."""
     applied: numpy.ndarray
     broken: numpy.ndarray
 
@@ -25,7 +26,8 @@ def promises_of(conformity: Conformity, text: Any, turn: int = 0) -> Promises:
     turns = turns_of(conformity, rows, cells, turn) if rows.kind == "patrol" else numpy.zeros(cells.size, dtype=int)
     here, there = cells[steps], cells[steps + 1]
     now, then = turns[steps], turns[steps + 1]
-    applied = rows.won[now, here] & (rows.inputs[now, here] == conformity.vectors[steps]) & (conformity.vectors[steps] >= 0)
+    applied = rows.won[now, here] & (rows.inputs[now,
+                                                 here] == conformity.vectors[steps]) & (conformity.vectors[steps] >= 0)
     good = rows.won[then, there]
     if not rows.keeps:
         falls = rows.ranks[then, there] <= numpy.maximum(rows.ranks[now, here] - 1, 0)
@@ -34,7 +36,8 @@ def promises_of(conformity: Conformity, text: Any, turn: int = 0) -> Promises:
 
 
 def turns_of(conformity: Conformity, rows: Rows, cells: numpy.ndarray, turn: int) -> numpy.ndarray:
-    """The turn at each sample: the next one begins where a sample behind a run's first lies in an arrival of the turn."""
+    """The turn at each sample: the next one begins where a sample behind a run's first lies in an arrival of the
+    turn."""
     count = len(rows.won)
     arrivals = [numpy.flatnonzero(goals[cells]) for goals in rows.goals]
     turns = numpy.zeros(cells.size, dtype=int)

@@ -27,7 +27,8 @@ NOTE = "# found by tools/conform"
 
 
 class Ranges:
-    """For the name of a noise its ends as they are to be written; added: new ones, by the state whose equation has it."""
+    """For the name of a noise its ends as they are to be written; added: new ones, by the state whose equation has
+    it."""
 
     def __init__(self) -> None:
         self.noises: dict[str, tuple[Fraction, Fraction]] = {}
@@ -48,8 +49,9 @@ def up(value: Fraction) -> Fraction:
 
 
 def with_ranges(data: bytes, conformity: Conformity) -> str:
-    """The text of a model, or of a plant, in which the noises' ranges are as wide as all steps of a log need; where an equation has no noise that is only added,
-    it gets one. Ranges aren't made narrower: a log shows only what has happened. Raises Trouble where that explains not all of the steps."""
+    """The text of a model, or of a plant, in which the noises' ranges are as wide as all steps of a log need; where an
+    equation has no noise that is only added, it gets one. Ranges aren't made narrower: a log shows only what has
+    happened. Raises Trouble where that explains not all of the steps."""
     text, units = data.decode("utf-8", "replace"), conformity.plant.units
     edited = PlantText(text) if is_plant(text) else ModelText(text)
     left, found = ~conformity.explained, conformity
@@ -70,14 +72,16 @@ def with_ranges(data: bytes, conformity: Conformity) -> str:
 
 
 def is_plant(text: str) -> bool:
-    return next((line.split()[0] for line in text.splitlines() if line.strip() and not line.lstrip().startswith("#")), "") == "plant"
+    return next((line.split()[0] for line in text.splitlines() if line.strip() and not line.lstrip().startswith("#")),
+                "") == "plant"
 
 
 def with_steps(conformity: Conformity, chosen: numpy.ndarray) -> Log:
     """A log of some of the judged steps alone."""
     log, at = conformity.log, conformity.steps[chosen]
     pairs = numpy.stack([at, at + 1], axis=1).ravel()
-    return Log(log.states[:, pairs], log.inputs[:, pairs], None, log.lines[pairs], numpy.arange(pairs.size) % 2 == 0, log.path)
+    return Log(log.states[:, pairs], log.inputs[:, pairs], None, log.lines[pairs], numpy.arange(pairs.size) % 2 == 0,
+               log.path)
 
 
 class Edited:
@@ -127,7 +131,8 @@ class Edited:
         return [bare + comment]
 
     def new_lines(self) -> list[str]:
-        return [f"noise {name} {' '.join(map(decimal, self.ranges.noises[name]))}  {NOTE}" for name in self.ranges.added.values()]
+        return [f"noise {name} {' '.join(map(decimal, self.ranges.noises[name]))}  {NOTE}"
+                for name in self.ranges.added.values()]
 
 
 class ModelText(Edited):
@@ -151,13 +156,16 @@ class ModelText(Edited):
             least, most = self.rows[i]
             self.rows[i] = [-up(-(least + low * unit)), up(most + high * unit)]
             return
-        noise, weight = self.noise_of(i) or (self.ranges.added.get(name) or self.fresh(name, self.model.names()), Fraction(1))
+        noise, weight = self.noise_of(i) or (self.ranges.added.get(name) or self.fresh(name, self.model.names()),
+                                             Fraction(1))
         ends = sorted(end * unit / self.time / weight for end in (low, high))
-        self.ranges.noises.setdefault(noise, next((entry[1:] for entry in self.model.noises if entry[0] == noise), (Fraction(0), Fraction(0))))
+        self.ranges.noises.setdefault(noise, next((entry[1:] for entry in self.model.noises if entry[0] == noise),
+                                                  (Fraction(0), Fraction(0))))
         self.ranges.widen(noise, *ends)
 
     def noise_of(self, i: int) -> Optional[tuple[str, Fraction]]:
-        """The noise that a state's equation only adds, the one of the greatest weight, and its weight; None where it adds none."""
+        """The noise that a state's equation only adds, the one of the greatest weight, and its weight; None where it
+        adds none."""
         weights = {noise[0]: self.weight_of(i, noise[0]) for noise in self.model.noises}
         name = max(weights, key=lambda one: abs(weights[one] or 0), default=None)
         weight = weights.get(name) if name else None
@@ -168,7 +176,8 @@ class ModelText(Edited):
         model, draws, slopes = self.model, random.Random(1), []
         side = (model.flows or model.equations)[i]
         for _ in range(9):
-            values = {one: float(low + (high - low) * Fraction(draws.random())) for one, low, high, *_ in model.states + model.noises}
+            values = {one: float(low + (high - low) * Fraction(draws.random())) for one, low, high,
+                      *_ in model.states + model.noises}
             values |= {one: float(draws.choice(choices)) for one, _, choices in model.inputs}
             low, high = (sided(side, values | {name: values[name] + more}) for more in (0.0, 1.0))
             slopes.append(high - low)
@@ -213,7 +222,8 @@ class PlantText(Edited):
             raise Trouble(f"the equation of {name}, which comes round, has no noise to widen; give --model the model")
         alone = [one for one in own if is_added(plant, i, before + [noise[0] for noise in plant.noises].index(one))]
         noise = alone[0] if alone else self.ranges.added.get(name) or self.fresh(name, plant.names())
-        self.ranges.noises.setdefault(noise, next(((Fraction(low), Fraction(high)) for one, low, high in plant.noises if one == noise), (Fraction(0), Fraction(0))))
+        self.ranges.noises.setdefault(noise, next(((Fraction(low), Fraction(high)) for one, low,
+                                                   high in plant.noises if one == noise), (Fraction(0), Fraction(0))))
         least, most = self.ranges.noises[noise]
         self.ranges.noises[noise] = least + low, most + high
 
