@@ -77,7 +77,7 @@ def check_friction(report, guide):
         print("skipped: numpy isn't there (apt-get install python3-numpy), so the guide's log isn't compared with its plant")
         return
     rail, real, wider, log, tables = report.top / "examples/rail", report.room / "friction.model", report.room / "wider.model", report.room / "friction.csv", []
-    section = guide[guide.index("## From measurements to disturbances"):guide.index("## Change the table while it runs")]
+    section = guide[guide.index("## From measurements to disturbances"):guide.index("## What is promised")]
     model, table = (rail / "rail.model").read_text(), report.room / "first.table"
     table.write_bytes(report.table_text("rail"))
     real.write_text(model.replace("d v = u - 0.3*v", re.search(r"^    (d v = .*)$", section, re.M).group(1)))
