@@ -115,6 +115,15 @@ def check_hand(report):
         report.expect(f"beyond the range of {equation}", wanted, found.beyond[0].tolist())
 
 
+    for equation, wanted in (("x + u + w", [0, 1, -1, 0]), ("x + u - w", [0, 2, 0, 0])):
+        text = HAND.replace("noise w -1 1", "noise w -1 2").replace("x + u + w", equation)
+        found = conform(read_plant(text.encode()), log_by_hand())
+        report.expect(f"a noise from -1 to 2 in {equation}", wanted, found.beyond[0].tolist())
+    # From 50 to 59 under 3 the box is 52 to 64, in the cells from 50 and from 60.
+    found = conform(plant, log_of([[50], [70], [50], [49], [50], [69]], [[3]] * 6, begins=(0, 2, 4)))
+    report.expect("which steps are followed", [False, False, True], found.followed.tolist())
+
+
 def check_events(report):
     """States that come round, wraps that the model lacks, jumps, and samples that are missing without times."""
     draws = random.Random(2)
@@ -133,6 +142,8 @@ def check_events(report):
     found = conform(plants["wrap h\n"], log_of(wrapped, inputs))
     report.expect("an angle that comes round", (0, 0, []),
                   (int((~found.explained).sum()), int((~found.followed).sum()), diagnosed(found)))
+    found = conform(plants["wrap h\n"], log_of([[angle] for angle in angles], inputs))
+    report.expect("an angle that is counted on", (0, {}), (int((~found.explained).sum()), found.left_out))
     said = diagnosed(conform(plants[""], log_of(wrapped, inputs)))
     crossings = sum(abs(one[0] - other[0]) > 180 for one, other in zip(wrapped, wrapped[1:]))
     report.holds("an angle that wraps is named", len(said) == 1
