@@ -32,6 +32,7 @@ def check(report):
     if report.has_mpmath():
         check_sweep(report, guide)
         check_rail(report, guide)
+        check_friction(report, guide)
         pendulum = re.search(r"```\n(version 2.*?)```", guide, re.DOTALL).group(1)
         report.expect("the guide's pendulum is scaled", (0, ""), report.tool("scale", "-", data=pendulum.encode())[::2])
     for expression, moves in (("e + (u - e) * 2 / 5", 7), ("(3 * e + 2 * u) / 5", 3)):
@@ -68,6 +69,43 @@ def check_rail(report, guide):
     if importlib.util.find_spec("numpy"):
         output = report.tool("why", "--deep", report.room / "rail.table", "1", "0.1", "--model", report.room / "rail.model")[1]
         report.holds("tools/why --deep of the guide's carriage", "what is won: 20;" in output and "  15: the input may come back to the cell itself" in output, output)
+
+
+def check_friction(report, guide):
+    """The guide's log of a plant with a friction that its model lacks: the table that breaks its promise, the ranges, and the table that holds."""
+    if not importlib.util.find_spec("numpy"):
+        print("skipped: numpy isn't there (apt-get install python3-numpy), so the guide's log isn't compared with its plant")
+        return
+    rail, real, wider, log, tables = report.top / "examples/rail", report.room / "friction.model", report.room / "wider.model", report.room / "friction.csv", []
+    section = guide[guide.index("## From measurements to disturbances"):guide.index("## What is promised")]
+    model, table = (rail / "rail.model").read_text(), report.room / "first.table"
+    table.write_bytes(report.table_text("rail"))
+    real.write_text(model.replace("d v = u - 0.3*v", re.search(r"^    (d v = .*)$", section, re.M).group(1)))
+    report.holds("the guide's friction is in its model", real.read_text() != model)
+    report.tool("sim", "--real", real, table, "--runs", "40", "--log", log)
+    report.expect("the guide's log is that of its simulation", (rail / "friction.csv").read_text(), log.read_text())
+    words = re.search(r"^    tools/conform (.*)$", section, re.M).group(1).split()
+    report.expect("the guide's words", ["examples/rail/friction.csv", "--model", "examples/rail/rail.model", "--table", "rail.table", "--write", "wider.model"], words)
+    status, output, error = report.tool("conform", log, "--model", rail / "rail.model", "--table", table, "--write", wider)
+    said = " ".join(section.split())
+    broken, steps = re.search(r"at (\d+) of (\d+) steps: the rank doesn't fall", said).groups()
+    needed = re.search(r"a noise of (-\d+ to \d+) units of p and (-\d+ to \d+) of v", said).groups()
+    report.expect("conform of the guide's log", (1, ""), (status, error))
+    for line in (f"at {broken} of these the next state has no row", "of them 0 are explained or followed", f"{steps} of them judged"):
+        report.holds(f"conform of the guide's log says `{line}`", line in output, output)
+    report.expect("what the guide's log needs", list(needed), [row[1] for row in (re.split(r"  +", line)[1:] for line in output.splitlines() if re.match("[pv] ", line))])
+    for line in re.findall(r"`(noise e_v \S+ \S+)`", section):
+        report.holds(f"the wider model has `{line}`", line in wider.read_text() and "d v = u - 0.3*v + e_v" in wider.read_text(), wider.read_text())
+    for name, path in (("rail.model", rail / "rail.model"), ("wider.model", wider)):
+        plant, text = report.room / "of.plant", report.room / "of.table"
+        plant.write_text(report.scaled(path))
+        text.write_bytes(report.run(("synth", "1"), plant.read_bytes())[1])
+        explained = re.search(r"ranges: (\d+) of", report.tool("conform", log, "--model", path)[1]).group(1)
+        runs = re.match(r"2000 runs, \d+ samples: (\d+) violations", report.tool("sim", "--real", real, text)[1]).group(1)
+        solved_table = read_table(text.read_bytes())
+        noises = ", ".join(f"{low} to {high}" for _, low, high in solved_table.plant.noises)
+        tables.append((name, noises, explained, f"{len(solved_table.rows):,}", str(max(rank for rank, _ in solved_table.rows.values())), runs))
+    report.expect("the guide's tables with and without the friction", tables, re.findall(r"^\| `(\w+.model)` \| (.*) \| (\d+) \| ([0-9,]+) \| (\d+) \| (\d+) \|$", section, re.M))
 
 
 # What stands in for ROS 2: a node that keeps what it publishes, and whose timer and subscription are called by hand.

@@ -144,7 +144,7 @@ def check_arrays(report):
 
 def check_block(report, table):
     """The lines of docs/PYTHON.md about arrays, each with what its comment says."""
-    block = re.search(r"```python\n(.*?)```", (report.top / "docs/PYTHON.md").read_text(), re.S).group(1)
+    block, logs = re.findall(r"```python\n(.*?)```", (report.top / "docs/PYTHON.md").read_text(), re.S)
     names, said = {"table": table, "simulate": simulate}, []
     lines = block.replace('"examples/', f'"{report.top}/examples/')
     exec(lines, names)
@@ -154,6 +154,10 @@ def check_block(report, table):
             said.append((comment.strip(), eval(asked, names)))
     report.expect("comments beside lines about arrays", ["array([ 1, -1])", "[[-20], [--]]"], [comment for comment, _ in said])
     report.expect("lines about arrays", ["array([ 1, -1])", "[[-20] [--]]"], [repr(said[0][1]), str(said[1][1]).replace("\n", "")])
+    exec(logs, names)
+    said = [(comment.strip(), repr(eval(asked, names))) for asked, _, comment in (line.partition("#") for line in logs.splitlines()) if comment]
+    report.expect("comments beside lines about logs", [comment for comment, _ in said], [value for _, value in said])
+    report.expect("lines about logs", 5, len(said))
     report.expect("a run as arrays has its names", 5, len([names["run"].times, names["run"].states, names["run"].ranks, names["run"].inputs, names["run"].turns]))
 
 

@@ -66,8 +66,38 @@ class Outcome:
         self.first, self.trace, self.touch = None, [], None
 
 
+class Record:
+    """What a data logger writes of runs: each sample's time, state and applied input, and the state behind the last one. parts: of each sample the runs, the states,
+    the numbers of the input vectors, and the states behind it."""
+
+    def __init__(self, real, vectors):
+        self.real, self.vectors, self.parts = real, vectors, []
+
+    def lines(self):
+        """The lines of a log: a heading, and run by run a line for each sample, runs apart by a blank line."""
+        model = self.real.model
+        yield ",".join(["time", *self.real.names, *self.real.input_names])
+        if not self.parts:
+            return
+        runs, states, inputs = (numpy.concatenate([part[k] for part in self.parts], axis=-1) for k in range(3))
+        times = numpy.repeat(range(len(self.parts)), [part[0].size for part in self.parts])
+        ends = {run: state for part in self.parts for run, state in zip(part[0].tolist(), part[3].T.tolist())}
+        order, sample, run = numpy.lexsort((times, runs)), float(model.sample or 1), None
+        for at in order.tolist():
+            if run is not None and runs[at] != run:
+                yield from (fields(time + sample, ends[run], ["-"] * len(self.vectors)), "")
+            run, time = int(runs[at]), times[at] * sample
+            yield fields(time, states[:, at].tolist(), self.vectors[:, inputs[at]].tolist())
+        yield fields(time + sample, ends[run], ["-"] * len(self.vectors))
+
+
+def fields(time, state, inputs):
+    """A line of a log."""
+    return ",".join(one if isinstance(one, str) else repr(float(one)).removesuffix(".0") for one in [float(f"{time:.12g}"), *state, *inputs])
+
+
 class Loop:
-    """Runs of the closed loop."""
+    """Runs of the closed loop. record: where the samples are kept, if they are to be."""
 
     def __init__(self, model, text, runs, seed):
         self.real, self.rows, self.outcome = RealPlant(model), Rows(text), Outcome(runs)
@@ -80,7 +110,7 @@ class Loop:
         self.turns = numpy.arange(runs) // (len(STARTS) * len(PUSHES)) % len(self.rows.won)
         self.begins, self.pushes = Starts(self.real, self.rows, self.exact, draws), Pushes(self.real, runs, draws)
         self.has_touched, self.has_left, self.has_broken = numpy.zeros((3, runs), dtype=bool)
-        self.history = []
+        self.history, self.record = [], None
 
     def measured(self, states):
         """The whole numbers that a device finds in doubles: those of the units that the values lie in; of an exact state the nearest. Those of a state
@@ -107,7 +137,9 @@ class Loop:
             if not runs.size or time == samples:
                 break
             self.outcome.samples += runs.size
-            states = self.moved(time, runs, states, inputs)
+            before, states = states, self.moved(time, runs, states, inputs)
+            if self.record:
+                self.record.parts.append((runs, before, inputs, states))
             cells = self.rows.cell_of(self.measured(states))
             go_on = self.follows(time + 1, runs, states, ranks, cells)
             runs, states, cells = runs[go_on], states[:, go_on], cells[go_on]
@@ -176,11 +208,11 @@ class Loop:
         return samples + [(time, None, state.tolist(), None, None)]
 
 
-def real_runs(model, text, runs=2000, samples=None, seed=1, state=None, turn=None):
+def real_runs(model, text, runs=2000, samples=None, seed=1, state=None, turn=None, log=None):
     """The Outcome of so many runs of a model's own equations by a Table, a Stay or a Patrol, in doubles. model is a Model, or its text; text may be str or
     bytes too; samples is the most of a run, as many as the ranks ask for where it is left out; state is the first state of all runs in the model's units,
-    and turn the turn of a patrol with which they all begin, where else they begin with all turns. Raises Trouble where the text is of another model, and
-    Refused where it is none."""
+    and turn the turn of a patrol with which they all begin, where else they begin with all turns; log is a file, open for text, for a log of the runs.
+    Raises Trouble where the text is of another model, and Refused where it is none."""
     if not isinstance(model, Model):
         model = read_model(bytes_of(model))
     if isinstance(text, (str, bytes, bytearray)):
@@ -194,7 +226,11 @@ def real_runs(model, text, runs=2000, samples=None, seed=1, state=None, turn=Non
             raise Trouble(f"there are {len(loop.rows.won)} turns, from 0; {turn} is none", 2)
         loop.turns[:] = turn
     first = None if state is None else column(state) + numpy.zeros((1, runs))
-    return loop.drive(first, loop.rows.longest() if samples is None else samples)
+    loop.record = Record(loop.real, loop.vectors) if log else None
+    outcome = loop.drive(first, loop.rows.longest() if samples is None else samples)
+    if log:
+        log.writelines(f"{line}\n" for line in loop.record.lines())
+    return outcome
 
 
 def bytes_of(text):
