@@ -15,7 +15,7 @@ import tempfile
 from pathlib import Path
 
 PACKAGING = "tools/packaging"
-TOOLS = ("between", "check", "diff", "header", "lint", "page", "picture", "scale", "sim", "sweep", "why")
+TOOLS = ("between", "check", "conform", "diff", "header", "lint", "page", "picture", "scale", "sim", "sweep", "why")
 CALLS = ("begin_turn", "close", "control", "control_each", "follows", "open", "rank", "sizes", "version", "visit")
 NOBODY = 65534
 LINE = "logic=proved functions=3 sum=0123 logic-built=trusted"
