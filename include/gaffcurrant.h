@@ -133,8 +133,8 @@ int32_t gaffcurrant_sizes(struct gaffcurrant *controller, uint32_t *states, uint
    *rank is 0. */
 int32_t gaffcurrant_rank(struct gaffcurrant *controller, const int64_t *state, size_t states, uint32_t *rank);
 
-/* Whether the plant kept to its equations: whether the next state is one to which they may lead from any state of the same
-   cell, where these inputs are applied and the noises are in their ranges. A plant that obeys its equations is always
+/* Whether the next state lies in the successor box of the state's cell: cells that hold every state to which the equations may
+   lead from there, where these inputs are applied and the noises are in their ranges. A plant that obeys its equations is always
    followed (proved), so there is no false alarm. And the promise of a text that was written for the plant holds of every
    loop whose samples are followed, whatever moved the plant (proved). It takes no memory.
 

@@ -209,8 +209,8 @@ class Controller:
         return rank
 
     def follows(self, state: Iterable[Any], values: Iterable[Any], after: Iterable[Any]) -> bool:
-        """Whether the next state is one to which the plant's equations may lead from the state's cell under these values of the inputs: a plant that obeys
-        its equations is always followed. Raises NoRow where the state is outside the ranges or the values are no input vector, Refused where a number of
+        """Whether the next state lies in the successor box of the state's cell under these values of the inputs, as it does of a plant that obeys
+        its equations. Raises NoRow where the state is outside the ranges or the values are no input vector, Refused where a number of
         the plant leaves the range."""
         whole, inputs = self.whole(state), [whole_of(value) for value in values]
         reply = self._rows.follows(whole, inputs, self.whole(after))
