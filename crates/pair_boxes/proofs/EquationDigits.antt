@@ -23,7 +23,8 @@ use Rattle.pair_boxes.specs.declared.digits.Digits.{Digits}
 use Rattle.pair_boxes.specs.inside.Digits.{count_in, slot_at, index_at, IsReadable, IsDigitOf, HasDigit, ArePacked, AreDigitsOf, IsWithDigit, IsAsBefore}
 use Rattle.pair_boxes.specs.inside.ExtentTables.{IsExtentFor}
 use Rattle.pair_boxes.proofs.PackedDigits.{IsBelow, turns, all_found, index_found, packed_more, has_kept, has_added, some_strides, index_below, no_index}
-use Rattle.pair_boxes.proofs.PairDigits.{HasIndices, count_among, some_vectors, some_count_in, index_in_below, pair_with, pair_indices, next_along, next_among}
+use Rattle.plant_record.proofs.lemmas.InputVectors.{some_vectors}
+use Rattle.pair_boxes.proofs.PairDigits.{HasIndices, count_among, some_count_in, index_in_below, pair_with, pair_indices, next_along, next_among}
 use Rattle.pair_boxes.proofs.RelativeExtents.{extended_at}
 
 -- The digits among the variables from `first` to before `last`.
@@ -102,7 +103,7 @@ module _ (p : Description) (slots more : ℕ) where
 
   -- they are few, since there are later inputs
   pub few_for_each : IsPlant p → (j : ℕ) → slots * size (drop j (value_counts p.inputs)) ≤ pairs_of p → slots ≤ pairs_of p
-  few_for_each plant j few = omega (arith, few, mul-le slots 1 slots (size (drop j (value_counts p.inputs))) (omega arith) (some_rest (value_counts p.inputs) j (some_vectors p plant)))
+  few_for_each plant j few = omega (arith, few, mul-le slots 1 slots (size (drop j (value_counts p.inputs))) (omega arith) (some_rest (value_counts p.inputs) j (some_vectors p.inputs plant.inputs)))
 
 pub variables : (p : Description) (i : ℕ) (digits : List Digit) → All (IsDigitOf p i) digits → All (λ (d : Digit). d.variable < length p.states + length p.inputs) digits
 variables p i digits each = All-weaker (IsDigitOf p i) (λ (d : Digit). d.variable < length p.states + length p.inputs) (λ d is. is.variable) digits each

@@ -1,15 +1,17 @@
 -- Cells of a line, one in each lane.
-use Rattle.std.proofs.Common.{◌≡◌, ℕ, ◌+◌, ◌-◌, ◌<◌, List, Option, None, eqb, length, min, get_or, sym, subst, arith}
+use Rattle.std.proofs.Common.{◌≡◌, ℕ, ◌+◌, ◌-◌, ◌<◌, List, Option, None, eqb, length, min, get_or, sym, ap, subst, ◌∙◌, arith}
 use Rattle.std.proofs.lemmas.Bool.{cond_both, eqb-true, eqb-false}
 use Rattle.grid_quantiser.specs.declared.extents.Extent.{Extent}
 use Rattle.grid_quantiser.specs.Indices.{index_along}
 use Rattle.plant_record.specs.Description.{Description, axes_of}
 use Rattle.plant_record.specs.Plants.{IsPlant}
+use Rattle.plant_record.specs.ValueIndices.{value_index}
 use Rattle.successor_box.specs.CellLines.{IsCellOn, AreCellsOn, LiesInGrid, HoldExtentsUnder}
-use Rattle.successor_box.specs.PairExtents.{index_in, IsExtentBeforeAt}
+use Rattle.successor_box.specs.PairExtents.{index_in, AreInputIndices, IsExtentBeforeAt}
 use Rattle.pair_boxes.specs.inside.CellLines.{last_state, AreCellsFrom, AreExtentsUnder}
 use Rattle.pair_boxes.proofs.LineCells.{same_place, later_place}
-use Rattle.pair_boxes.proofs.PairDigits.{state_slot}
+use Rattle.plant_record.proofs.lemmas.InputVectors.{some_vectors}
+use Rattle.successor_box.proofs.LineValues.{state_slot, among_slot}
 
 -- the cells from one on, and the last of so many in the lanes past it
 abbrev pub cell_in : ℕ → ℕ → ℕ → ℕ
@@ -36,6 +38,15 @@ module _ (p : Description) (plant : IsPlant p) (indices : List ℕ) (c n : ℕ) 
 
   pub cells_in_grid : LiesInGrid p indices (last_state p) n
   cells_in_grid places lt = (c + places, cell_on places lt)
+
+  -- and the first input vector has the indices
+  pub first_input : AreInputIndices p indices 0
+  first_input = record {
+    input = omega (arith, some_vectors p.inputs plant.inputs);
+    each = λ k lt.
+        let back : length p.states + k - length p.states ≡ k = omega arith in
+        from.1 (length p.states + k) (omega (arith, lt)) ∙ sym (among_slot p c 0 (length p.states + k) (omega arith)) ∙ ap (λ (j : ℕ). value_index p.inputs j 0) back;
+  }
 
 -- extents in the lanes are those of the cells from one on
 pub extents_here : (p : Description) (c n u i : ℕ) (extents : List (Option Extent)) → length extents ≡ n → HoldExtentsUnder p (cell_in c n) u i extents → AreExtentsUnder p c u i extents

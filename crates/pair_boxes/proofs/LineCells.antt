@@ -19,7 +19,8 @@ use Rattle.pair_boxes.specs.inside.CellLines.{last_state, line_length, AreInLine
 use Rattle.pair_boxes.specs.inside.Terms.{AreIndicesOf, step_of, Brings, IsTermTableOf}
 use Rattle.pair_boxes.specs.inside.Digits.{slot_at}
 use Rattle.pair_boxes.proofs.PackedDigits.{next_digit, same_slots}
-use Rattle.pair_boxes.proofs.PairDigits.{state_slot, no_value_index}
+use Rattle.successor_box.proofs.LineValues.{state_slot}
+use Rattle.pair_boxes.proofs.PairDigits.{no_value_index}
 
 -- the cells along the later axes are whole lines
 whole_rows : (axes : List Axis) (k last : ℕ) → length axes ≡ suc last → k ≤ last → (g : ℕ) × (cells_of (drop k axes) ≡ g * (get_or axes last no_axis).count)

@@ -13,7 +13,7 @@ use Rattle.pair_boxes.specs.declared.terms.TermTable.{TermTable}
 use Rattle.pair_boxes.specs.inside.Sums.{plus}
 use Rattle.pair_boxes.specs.inside.Terms.{count_of, HasTermAt, IsTermAt, Brings, IsSumAlong, AreSumsAlong, IsTermTableOf}
 use Rattle.pair_boxes.proofs.BoxSums.{ends_fit, term_few, rest_more}
-use Rattle.pair_boxes.proofs.PairDigits.{some_vectors}
+use Rattle.plant_record.proofs.lemmas.InputVectors.{some_vectors}
 use Rattle.pair_boxes.proofs.TermTables.{has_term, slot_within}
 
 -- the last cell of a box is below this
@@ -45,7 +45,7 @@ module _ {p : Description} {i : ℕ} {t : TermTable} {terms : List (Option CellB
     within u input = omega (arith, count_is, slot_within p (sound_plant p f.limits.plant) i f.state t f.held first own u (first + get_or t.inputs.items u 0) refl c brought input)
 
     pub first_within : first ≤ length terms
-    first_within = omega (arith, within 0 (some_vectors p f.limits.plant))
+    first_within = omega (arith, within 0 (some_vectors p.inputs f.limits.plant.inputs))
 
     found_long : length found ≡ length terms - first
     found_long = let le : length terms - first ≤ length (drop first terms) = omega (arith, length-drop first terms) in length-take-le (length terms - first) (drop first terms) le

@@ -18,7 +18,7 @@ use Rattle.pair_boxes.specs.declared.digits.Digit.{Digit}
 use Rattle.pair_boxes.specs.declared.extent_table.ExtentTable.{ExtentTable}
 use Rattle.pair_boxes.specs.inside.ExtentTables.{first_of, IsExtentTableOf}
 use Rattle.pair_boxes.specs.inside.Terms.{own_count, IsTermAt, IsTermFrom}
-use Rattle.pair_boxes.proofs.PairDigits.{state_slot}
+use Rattle.successor_box.proofs.LineValues.{state_slot}
 use Rattle.pair_boxes.proofs.TermTables.{HasVariable}
 
 -- ---- how many own indices there are

@@ -1,12 +1,11 @@
 -- The indices of a pair: those of its cell, then those of its input.
-use Rattle.std.proofs.Common.{◌≡◌, ℕ, ◌+◌, ◌-◌, ◌*◌, ◌%◌, ◌<◌, ◌≤◌, List, [], ◌∷◌, All, Bool, true, false, length, map, drop, get_or, refl, sym, ap, subst, ◌∙◌, arith, inl, inr}
+use Rattle.std.proofs.Common.{◌≡◌, ℕ, ◌+◌, ◌-◌, ◌*◌, ◌%◌, ◌<◌, ◌≤◌, List, Bool, true, false, length, map, drop, get_or, refl, sym, ap, subst, ◌∙◌, arith, inl, inr}
 use Rattle.std.specs.List.{range_with_len}
 use Rattle.std.specs.Prelude.{nat_lt, if◌then◌else◌}
 use Rattle.std.proofs.Math.Nat.{zero-div, zero-mod}
 use Rattle.std.proofs.lemmas.Bool.{cases_lt, cond_below, cond_above}
-use Rattle.std.proofs.lemmas.Nat.{mod_below, mul-le}
+use Rattle.std.proofs.lemmas.Nat.{mod_below}
 use Rattle.std.proofs.lemmas.List.{length-map, drop_more}
-use Rattle.std.proofs.lemmas.List.Elements.{All-head, All-tail}
 use Rattle.std.proofs.lemmas.List.FromFn.{length-map-range_with_len, get_or-map-range_with_len}
 use Rattle.mixed_radix.specs.Radix.{size, stride, number, digit, AreDigits, AreDigitsOf}
 use Rattle.mixed_radix.proofs.Numbers.{digit_is}
@@ -20,8 +19,9 @@ use Rattle.plant_record.specs.Description.{Description, axis_of, axes_of, value_
 use Rattle.plant_record.specs.ValueIndices.{value_count, value_index}
 use Rattle.plant_record.specs.Plants.{IsPlant}
 use Rattle.plant_record.specs.Soundness.{IsSound}
-use Rattle.plant_record.specs.Variables.{IsInputVariable}
+use Rattle.plant_record.proofs.lemmas.InputVectors.{some_vectors}
 use Rattle.successor_box.specs.PairExtents.{index_in}
+use Rattle.successor_box.proofs.LineValues.{state_slot, among_slot}
 use Rattle.pair_boxes.specs.inside.Digits.{count_in}
 
 no_digit_of : (counts : List ℕ) (k : ℕ) → digit counts k 0 ≡ 0
@@ -36,11 +36,6 @@ number_with counts f below =
     let of : AreDigitsOf counts (number counts ds) ds = record { are = are; number_is = refl } in
     (number counts ds, number_below counts ds are, λ k lt. digit_is counts ds (number counts ds) k of lt ∙ each k lt)
 
--- there is an input vector
-some_values : (inputs : List InputVariable) → All IsInputVariable inputs → 1 ≤ vectors_of inputs
-some_values [] each = omega arith
-some_values (i ∷ inputs) each = mul-le 1 1 (length i.values) (vectors_of inputs) (All-head IsInputVariable i inputs each).some_value (some_values inputs (All-tail IsInputVariable i inputs each))
-
 -- A cell and an input have such indices, the input's after those of the states.
 pub record HasIndices (p : Description) (f : ℕ → ℕ) (c u : ℕ) : Type 0 where
   pub cell : c < cells_of (axes_of p)
@@ -52,21 +47,12 @@ module _ (p : Description) where
   abbrev states : ℕ
   states = length p.states
 
-  -- an index and a count by their kind
-  pub state_slot : (c u k : ℕ) → k < states → index_along (axes_of p) k c ≡ index_in p c u k
-  state_slot c u k state = cond_below k states (index_along (axes_of p) k c) (value_index p.inputs (k - states) u) state
-
-  pub among_slot : (c u k : ℕ) → states ≤ k → value_index p.inputs (k - states) u ≡ index_in p c u k
-  among_slot c u k past = cond_above k states (index_along (axes_of p) k c) (value_index p.inputs (k - states) u) (value_index p.inputs (k - states) u) past refl
-
+  -- a count by its kind
   pub count_along : (k : ℕ) → k < states → get_or (counts_of (axes_of p)) k 0 ≡ count_in p k
   count_along k state = cond_below k states (get_or (counts_of (axes_of p)) k 0) (value_count p.inputs (k - states)) state
 
   pub count_among : (k : ℕ) → states ≤ k → value_count p.inputs (k - states) ≡ count_in p k
   count_among k past = cond_above k states (get_or (counts_of (axes_of p)) k 0) (value_count p.inputs (k - states)) (value_count p.inputs (k - states)) past refl
-
-  pub some_vectors : IsPlant p → 1 ≤ vectors_of p.inputs
-  some_vectors plant = some_values p.inputs plant.inputs
 
   along : length (counts_of (axes_of p)) ≡ states
   along = length-counts_of (axes_of p) ∙ length-map p.states axis_of
@@ -75,7 +61,7 @@ module _ (p : Description) where
   among = length-map p.inputs (λ (i : InputVariable). length i.values)
 
   pub some_value : IsPlant p → (j : ℕ) → j < length p.inputs → 0 < value_count p.inputs j
-  some_value plant j within = some_count (value_counts p.inputs) j (omega (arith, within, among)) (some_vectors plant)
+  some_value plant j within = some_count (value_counts p.inputs) j (omega (arith, within, among)) (some_vectors p.inputs plant.inputs)
 
   pub some_count_in : IsPlant p → IsSound p → (k : ℕ) → k < states + length p.inputs → 0 < count_in p k
   some_count_in plant sound k within =
@@ -113,8 +99,8 @@ module _ (p : Description) where
   pub pair_indices : (f : ℕ → ℕ) (c u : ℕ) → HasIndices p f c u → (k : ℕ) → k < states + length p.inputs → index_in p c u k ≡ f k
   pair_indices f c u are k within =
       elim (cases_lt k states) [
-        | inl state ↦ sym (state_slot c u k state) ∙ are.along k state
-        | inr past ↦ sym (among_slot c u k past) ∙ are.values (k - states) (omega (arith, within, past)) ∙ ap f (let there : states + (k - states) ≡ k = omega (arith, past) in there)
+        | inl state ↦ sym (state_slot p c u k state) ∙ are.along k state
+        | inr past ↦ sym (among_slot p c u k past) ∙ are.values (k - states) (omega (arith, within, past)) ∙ ap f (let there : states + (k - states) ≡ k = omega (arith, past) in there)
       ]
 
   -- the indices from a state or an input variable on are its own, for each of those after it
@@ -128,15 +114,15 @@ module _ (p : Description) where
   -- ---- the first cell and the first input bring nothing
 
   pub no_index_along : (u k : ℕ) → k < states → 0 ≡ index_in p 0 u k
-  no_index_along u k state = sym (no_digit_of (counts_of (axes_of p)) k) ∙ state_slot 0 u k state
+  no_index_along u k state = sym (no_digit_of (counts_of (axes_of p)) k) ∙ state_slot p 0 u k state
 
   pub no_value_index : (c k : ℕ) → states ≤ k → 0 ≡ index_in p c 0 k
-  no_value_index c k past = sym (no_digit_of (value_counts p.inputs) (k - states)) ∙ among_slot c 0 k past
+  no_value_index c k past = sym (no_digit_of (value_counts p.inputs) (k - states)) ∙ among_slot p c 0 k past
 
   -- the indices of a pair are those of its cell and those of its input
   pub index_terms : (c u k : ℕ) → index_in p c u k ≡ index_in p c 0 k + index_in p 0 u k
   index_terms c u k =
       elim (cases_lt k states) [
-        | inl state ↦ omega (arith, state_slot c u k state, state_slot c 0 k state, no_index_along u k state)
-        | inr past ↦ omega (arith, among_slot c u k past, among_slot 0 u k past, no_value_index c k past)
+        | inl state ↦ omega (arith, state_slot p c u k state, state_slot p c 0 k state, no_index_along u k state)
+        | inr past ↦ omega (arith, among_slot p c u k past, among_slot p 0 u k past, no_value_index c k past)
       ]

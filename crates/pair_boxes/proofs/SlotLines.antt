@@ -4,7 +4,7 @@ use Rattle.std.specs.Prelude.{◌==◌, if◌then◌else◌}
 use Rattle.std.proofs.Math.Nat.{div-div-eq-div-mul, div-one}
 use Rattle.std.proofs.lemmas.Bool.{cond_both, eqb-true}
 use Rattle.grid_quantiser.specs.declared.extents.Extent.{Extent}
-use Rattle.plant_record.specs.Description.{Description, vectors_of}
+use Rattle.plant_record.specs.Description.{Description}
 use Rattle.plant_record.specs.Plants.{IsPlant}
 use Rattle.plant_record.specs.Soundness.{IsSound}
 use Rattle.successor_box.specs.CellLines.{IsCellOn, AreCellsOn, LiesInGrid, HoldExtentsUnder}
@@ -55,18 +55,26 @@ lowest_lines p plant sound i slots (f ∷ ds) d e are some is state =
 
 -- ---- slots in a line, from one with these indices on
 
-module _ (p : Description) (plant : IsPlant p) (sound : IsSound p) (i : ℕ) (digits : List Digit) (slots : ℕ) (are : AreDigitsOf p i digits slots) (along slot n : ℕ) (indices : List ℕ) (state : along < length p.states) (hold : AreIndicesAt digits slot indices) (line : LieAlong digits along slot n) where
+pub record AreSlotsAlong (p : Description) (i : ℕ) (digits : List Digit) (slots along slot n : ℕ) (indices : List ℕ) : Type 0 where
+  pub plant : IsPlant p
+  pub sound : IsSound p
+  pub are : AreDigitsOf p i digits slots
+  pub state : along < length p.states
+  pub hold : AreIndicesAt digits slot indices
+  pub line : LieAlong digits along slot n
+
+module _ {p : Description} {i slots along slot n : ℕ} {digits : List Digit} {indices : List ℕ} (it : AreSlotsAlong p i digits slots along slot n indices) where
   here : (k : ℕ) → k < length p.states + length p.inputs → get_or indices k 0 ≡ index_at digits k slot
-  here k within = hold k (omega (arith, within, plant.states_bound, plant.inputs_bound))
+  here k within = it.hold k (omega (arith, within, it.plant.states_bound, it.plant.inputs_bound))
 
   -- cells of the grid have their indices
   pub lies_in_grid : LiesInGrid p indices along n
   lies_in_grid places lt =
-      let pair = pair_at p plant sound i digits slots are (slot + places) in (
+      let pair = pair_at p it.plant it.sound i digits slots it.are (slot + places) in (
         pair.0,
         record {
           cell = pair.2.cell;
-          each = λ k state. pair.2.along k state ∙ line places k lt ∙ ap (λ (m : ℕ). m + (if k == along then places else 0)) (sym (here k (omega (arith, state))));
+          each = λ k state. pair.2.along k state ∙ it.line places k lt ∙ ap (λ (m : ℕ). m + (if k == along then places else 0)) (sym (here k (omega (arith, state))));
         },
       )
 
@@ -76,20 +84,20 @@ module _ (p : Description) (plant : IsPlant p) (sound : IsSound p) (i : ℕ) (di
       (λ lane. (at lane).0, λ lane below. (at lane).1)
 
   -- and so has an input
-  pub input_here : (u : ℕ) × (u < vectors_of p.inputs) × AreInputIndices p indices u
-  input_here = let pair = pair_at p plant sound i digits slots are slot in (pair.1, pair.2.input, λ k within. here (length p.states + k) (omega (arith, within)) ∙ sym (pair.2.values k within))
+  pub input_here : (u : ℕ) × AreInputIndices p indices u
+  input_here = let pair = pair_at p it.plant it.sound i digits slots it.are slot in (pair.1, record { input = pair.2.input; each = λ k within. here (length p.states + k) (omega (arith, within)) ∙ sym (pair.2.values k within) })
 
-  pub extents_in_line : i < length p.equations → (cell : ℕ → ℕ) (u : ℕ) → AreCellsOn p indices along n cell → u < vectors_of p.inputs → AreInputIndices p indices u →
+  pub extents_in_line : i < length p.equations → (cell : ℕ → ℕ) (u : ℕ) → AreCellsOn p indices along n cell → AreInputIndices p indices u →
       (extents : List (Option Extent)) → length extents ≡ n → n ≤ 32 → HoldExtentsUnder p cell u i extents → HoldExtentsFrom p i digits slot extents
-  extents_in_line lt cell u on input values extents long few held j below =
+  extents_in_line lt cell u on values extents long few held j below =
       let within : j < n = omega (arith, below, long) in
       let place : min j (n - 1) ≡ j = omega (arith, within) in
       let lane = on j (omega (arith, within, few)) in
-      extent_for p plant sound i digits slots are lt (slot + j) (cell j) u (record {
+      extent_for p it.plant it.sound i digits slots it.are lt (slot + j) (cell j) u (record {
         cell = lane.cell;
-        input = input;
-        along = λ k state. lane.each k state ∙ ap (λ (m : ℕ). get_or indices k 0 + (if k == along then m else 0)) place ∙ ap (λ (m : ℕ). m + (if k == along then j else 0)) (here k (omega (arith, state))) ∙ sym (line j k within);
+        input = values.input;
+        along = λ k state. lane.each k state ∙ ap (λ (m : ℕ). get_or indices k 0 + (if k == along then m else 0)) place ∙ ap (λ (m : ℕ). m + (if k == along then j else 0)) (here k (omega (arith, state))) ∙ sym (it.line j k within);
         values = λ k lt.
-            let other : (if (length p.states + k) == along then j else 0) ≡ 0 = cond_both (eqb (length p.states + k) along) j 0 (λ (m : ℕ). m ≡ 0) (λ own. absurd (omega (arith, eqb-true (length p.states + k) along own, state))) (λ other. refl) in
-            omega (arith, values k lt, here (length p.states + k) (omega (arith, lt)), line j (length p.states + k) within, other);
+            let other : (if (length p.states + k) == along then j else 0) ≡ 0 = cond_both (eqb (length p.states + k) along) j 0 (λ (m : ℕ). m ≡ 0) (λ own. absurd (omega (arith, eqb-true (length p.states + k) along own, it.state))) (λ other. refl) in
+            omega (arith, values.each k lt, here (length p.states + k) (omega (arith, lt)), it.line j (length p.states + k) within, other);
       }) (get_or extents j None) (held j below)

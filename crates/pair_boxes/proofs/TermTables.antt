@@ -18,7 +18,8 @@ use Rattle.pair_boxes.specs.declared.terms.TermTable.{TermTable}
 use Rattle.pair_boxes.specs.inside.ExtentTables.{first_of}
 use Rattle.pair_boxes.specs.inside.Terms.{AreIndicesOf, first_in, count_of, HasTermAt, Brings, IsTermTableOf, AreTermsOf}
 use Rattle.pair_boxes.proofs.PackedDigits.{slot_is}
-use Rattle.pair_boxes.proofs.PairDigits.{state_slot, some_vectors}
+use Rattle.plant_record.proofs.lemmas.InputVectors.{some_vectors}
+use Rattle.successor_box.proofs.LineValues.{state_slot}
 
 -- a digit is that of a state or an input variable
 abbrev pub HasVariable : Description → Digit → Type 0
@@ -66,7 +67,7 @@ variables_few p plant ds each = All-weaker (HasVariable p) (λ (d : Digit). d.va
 
 -- what a cell brings is among the terms, and it shifts the extents by no more than it is
 pub first_fits : (p : Description) → IsPlant p → (i : ℕ) (t : TermTable) (first own c : ℕ) → IsTermTableOf p i t → Brings p i t first own c → first < 2 ^ 32
-first_fits p plant i t first own c held brought = omega (arith, brought.first, held.slot c 0 brought.cell (some_vectors p plant), held.few)
+first_fits p plant i t first own c held brought = omega (arith, brought.first, held.slot c 0 brought.cell (some_vectors p.inputs plant.inputs), held.few)
 
 pub own_few : (p : Description) (i : ℕ) (t : TermTable) (first own c : ℕ) → Brings p i t first own c → own ≤ c
 own_few p i t first own c brought =

@@ -10,6 +10,7 @@ ghost use Rattle.pair_boxes.specs.inside.CellLines.{AreInputsOfLine, AreSumsOfLi
 ghost use Rattle.pair_boxes.specs.inside.Terms.{AreIndicesOf, HasSums, HasSumsWith, AddsTerms, AddsState, IsTermTableOf, AreTermTablesOf};
 ghost use Rattle.pair_boxes.specs.declared.pair_box.TheConstants.{SUMS_LIMIT};
 
+use crate::digits::indices_of;
 use crate::pair_box::PairBox;
 use crate::per_pair::add_per_pair;
 use crate::state_of::StateOf;
@@ -37,7 +38,7 @@ pub(crate) fn boxes_in_line(
     let p = sampled.plant;
     let inputs = p.vectors() as usize;
     let last = p.states() as usize - 1;
-    let mut indices = indices_of(sampled, c);
+    let mut indices = indices_of(sampled, c, 0);
     let first = indices[last];
     let early = add_early(sampled, tables, &indices, &mut boxes[..inputs]);
     let cells = boxes.len() / inputs;
@@ -280,18 +281,4 @@ fn add_base(base: PairBox, boxes: &mut [PairBox])
     for i in 0..boxes.len() {
         boxes[i] = base.plus(boxes[i]);
     }
-}
-
-/// The indices of a cell along the axes, and 0 for each input variable.
-#[inline]
-fn indices_of(sampled: &Sampled<'_>, c: u32) -> [u32; INDICES_LIMIT]
-    ensures { AreIndicesOf sampled.now.plant.now c result }
-{
-    let p = sampled.plant;
-    let along = p.grid().indices(c);
-    let mut indices = [0; INDICES_LIMIT];
-    for state in 0..p.states() {
-        indices[state as usize] = along[state as usize];
-    }
-    indices
 }

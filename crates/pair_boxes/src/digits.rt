@@ -1,14 +1,15 @@
 //! The digits of a pair on which the extents along a state's axis depend.
 ghost use Rattle.std.specs.Prelude.{◌≡◌, ℕ, ◌+◌, ◌*◌, ◌^◌, ◌<◌, length, slice_index, IfOk};
 ghost use Rattle.std.specs.List.{All};
-ghost use Rattle.successor_box.specs.PairExtents.{depends_on};
-ghost use Rattle.successor_box.specs.declared.indices_limit.TheConstants.{INDICES_LIMIT};
+ghost use Rattle.plant_record.specs.Description.{vectors_of};
+ghost use Rattle.successor_box.specs.PairExtents.{depends_on, index_in};
+ghost use Rattle.successor_box.specs.declared.central_value.TheConstants.{INDICES_LIMIT};
 ghost use Rattle.pair_boxes.specs.inside.Digits.{AreDigitsOf, AddsIfDependent, KeepsIfIndependent, count_in, slot_at};
 
 use crate::state_of::StateOf;
 use plant_record::Plant;
 use std::alloc::{AllocError, Global};
-use successor_box::INDICES_LIMIT;
+use successor_box::{INDICES_LIMIT, Sampled};
 
 /// A state or an input variable that stands in an equation: how many indices it has, and how many slots
 /// of a table there are from one index to the next.
@@ -100,4 +101,26 @@ pub(crate) fn slot_of(digits: &[Digit], indices: &[u32; INDICES_LIMIT]) -> u32
         slot += indices[d.variable as usize] * d.stride;
     }
     slot
+}
+
+/// The indices of a cell and an input vector, in each state and each input variable.
+#[inline]
+pub(crate) fn indices_of(sampled: &Sampled<'_>, c: u32, input: u32) -> [u32; INDICES_LIMIT]
+    requires { input < vectors_of sampled.now.plant.now.inputs }
+    ensures { (k : ℕ) → k < length sampled.now.plant.now.states + length sampled.now.plant.now.inputs → slice_index result k ≡ index_in sampled.now.plant.now c input k }
+{
+    let p = sampled.plant;
+    let states = p.states() as usize;
+    let along = p.grid().indices(c);
+    let among = p.input_indices(input);
+    let mut indices = [0; INDICES_LIMIT];
+    for k in 0..states + p.input_variables() as usize {
+        let index = if k < states {
+            along[k]
+        } else {
+            among[k - states]
+        };
+        indices[k] = index;
+    }
+    indices
 }

@@ -9,7 +9,7 @@ use crate::digits::{Digit, Digits};
 use crate::state_of::StateOf;
 use fixed_expr::LANES;
 use grid_quantiser::Extent;
-use successor_box::{CellLine, INDICES_LIMIT, input_number};
+use successor_box::{CellLine, INDICES_LIMIT};
 
 /// To start a thread takes as long as to find so many extents.
 pub(crate) const EXTENTS_PER_TASK: usize = 1024;
@@ -68,10 +68,8 @@ fn fill_line(of: &StateOf<'_>, digits: &Digits, along: u32, slot: u32, line: &mu
 {
     let p = of.sampled.plant;
     let indices = indices_at(&digits.each, slot);
-    let mut cells = CellLine::new(p, &indices, along, line.len());
-    let input = input_number(p, &indices);
-    of.sampled
-        .extents_under(input, of.state, None, &mut cells, line);
+    let cells = CellLine::new(p, &indices, along, line.len());
+    of.sampled.extents_under(of.state, None, &cells, line);
 }
 
 /// The indices of a slot, in each state and each input variable.

@@ -1,18 +1,16 @@
 //! The extents of all boxes, state by state.
-ghost use Rattle.std.specs.Prelude.{◌≡◌, ℕ, ◌+◌, ◌^◌, ◌<◌, length, slice_index, IfOk};
+ghost use Rattle.std.specs.Prelude.{◌≡◌, ◌+◌, ◌^◌, ◌<◌, length, IfOk};
 ghost use Rattle.plant_record.specs.Description.{vectors_of};
-ghost use Rattle.successor_box.specs.PairExtents.{index_in};
 ghost use Rattle.pair_boxes.specs.inside.Digits.{AreDigitsOf, HoldSlots};
 ghost use Rattle.pair_boxes.specs.inside.ExtentTables.{IsExtentTableOf, HoldExtentsFrom};
 
-use crate::digits::{Digit, Digits, slot_of};
+use crate::digits::{Digit, Digits, indices_of, slot_of};
 use crate::extent_lines::{EXTENTS_PER_TASK, fill_chunk};
 use crate::state_of::StateOf;
 use grid_quantiser::Extent;
 use raw_slots::RawList;
 use std::alloc::{AllocError, Global};
 use std::thread::Threads;
-use successor_box::{INDICES_LIMIT, Sampled};
 
 /// The extents along the axis of a state: one for each combination of the indices in the variables of the
 /// state's equation, since those of all pairs depend on these. Where the equation shifts with the state itself,
@@ -54,25 +52,10 @@ fn build_inputs(alloc: Global, of: &StateOf<'_>, digits: &Digits) -> Result<Vec<
     let vectors = of.sampled.plant.vectors();
     let mut inputs = Vec::with_capacity(alloc, vectors as usize)?;
     for input in 0..vectors {
-        let indices = indices_of_input(&of.sampled, input);
+        let indices = indices_of(&of.sampled, 0, input);
         inputs.push(slot_of(&digits.each, &indices))?;
     }
     Ok(inputs)
-}
-
-/// The indices of an input among the values of the input variables, and 0 for each state.
-fn indices_of_input(sampled: &Sampled<'_>, input: u32) -> [u32; INDICES_LIMIT]
-    ensures { (k : ℕ) → k < length sampled.now.plant.now.states + length sampled.now.plant.now.inputs → slice_index result k ≡ index_in sampled.now.plant.now 0 input k }
-{
-    let p = sampled.plant;
-    let mut indices = [0; INDICES_LIMIT];
-    let mut rest = input;
-    for variable in (0..p.input_variables()).rev() {
-        let count = p.input_values(variable);
-        indices[(p.states() + variable) as usize] = rest % count;
-        rest /= count;
-    }
-    indices
 }
 
 /// The extents along the axis of one state, one for each slot.

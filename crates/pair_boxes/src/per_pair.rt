@@ -32,8 +32,9 @@ pub(crate) fn add_per_pair(
     let extents = &mut extents[..cells];
     let additive = of.sampled.additive_line(of.state, increments, &mut line);
     for input in 0..inputs {
+        line.set_input(&of.sampled, input);
         of.sampled
-            .extents_under(input, of.state, additive.as_ref(), &mut line, extents);
+            .extents_under(of.state, additive.as_ref(), &line, extents);
         add_extents(of, input, extents, boxes);
     }
 }

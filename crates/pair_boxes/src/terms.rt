@@ -4,7 +4,7 @@ ghost use Rattle.std.specs.List.{All};
 ghost use Rattle.grid_quantiser.specs.Axes.{no_axis};
 ghost use Rattle.plant_record.specs.Description.{axes_of, vectors_of};
 ghost use Rattle.successor_box.specs.PairExtents.{shifts_along};
-ghost use Rattle.successor_box.specs.declared.indices_limit.TheConstants.{INDICES_LIMIT};
+ghost use Rattle.successor_box.specs.declared.central_value.TheConstants.{INDICES_LIMIT};
 ghost use Rattle.pair_boxes.specs.inside.CellLines.{StaysAlongLines};
 ghost use Rattle.pair_boxes.specs.inside.ExtentTables.{IsRelativeExtent, IsExtentTableOf};
 ghost use Rattle.pair_boxes.specs.inside.Terms.{first_in, step_of, own_count, IsTermFrom, Brings, IsTermBrought, HoldTermsFrom, IsTermTableOf, AreTermsOf, AreTermTablesOf};

@@ -15,9 +15,9 @@ use Rattle.plant_record.specs.Steps.{equation_at}
 use Rattle.successor_box.specs.declared.additive.AdditiveLine.{AdditiveLine}
 use Rattle.successor_box.specs.declared.cell_line.CellLine.{CellLine}
 use Rattle.successor_box.specs.SuccessorBoxes.{central_values}
-use Rattle.successor_box.specs.CellLines.{IsNoInput, AreCentresOf, KeepCentres}
-use Rattle.successor_box.specs.AdditiveInputs.{AreInputIncrements, increased, IsAdditiveLineOf}
-use Rattle.successor_box.specs.inside.Additive.{NamesNoInput, NamesNoState, DifferInStates, HasAdditiveInputs}
+use Rattle.successor_box.specs.CellLines.{AreCentresOf}
+use Rattle.successor_box.specs.AdditiveInputs.{AreInputIncrements, increased, IsAdditiveLineOf, IsAdditiveAt}
+use Rattle.successor_box.specs.inside.Additive.{IsNoInput, NamesNoInput, NamesNoState, DifferInStates, HasAdditiveInputs}
 use Rattle.successor_box.specs.inside.Lines.{AreValuesUnder, GivesValues}
 use Rattle.successor_box.proofs.AlikePairs.{central_input, central_noise}
 use Rattle.successor_box.proofs.LineValues.{same_centre}
@@ -87,15 +87,15 @@ pub line_of_first : (p : Description) (i : ℕ) (cell : ℕ → ℕ) (at : Value
 line_of_first p i cell at first u lane increments are input lt is =
     omega (arith, ints, is, ap (value_of (equation_at p i)) (are.each lane lt), increments.each (cell lane) u (are.cells lane lt) input)
 
--- and gives them in its lanes
-pub gives_values : (p : Description) (line : CellLine) (i : ℕ) (at : ValuesAlong) (cell : ℕ → ℕ) (u : ℕ) → u < vectors_of p.inputs → AreCentresOf p cell line → AreValuesUnder p cell u at → (additive : Option (Bor AdditiveLine)) → IfSome additive (λ a. IsAdditiveLineOf p line i a.now) → IfSome additive (λ a. GivesValues (equation_at p i) at u a.now)
-gives_values p line i at cell u input centres are None known = known
-gives_values p line i at cell u input centres are (Some a) known = record {
-  within = omega (arith, input, known.long);
-  each = λ lane lt. known.each cell centres u lane input lt ∙ ap (value_of (equation_at p i)) (sym (are.each lane lt));
+-- and gives them in the lanes of a line with these centres
+pub gives_values : (p : Description) (line : CellLine) (i : ℕ) (at : ValuesAlong) → ((cell : ℕ → ℕ) → AreCentresOf p cell line → AreValuesUnder p cell line.input at) → (additive : Option (Bor AdditiveLine)) → IfSome additive (λ a. IsAdditiveAt p line i a.now) → IfSome additive (λ a. GivesValues (equation_at p i) at line.input a.now)
+gives_values p line i at values None known = known
+gives_values p line i at values (Some a) known = record {
+  within = omega (arith, known.1.input, known.2.long);
+  each = λ lane lt. known.2.each line.input lane known.1.input lt ∙ ap (value_of (equation_at p i)) (sym ((values known.0 known.1).each lane lt));
 }
 
--- as a line with the centres of the same cells does
-pub still_additive : (p : Description) (old new : CellLine) (i : ℕ) (additive : Option AdditiveLine) → KeepCentres p old new → IfSome additive (IsAdditiveLineOf p old i) → IfSome additive (IsAdditiveLineOf p new i)
-still_additive p old new i None kept known = known
-still_additive p old new i (Some a) kept known = record { long = known.long; each = λ cell centres. known.each cell ((kept cell).1 centres) }
+-- a line that has such values is one at the centres of another
+pub additive_at : (p : Description) (line : CellLine) (i : ℕ) (cell : ℕ → ℕ) → AreCentresOf p cell line → (additive : Option AdditiveLine) → IfSome additive (IsAdditiveLineOf p cell i) → IfSome additive (IsAdditiveAt p line i)
+additive_at p line i cell centres None known = known
+additive_at p line i cell centres (Some a) known = (cell, centres, known)

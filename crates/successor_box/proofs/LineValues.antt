@@ -1,8 +1,8 @@
 -- The values of the variables at the centres of cells in a line.
-use Rattle.std.proofs.Common.{◌≡◌, ◌≢◌, ℕ, ◌+◌, ◌-◌, ◌/◌, ◌<◌, ◌≤◌, List, length, map, take, set, get_or, get_or-set_other, get_or-set_same, refl, sym, ap, subst, ◌∙◌, arith, inl, inr}
-use Rattle.std.specs.Prelude.{ℤ, pos, min, ◌==◌, ◌↔◌}
+use Rattle.std.proofs.Common.{◌≡◌, ◌≢◌, ℕ, ◌+◌, ◌-◌, ◌/◌, ◌<◌, ◌≤◌, List, length, map, take, set, eqb, get_or, get_or-set_other, get_or-set_same, refl, sym, ap, subst, ◌∙◌, arith, inl, inr}
+use Rattle.std.specs.Prelude.{ℤ, pos, min, ◌==◌}
 use Rattle.std.proofs.Math.Nat.{mod-le, div-le_self}
-use Rattle.std.proofs.lemmas.Bool.{cases_lt, cases_eq, eq-eqb, ne_eqb, cond-true, cond-false}
+use Rattle.std.proofs.lemmas.Bool.{cases_lt, cases_eq, eq-eqb, eqb-true, cond-true, cond_both, cond_below, cond_above}
 use Rattle.std.proofs.lemmas.List.{length-map, length-set, length-take-le, get_or-take, ext_get_or}
 use Rattle.fixed_expr.specs.declared.lane_eval.ValuesAlong.{ValuesAlong}
 use Rattle.fixed_expr.specs.declared.lanes.TheConstants.{LANES}
@@ -13,15 +13,18 @@ use Rattle.grid_quantiser.specs.Axes.{no_axis, counts_of, cells_of}
 use Rattle.grid_quantiser.specs.Cells.{centre_of, point_of}
 use Rattle.grid_quantiser.specs.Indices.{index_along, middle_of}
 use Rattle.grid_quantiser.proofs.OwnIndices.{index_along_below}
-use Rattle.plant_record.specs.Description.{Description, axis_of, axes_of, vectors_of}
+use Rattle.plant_record.specs.Description.{Description, axis_of, axes_of, vectors_of, vector_of}
+use Rattle.plant_record.specs.ValueIndices.{value_index}
 use Rattle.plant_record.specs.Soundness.{IsSound}
 use Rattle.plant_record.specs.Steps.{equation_at}
 use Rattle.successor_box.specs.declared.cell_line.CellLine.{CellLine}
 use Rattle.successor_box.specs.SuccessorBoxes.{noise_centre, central_values}
 use Rattle.successor_box.specs.Deviations.{HasNoOverflow}
-use Rattle.successor_box.specs.CellLines.{IsNoInput, IsCellOn, AreCellsOn, AreCentresOf}
+use Rattle.successor_box.specs.CellLines.{IsCellOn, AreCellsOn, AreCentresOf}
+use Rattle.successor_box.specs.PairExtents.{index_in, AreInputIndices}
+use Rattle.successor_box.specs.inside.Additive.{IsNoInput, DifferInInputs}
 use Rattle.successor_box.specs.inside.Area.{variables_of}
-use Rattle.successor_box.specs.inside.Lines.{AreInputValues, KeepOthers, AreValuesUnder}
+use Rattle.successor_box.specs.inside.Lines.{HasIndexIn, AreValuesUnder}
 use Rattle.successor_box.proofs.AlikePairs.{central_state, central_input, central_noise}
 use Rattle.successor_box.proofs.Below.{centres_are_near, centres_depend_on_their_indices}
 use Rattle.successor_box.proofs.CellOffsets.{central_count}
@@ -34,11 +37,32 @@ use Rattle.successor_box.proofs.Steps.{step_stays}
 -- ---- the central values of a pair
 
 module _ (p : Description) (c u : ℕ) where
-  state_value : IsSound p → c < cells_of (axes_of p) → (k : ℕ) → k < length p.states → middle_of (get_or (axes_of p) k no_axis) (index_along (axes_of p) k c) ≡ get_or (central_values p c u) k (pos 0)
-  state_value sound cell k lt = sym (central_state p c u k lt ∙ centres_depend_on_their_indices (axes_of p) c k sound.axes cell (omega (arith, lt, length-map p.states axis_of)))
+  centre_value : IsSound p → c < cells_of (axes_of p) → (k : ℕ) → k < length p.states → middle_of (get_or (axes_of p) k no_axis) (index_along (axes_of p) k c) ≡ get_or (central_values p c u) k (pos 0)
+  centre_value sound cell k lt = sym (central_state p c u k lt ∙ centres_depend_on_their_indices (axes_of p) c k sound.axes cell (omega (arith, lt, length-map p.states axis_of)))
 
-  noise_value : (k : ℕ) → length p.states + length p.inputs ≤ k → k < variables_of p → get_or (map noise_centre p.noises) (k - length p.states - length p.inputs) (pos 0) ≡ get_or (central_values p c u) k (pos 0)
+  pub noise_value : (k : ℕ) → length p.states + length p.inputs ≤ k → k < variables_of p → get_or (map noise_centre p.noises) (k - length p.states - length p.inputs) (pos 0) ≡ get_or (central_values p c u) k (pos 0)
   noise_value k past lt = sym (central_noise p c u k past ∙ get_or-take (length p.noises) (map noise_centre p.noises) (k - length p.states - length p.inputs) (pos 0) (omega (arith, past, lt)))
+
+  -- the index of a pair by its kind
+  pub state_slot : (k : ℕ) → k < length p.states → index_along (axes_of p) k c ≡ index_in p c u k
+  state_slot k lt = cond_below k (length p.states) (index_along (axes_of p) k c) (value_index p.inputs (k - length p.states) u) lt
+
+  pub among_slot : (k : ℕ) → length p.states ≤ k → value_index p.inputs (k - length p.states) u ≡ index_in p c u k
+  among_slot k past = cond_above k (length p.states) (index_along (axes_of p) k c) (value_index p.inputs (k - length p.states) u) (value_index p.inputs (k - length p.states) u) past refl
+
+  -- an index is that of a state, below its count, or that of a value
+  module _ (indices : List ℕ) (k : ℕ) (has : HasIndexIn p indices k c u) where
+    here : k < length p.states → index_along (axes_of p) k c ≡ get_or indices k 0
+    here lt = state_slot k lt ∙ has.index (omega (arith, lt))
+
+    pub index_within : IsSound p → k < length p.states → get_or indices k 0 < (get_or (axes_of p) k no_axis).count
+    index_within sound lt = omega (arith, here lt, index_along_below (axes_of p) k c sound.axes.each (omega (arith, lt, length-map p.states axis_of)))
+
+    pub state_value : IsSound p → k < length p.states → middle_of (get_or (axes_of p) k no_axis) (get_or indices k 0) ≡ get_or (central_values p c u) k (pos 0)
+    state_value sound lt = ap (middle_of (get_or (axes_of p) k no_axis)) (sym (here lt)) ∙ centre_value sound has.cell k lt
+
+    pub index_of_value : length p.states ≤ k → k < length p.states + length p.inputs → value_index p.inputs (k - length p.states) u ≡ get_or indices k 0
+    index_of_value past lt = among_slot k past ∙ has.index lt
 
   -- what is no input has its value under every input
   pub same_centre : (v k : ℕ) → IsNoInput p k → get_or (central_values p c v) k (pos 0) ≡ get_or (central_values p c u) k (pos 0)
@@ -67,63 +91,49 @@ set_both xs ys a k x first second is =
       | inr other ↦ get_or-set_other xs a k x (pos 0) other ∙ is ∙ sym (get_or-set_other ys a k x (pos 0) other)
     ]
 
--- ---- a line with other values of the input variables
-
-kept_by : (p : Description) (cell : ℕ → ℕ) (old : CellLine) (values : List ℤ) → KeepOthers p old.values values → variables_of p ≤ length values → length old.values ≡ length values → AreCentresOf p cell old → AreCentresOf p cell (record { values = values; along = old.along; column = old.column })
-kept_by p cell old values kept enough before centres = record {
-  along = centres.along;
-  cells = centres.cells;
-  each = λ lane k lt below other.
-      let within : old.along < length values = omega (arith, centres.along, enough) in
-      set_both values old.values old.along k (get_or old.column lane (pos 0)) within (omega (arith, within, before)) (kept k other) ∙ centres.each lane k lt below other;
-}
-
--- it has the centres of the same cells
-pub same_centres : (p : Description) (cell : ℕ → ℕ) (old : CellLine) (values : List ℤ) → KeepOthers p old.values values → variables_of p ≤ length values → length old.values ≡ length values → AreCentresOf p cell old ↔ AreCentresOf p cell (record { values = values; along = old.along; column = old.column })
-same_centres p cell old values kept enough before = (
-  kept_by p cell old values kept enough before,
-  kept_by p cell (record { values = values; along = old.along; column = old.column }) old.values (λ k other. sym (kept k other)) (omega (arith, enough, before)) (sym before),
-)
-
 -- ---- a line whose input is set
 
-module _ (p : Description) (cell : ℕ → ℕ) (old : CellLine) (values : List ℤ) (kept : KeepOthers p old.values values) (enough : variables_of p ≤ length values) (before : length old.values ≡ length values) (centres : AreCentresOf p cell old) where
-  within : old.along < length values
-  within = omega (arith, centres.along, enough)
+-- it has the centres of the same cells
+pub input_set : (p : Description) (cell : ℕ → ℕ) (u : ℕ) (old : CellLine) (values : List ℤ) → u < vectors_of p.inputs → length p.states ≤ length old.values → length p.states ≤ length values →
+    ((k : ℕ) → k < length p.inputs → get_or values (length p.states + k) (pos 0) ≡ get_or (vector_of p.inputs u) k (pos 0)) → DifferInInputs p values old.values →
+    AreCentresOf p cell old → AreCentresOf p cell (record { values = values; along = old.along; column = old.column; input = u })
+input_set p cell u old values input before after given kept centres = record { along = centres.along; input = input; cells = centres.cells; each = one }
+  where
+    one : (lane k : ℕ) → lane < LANES → k < variables_of p → get_or (set values old.along (get_or old.column lane (pos 0))) k (pos 0) ≡ get_or (central_values p (cell lane) u) k (pos 0)
+    one lane k lt below =
+        let x : ℤ = get_or old.column lane (pos 0) in
+        let state : old.along < length p.states = centres.along in
+        let other : IsNoInput p k → get_or (set values old.along x) k (pos 0) ≡ get_or (central_values p (cell lane) u) k (pos 0) =
+        λ none. set_both values old.values old.along k x (omega (arith, state, after)) (omega (arith, state, before)) (kept k none) ∙ centres.each lane k lt below ∙ same_centre p (cell lane) u old.input k none in
+        elim (cases_lt k (length p.states)) [
+          | inl early ↦ other (λ _. early)
+          | inr past ↦
+              elim (cases_lt k (length p.states + length p.inputs)) [
+                | inl variable ↦
+                    let apart : k ≢ old.along = λ is. absurd (omega (arith, is, past, state)) in
+                    let there : k ≡ length p.states + (k - length p.states) = omega (arith, past) in
+                    get_or-set_other values old.along k x (pos 0) apart ∙ ap (λ (m : ℕ). get_or values m (pos 0)) there ∙ given (k - length p.states) (omega (arith, past, variable)) ∙ sym (central_input p (cell lane) u k past variable)
+                | inr noise ↦ other (λ early. absurd (omega (arith, noise, early)))
+              ]
+        ]
 
-  -- it has its values under the input
-  pub values_under : (u n : ℕ) (at : ValuesAlong) → AreInputValues p u values → n ≡ variables_of p → at.values.now ≡ take n values → at.along ≡ old.along → at.column.now ≡ old.column → AreValuesUnder p cell u at
-  values_under u n at are all values-are along-is column-is =
-      let long : length (take n values) ≡ n = length-take-le n values (omega (arith, all, enough)) in
-      record {
-        long = rw values-are (long ∙ all);
-        along = rw (values-are, along-is) (omega (arith, long, all, centres.along));
-        cells = centres.cells;
-        each = λ lane lt. rw (values-are, along-is, column-is)
-            (ext_get_or (pos 0) (set (take n values) old.along (get_or old.column lane (pos 0))) (central_values p (cell lane) u)
-            (length-set (take n values) old.along (get_or old.column lane (pos 0)) ∙ long ∙ all ∙ sym (central_count p (cell lane) u))
-            (λ k below. one lane lt k (omega (arith, below, long, all, length-set (take n values) old.along (get_or old.column lane (pos 0)))) long));
-      }
-    where
-      one : (lane : ℕ) → lane < LANES → (k : ℕ) → k < variables_of p → length (take n values) ≡ n → get_or (set (take n values) old.along (get_or old.column lane (pos 0))) k (pos 0) ≡ get_or (central_values p (cell lane) u) k (pos 0)
-      one lane lt k below long =
-          let x : ℤ = get_or old.column lane (pos 0) in
-          let front : get_or (take n values) k (pos 0) ≡ get_or values k (pos 0) = get_or-take n values k (pos 0) (omega (arith, below, all)) in
-          let state : old.along < length p.states = centres.along in
-          let other : IsNoInput p k → get_or (set (take n values) old.along x) k (pos 0) ≡ get_or (central_values p (cell lane) u) k (pos 0) = λ none.
-          set_both (take n values) old.values old.along k x (omega (arith, long, all, state)) (omega (arith, within, before)) (front ∙ kept k none) ∙ centres.each lane k lt below none ∙ same_centre p (cell lane) u 0 k none in
-          elim (cases_lt k (length p.states)) [
-            | inl early ↦ other (λ _. early)
-            | inr past ↦
-                elim (cases_lt k (length p.states + length p.inputs)) [
-                  | inl input ↦
-                      let apart : k ≢ old.along = λ is. absurd (omega (arith, is, past, state)) in
-                      let i : ℕ = k - length p.states in
-                      let here : length p.states + i ≡ k = omega (arith, past) in
-                      get_or-set_other (take n values) old.along k x (pos 0) apart ∙ front ∙ ap (λ (m : ℕ). get_or values m (pos 0)) (sym here) ∙ are i (omega (arith, past, input)) ∙ sym (central_input p (cell lane) u k past input)
-                  | inr noise ↦ other (λ early. absurd (omega (arith, noise, early)))
-                ]
-          ]
+-- ---- its lanes
+
+-- they have its values under its input
+pub lanes_of : (p : Description) (cell : ℕ → ℕ) (line : CellLine) (n : ℕ) (at : ValuesAlong) → n ≡ variables_of p → n ≤ length line.values → at.values.now ≡ take n line.values → at.along ≡ line.along → at.column.now ≡ line.column → AreCentresOf p cell line → AreValuesUnder p cell line.input at
+lanes_of p cell line n at all enough values-are along-is column-is centres =
+    let front : length (take n line.values) ≡ n = length-take-le n line.values enough in
+    let long : (lane : ℕ) → length (set (take n line.values) line.along (get_or line.column lane (pos 0))) ≡ variables_of p = λ lane. length-set (take n line.values) line.along (get_or line.column lane (pos 0)) ∙ front ∙ all in
+    record {
+      long = rw values-are (front ∙ all);
+      along = rw (values-are, along-is) (omega (arith, front, all, centres.along));
+      cells = centres.cells;
+      each = λ lane lt. rw (values-are, along-is, column-is)
+          (ext_get_or (pos 0) (set (take n line.values) line.along (get_or line.column lane (pos 0))) (central_values p (cell lane) line.input) (long lane ∙ sym (central_count p (cell lane) line.input))
+          (λ k below.
+          let known : k < variables_of p = omega (arith, below, long lane) in
+          set_both (take n line.values) line.values line.along k (get_or line.column lane (pos 0)) (omega (arith, front, all, centres.along)) (omega (arith, enough, all, centres.along)) (get_or-take n line.values k (pos 0) (omega (arith, known, all))) ∙ centres.each lane k lt known));
+    }
 
 -- ---- a new line
 
@@ -131,13 +141,20 @@ module _ (p : Description) (indices : List ℕ) (along places c : ℕ) (is : IsC
   index_of_own : along < length p.states → index_along (axes_of p) along c ≡ get_or indices along 0 + places
   index_of_own lt = is.each along lt ∙ ap (λ (n : ℕ). get_or indices along 0 + n) (cond-true (along == along) places 0 (eq-eqb along along refl))
 
-  index_of_other : (k : ℕ) → k < length p.states → k ≢ along → index_along (axes_of p) k c ≡ get_or indices k 0
-  index_of_other k lt other =
-      let none : get_or indices k 0 + 0 ≡ get_or indices k 0 = omega arith in
-      is.each k lt ∙ ap (λ (n : ℕ). get_or indices k 0 + n) (cond-false (k == along) places 0 (ne_eqb k along other)) ∙ none
-
-  pub index_within : IsSound p → (k : ℕ) → k < length p.states → get_or indices k 0 < (get_or (axes_of p) k no_axis).count
-  index_within sound k lt = omega (arith, is.each k lt, index_along_below (axes_of p) k c sound.axes.each (omega (arith, lt, length-map p.states axis_of)))
+  -- a cell and an input that stand there have its indices, but for the one along the line
+  pub indices_there : (u : ℕ) → AreInputIndices p indices u → (k : ℕ) → (k ≡ along → places ≡ 0) → HasIndexIn p indices k c u
+  indices_there u inputs k first = record {
+    cell = is.cell;
+    input = inputs.input;
+    index = λ known. elim (cases_lt k (length p.states)) [
+      | inl state ↦
+          sym (state_slot p c u k state) ∙ is.each k state
+          ∙ cond_both (eqb k along) places 0 (λ (n : ℕ). get_or indices k 0 + n ≡ get_or indices k 0) (λ own. omega (arith, first (eqb-true k along own))) (λ other. omega arith)
+      | inr past ↦
+          let here : length p.states + (k - length p.states) ≡ k = omega (arith, past) in
+          sym (among_slot p c u k past) ∙ sym (inputs.each (k - length p.states) (omega (arith, past, known))) ∙ ap (λ (n : ℕ). get_or indices n 0) here
+    ];
+  }
 
   -- the middle there
   pub middle_there : IsSound p → (first width : ℤ) → along < length p.states → first ≡ middle_of (get_or (axes_of p) along no_axis) 0 → width ≡ (get_or (axes_of p) along no_axis).width → IsMiddle (get_or (axes_of p) along no_axis) first width (get_or indices along 0 + places)
@@ -150,36 +167,32 @@ module _ (p : Description) (indices : List ℕ) (along places c : ℕ) (is : IsC
       let counts : List ℕ = counts_of (axes_of p) in
       omega (arith, index_of_own lt, mod-le (c / stride counts along) (get_or counts along 0), div-le_self c (stride counts along))
 
--- the middles of the states' indices, those of the noises, and in the column those along the line
+-- the values at the centres of the pairs with the indices, the input vector that has them, and in the column the middles along the line
 pub record IsNewLine (p : Description) (indices : List ℕ) (along cells : ℕ) (line : CellLine) : Type 0 where
   pub own : line.along ≡ along
   pub long : length line.values ≡ 15
-  pub states : (k : ℕ) → k < length p.states → get_or line.values k (pos 0) ≡ middle_of (get_or (axes_of p) k no_axis) (get_or indices k 0)
-  pub noises : (k : ℕ) → k < variables_of p → length p.states + length p.inputs ≤ k → get_or line.values k (pos 0) ≡ get_or (map noise_centre p.noises) (k - length p.states - length p.inputs) (pos 0)
+  pub inputs : AreInputIndices p indices line.input
+  pub each : (k : ℕ) → k < variables_of p → (c u : ℕ) → HasIndexIn p indices k c u → get_or line.values k (pos 0) ≡ get_or (central_values p c u) k (pos 0)
   pub column : (lane : ℕ) → lane < LANES → get_or line.column lane (pos 0) ≡ middle_of (get_or (axes_of p) along no_axis) (get_or indices along 0 + min lane (cells - 1))
 
 pub centres_of_new : (p : Description) (indices : List ℕ) (along cells : ℕ) (line : CellLine) (cell : ℕ → ℕ) → IsSound p → length p.states ≤ 6 → along < length p.states → IsNewLine p indices along cells line → AreCellsOn p indices along cells cell → AreCentresOf p cell line
 centres_of_new p indices along cells line cell sound few lt new are =
     record {
       along = omega (arith, lt, new.own);
+      input = new.inputs.input;
       cells = λ lane below. (are lane below).cell;
-      each = λ lane k below within other. rw new.own (one lane below k within other);
+      each = λ lane k below within. rw new.own (one lane below k within);
     }
   where
-    one : (lane : ℕ) → lane < LANES → (k : ℕ) → k < variables_of p → IsNoInput p k → get_or (set line.values along (get_or line.column lane (pos 0))) k (pos 0) ≡ get_or (central_values p (cell lane) 0) k (pos 0)
-    one lane below k within other =
+    one : (lane : ℕ) → lane < LANES → (k : ℕ) → k < variables_of p → get_or (set line.values along (get_or line.column lane (pos 0))) k (pos 0) ≡ get_or (central_values p (cell lane) line.input) k (pos 0)
+    one lane below k within =
         let c : ℕ = cell lane in
         let is = are lane below in
         let x : ℤ = get_or line.column lane (pos 0) in
         elim (cases_eq k along) [
           | inl same ↦
               set_at line.values along k x same (omega (arith, lt, few, new.long)) ∙ new.column lane below
-              ∙ ap (middle_of (get_or (axes_of p) along no_axis)) (sym (index_of_own p indices along _ c is lt)) ∙ state_value p c 0 sound is.cell along lt
-              ∙ ap (λ (n : ℕ). get_or (central_values p c 0) n (pos 0)) (sym same)
-          | inr apart ↦
-              get_or-set_other line.values along k x (pos 0) apart
-              ∙ elim (cases_lt k (length p.states + length p.inputs)) [
-                | inl early ↦ new.states k (other early) ∙ ap (middle_of (get_or (axes_of p) k no_axis)) (sym (index_of_other p indices along _ c is k (other early) apart)) ∙ state_value p c 0 sound is.cell k (other early)
-                | inr late ↦ new.noises k within late ∙ noise_value p c 0 k late within
-              ]
+              ∙ ap (middle_of (get_or (axes_of p) along no_axis)) (sym (index_of_own p indices along _ c is lt)) ∙ centre_value p c line.input sound is.cell along lt
+              ∙ ap (λ (n : ℕ). get_or (central_values p c line.input) n (pos 0)) (sym same)
+          | inr apart ↦ get_or-set_other line.values along k x (pos 0) apart ∙ new.each k within c line.input (indices_there p indices along _ c is line.input new.inputs k (λ same. absurd (apart same)))
         ]

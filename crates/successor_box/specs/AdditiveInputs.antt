@@ -19,7 +19,11 @@ pub record AreInputIncrements (p : Description) (i : ℕ) (increments : List ℤ
 abbrev pub increased : AdditiveLine → ℕ → ℕ → ℤ
 increased line u lane = slice_index_or line.values lane (pos 0) +ℤ slice_index_or line.increments.now u (pos 0)
 
--- There is an increment for each input vector, and with it a line has the value of a state's equation under that, in each lane.
-pub record IsAdditiveLineOf (p : Description) (line : CellLine) (i : ℕ) (additive : AdditiveLine) : Type 0 where
+-- There is an increment for each input vector, and with it a line has the value of a state's equation under that, at the centre of each lane's cell.
+pub record IsAdditiveLineOf (p : Description) (cell : ℕ → ℕ) (i : ℕ) (additive : AdditiveLine) : Type 0 where
   pub long : length additive.increments.now ≡ vectors_of p.inputs
-  pub each : (cell : ℕ → ℕ) → AreCentresOf p cell line → (u lane : ℕ) → u < vectors_of p.inputs → lane < LANES → increased additive u lane ≡ value_of (equation_at p i) (central_values p (cell lane) u)
+  pub each : (u lane : ℕ) → u < vectors_of p.inputs → lane < LANES → increased additive u lane ≡ value_of (equation_at p i) (central_values p (cell lane) u)
+
+-- it has them at the cells whose centres another line has
+abbrev pub IsAdditiveAt : Description → CellLine → ℕ → AdditiveLine → Type 0
+IsAdditiveAt p line i additive = (cell : ℕ → ℕ) × AreCentresOf p cell line × IsAdditiveLineOf p cell i additive

@@ -1,10 +1,10 @@
 -- Cells in a line, with the values of the variables at their centres.
-use Rattle.std.specs.Prelude.{◌≡◌, ◌↔◌, ℕ, ◌+◌, ◌-◌, ◌<◌, ◌==◌, min, ℤ, pos, List, length, slice_index, slice_index_or, slice_set, Option, None, if◌then◌else◌}
+use Rattle.std.specs.Prelude.{◌≡◌, ℕ, ◌+◌, ◌-◌, ◌<◌, ◌==◌, min, ℤ, pos, List, length, slice_index, slice_index_or, slice_set, Option, None, if◌then◌else◌}
 use Rattle.fixed_expr.specs.declared.lanes.TheConstants.{LANES}
 use Rattle.grid_quantiser.specs.declared.extents.Extent.{Extent}
 use Rattle.grid_quantiser.specs.Axes.{cells_of}
 use Rattle.grid_quantiser.specs.Indices.{index_along}
-use Rattle.plant_record.specs.Description.{Description, axes_of}
+use Rattle.plant_record.specs.Description.{Description, axes_of, vectors_of}
 use Rattle.successor_box.specs.declared.cell_line.CellLine.{CellLine}
 use Rattle.successor_box.specs.SuccessorBoxes.{central_values}
 use Rattle.successor_box.specs.PairExtents.{IsExtentBeforeAt}
@@ -30,15 +30,12 @@ AreCellsOn p indices along cells cell = (lane : ℕ) → lane < LANES → IsCell
 abbrev pub values_in : CellLine → ℕ → List ℤ
 values_in line lane = slice_set line.values line.along (slice_index_or line.column lane (pos 0))
 
--- a variable is a state or a noise
-abbrev pub IsNoInput : Description → ℕ → Type 0
-IsNoInput p k = k < length p.states + length p.inputs → k < length p.states
-
--- A line has the values of the variables at the centres of cells, but for the input variables.
+-- A line has the values of the variables at the centres of cells, under its input vector.
 pub record AreCentresOf (p : Description) (cell : ℕ → ℕ) (line : CellLine) : Type 0 where
   pub along : line.along < length p.states
+  pub input : line.input < vectors_of p.inputs
   pub cells : (lane : ℕ) → lane < LANES → cell lane < cells_of (axes_of p)
-  pub each : (lane k : ℕ) → lane < LANES → k < length p.states + length p.inputs + length p.noises → IsNoInput p k → slice_index_or (values_in line lane) k (pos 0) ≡ slice_index_or (central_values p (cell lane) 0) k (pos 0)
+  pub each : (lane k : ℕ) → lane < LANES → k < length p.states + length p.inputs + length p.noises → slice_index_or (values_in line lane) k (pos 0) ≡ slice_index_or (central_values p (cell lane) line.input) k (pos 0)
 
 -- a line has the centres of some cells
 abbrev pub HaveCentres : Description → CellLine → Type 0
@@ -48,14 +45,14 @@ HaveCentres p line = (cell : ℕ → ℕ) × AreCentresOf p cell line
 abbrev pub HaveCentresOf : Description → List ℕ → ℕ → ℕ → CellLine → Type 0
 HaveCentresOf p indices along cells line = (cell : ℕ → ℕ) → AreCellsOn p indices along cells cell → AreCentresOf p cell line
 
--- two lines have the centres of the same cells
+-- a line still has the centres of the same cells
 abbrev pub KeepCentres : Description → CellLine → CellLine → Type 0
-KeepCentres p old new = (cell : ℕ → ℕ) → AreCentresOf p cell old ↔ AreCentresOf p cell new
+KeepCentres p old new = (cell : ℕ → ℕ) → AreCentresOf p cell old → AreCentresOf p cell new
 
 -- the extents of the first cells under an input, along the axis of a state, on the extended axis
 abbrev pub HoldExtentsUnder : Description → (ℕ → ℕ) → ℕ → ℕ → List (Option Extent) → Type 0
 HoldExtentsUnder p cell u i extents = (lane : ℕ) → lane < length extents → IsExtentBeforeAt p (cell lane) u i 0 (slice_index_or extents lane None)
 
--- the same of the cells whose centres a line has
-abbrev pub HoldExtentsAtCentres : Description → CellLine → ℕ → ℕ → List (Option Extent) → Type 0
-HoldExtentsAtCentres p line u i extents = (cell : ℕ → ℕ) → AreCentresOf p cell line → HoldExtentsUnder p cell u i extents
+-- the same of the cells whose centres a line has, under its input
+abbrev pub HoldExtentsAtCentres : Description → CellLine → ℕ → List (Option Extent) → Type 0
+HoldExtentsAtCentres p line i extents = (cell : ℕ → ℕ) → AreCentresOf p cell line → HoldExtentsUnder p cell line.input i extents

@@ -8,7 +8,7 @@ use Rattle.grid_quantiser.specs.Axes.{no_axis}
 use Rattle.grid_quantiser.specs.Indices.{index_along}
 use Rattle.grid_quantiser.specs.Extents.{IsExtentOf, IsExtentBefore}
 use Rattle.grid_quantiser.specs.ExtentBoxes.{IsBoxMeeting}
-use Rattle.plant_record.specs.Description.{Description, axes_of}
+use Rattle.plant_record.specs.Description.{Description, axes_of, vectors_of}
 use Rattle.plant_record.specs.ValueIndices.{value_index}
 use Rattle.plant_record.specs.Steps.{equation_at}
 use Rattle.successor_box.specs.SuccessorBoxes.{low_corner, high_corner}
@@ -38,9 +38,10 @@ abbrev pub IsExtentBeforeAt : Description → ℕ → ℕ → ℕ → ℕ → Op
 IsExtentBeforeAt p c u i indices extent =
     IsExtentBefore (slice_index_or (axes_of p) i no_axis) indices (slice_index_or (low_corner p c u) i (pos 0)) (slice_index_or (high_corner p c u) i (pos 0)) extent
 
--- indices, after those of the states, are those of an input vector's values
-abbrev pub AreInputIndices : Description → List ℕ → ℕ → Type 0
-AreInputIndices p indices u = (k : ℕ) → k < length p.inputs → slice_index indices (length p.states + k) ≡ value_index p.inputs k u
+-- Indices, after those of the states, are those of an input vector's values.
+pub record AreInputIndices (p : Description) (indices : List ℕ) (u : ℕ) : Type 0 where
+  pub input : u < vectors_of p.inputs
+  pub each : (k : ℕ) → k < length p.inputs → slice_index indices (length p.states + k) ≡ value_index p.inputs k u
 
 -- an extent depends on a variable that stands in the state's equation, but for the state itself where the extent shifts with it
 abbrev pub depends_on : Description → ℕ → ℕ → Bool

@@ -1,13 +1,13 @@
 //! Equations to which inputs are only added: their values under one input vector give those under all.
-ghost use Rattle.std.specs.Prelude.{◌<◌, length, IfOk, IfSome, IsTrue, IsFalse};
+ghost use Rattle.std.specs.Prelude.{ℕ, ◌<◌, length, IfOk, IfSome, IsTrue, IsFalse};
 ghost use Rattle.fixed_expr.specs.Expression.{expression_of};
 ghost use Rattle.plant_record.specs.Description.{vectors_of};
-ghost use Rattle.successor_box.specs.CellLines.{HaveCentres, KeepCentres};
+ghost use Rattle.successor_box.specs.CellLines.{HaveCentres, KeepCentres, AreCentresOf};
 ghost use Rattle.successor_box.specs.AdditiveInputs.{AreInputIncrements, IsAdditiveLineOf};
 ghost use Rattle.successor_box.specs.inside.Additive.{NamesNoInput, NamesNoState, HasAdditiveInputs};
 ghost use Rattle.successor_box.specs.inside.Lines.{IsIncrementTo, AreIncreased};
 
-use crate::cell_line::{CellLine, set_input};
+use crate::cell_line::CellLine;
 use crate::sampled::Sampled;
 use fixed_expr::narrow::narrow;
 use fixed_expr::{Expr, LANES, eval_along};
@@ -71,13 +71,13 @@ impl Sampled<'_> {
         requires increments { IfSome increments (λ increments. AreInputIncrements self.now.plant.now state increments.now) }
         requires line { HaveCentres self.now.plant.now line.old }
         ensures kept { KeepCentres self.now.plant.now line.old line.new }
-        ensures line { IfSome result (IsAdditiveLineOf self.now.plant.now line.new state) }
+        ensures line { (cell : ℕ → ℕ) → AreCentresOf self.now.plant.now cell line.old → IfSome result (IsAdditiveLineOf self.now.plant.now cell state) }
     {
         let increments = increments?;
         let p = self.plant;
-        set_input(self, 0, &mut line.values);
+        line.set_input(self, 0);
         let mut values = [0; LANES];
-        eval_along(p.equation(state), &line.lanes(p.variables()), &mut values)?;
+        eval_along(p.equation(state), &line.lanes(p), &mut values)?;
         Some(AdditiveLine { values, increments })
     }
 }

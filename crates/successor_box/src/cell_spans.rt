@@ -10,7 +10,7 @@ ghost use Rattle.interval_eval.specs.LaneSpans.{interval_in, area_in};
 ghost use Rattle.interval_eval.specs.Span.{SpanStaysInRange, span_of};
 ghost use Rattle.plant_record.specs.Description.{vectors_of};
 ghost use Rattle.successor_box.specs.inside.Area.{variables_of, no_range};
-ghost use Rattle.successor_box.specs.inside.Lines.{HoldsInLanes, HaveValuesUnder, HoldSpans, AreCellAreas, HoldCellRanges};
+ghost use Rattle.successor_box.specs.inside.Lines.{HoldsInFirst, HoldsInLanes, HaveValuesUnder, HoldSpans, AreCellAreas, HoldCellRanges};
 
 use crate::area::{NO_RANGE, offset};
 use crate::sampled::Sampled;
@@ -19,16 +19,23 @@ use fixed_expr::{Expr, LANES, ValuesAlong};
 use interval_eval::{Interval, IntervalColumn, NO_INTERVALS, span, span_lanes};
 
 impl Sampled<'_> {
-    /// The span of an equation over each cell.
-    pub(crate) fn spans(&self, input: u32, state: u32, at: &ValuesAlong<'_>) -> [Interval; LANES]
+    /// The span of an equation over each cell in the first lanes, so many.
+    pub(crate) fn spans(
+        &self,
+        input: u32,
+        state: u32,
+        at: &ValuesAlong<'_>,
+        lanes: usize,
+    ) -> [Interval; LANES]
         requires input { input < vectors_of self.now.plant.now.inputs }
         requires state { state < length self.now.plant.now.equations }
         requires values { HaveValuesUnder self.now.plant.now input at.now }
-        ensures { HoldSpans self.now.plant.now at.now input state result }
+        requires few { lanes ≤ LANES }
+        ensures { HoldSpans lanes self.now.plant.now at.now input state result }
     {
         let p = self.plant;
         let area = self.cell_columns(at);
-        spans_in_lanes(p.equation(state), &area[..p.variables() as usize])
+        spans_in_lanes(p.equation(state), &area[..p.variables() as usize], lanes)
     }
 
     /// The ranges of the variables over the cells, one column for each. Nothing is said of the columns past the last.
@@ -82,17 +89,19 @@ fn moved(numbers: &[i64; LANES], by: i64) -> [i64; LANES]
     moved
 }
 
-/// The span of an expression in each lane: in 64 bits for all at once, or lane by lane where that leaves them.
-fn spans_in_lanes(e: &Expr, columns: &[IntervalColumn]) -> [Interval; LANES]
+/// The span of an expression in each of the first lanes, so many: in 64 bits for all lanes at once, or lane by lane where that
+/// leaves them.
+fn spans_in_lanes(e: &Expr, columns: &[IntervalColumn], lanes: usize) -> [Interval; LANES]
     requires formed { IsWellFormed (expression_of e.now) (length columns.now) }
     requires few { length columns.now ≤ VARIABLES_LIMIT }
-    requires fits { (j : ℕ) → j < LANES → SpanStaysInRange (expression_of e.now) (area_in columns.now j) }
-    ensures { HoldsInLanes no_range (λ j. span_of (expression_of e.now) (area_in columns.now j)) result }
+    requires lanes { lanes ≤ LANES }
+    requires fits { (j : ℕ) → j < lanes → SpanStaysInRange (expression_of e.now) (area_in columns.now j) }
+    ensures { HoldsInFirst lanes no_range (λ j. span_of (expression_of e.now) (area_in columns.now j)) result }
 {
     let mut narrow = NO_INTERVALS;
     match span_lanes(e, columns, &mut narrow) {
         Some(()) => widened(&narrow),
-        None => wide_spans_in_lanes(e, columns),
+        None => wide_spans_in_lanes(e, columns, lanes),
     }
 }
 
@@ -108,16 +117,17 @@ fn widened(narrow: &IntervalColumn) -> [Interval; LANES]
     wide
 }
 
-/// The span of an expression in each lane, one lane after the other.
+/// The span of an expression in each of the first lanes, one lane after the other.
 #[cold]
-fn wide_spans_in_lanes(e: &Expr, columns: &[IntervalColumn]) -> [Interval; LANES]
+fn wide_spans_in_lanes(e: &Expr, columns: &[IntervalColumn], lanes: usize) -> [Interval; LANES]
     requires formed { IsWellFormed (expression_of e.now) (length columns.now) }
     requires few { length columns.now ≤ VARIABLES_LIMIT }
-    requires fits { (j : ℕ) → j < LANES → SpanStaysInRange (expression_of e.now) (area_in columns.now j) }
-    ensures { HoldsInLanes no_range (λ j. span_of (expression_of e.now) (area_in columns.now j)) result }
+    requires lanes { lanes ≤ LANES }
+    requires fits { (j : ℕ) → j < lanes → SpanStaysInRange (expression_of e.now) (area_in columns.now j) }
+    ensures { HoldsInFirst lanes no_range (λ j. span_of (expression_of e.now) (area_in columns.now j)) result }
 {
     let mut spans = [NO_RANGE; LANES];
-    for j in 0..LANES {
+    for j in 0..lanes {
         spans[j] = span_in_lane(e, columns, j);
     }
     spans

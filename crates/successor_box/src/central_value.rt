@@ -1,23 +1,24 @@
 //! The values of the variables at the centre of a cell, one by one.
-ghost use Rattle.std.specs.Prelude.{◌≡◌, ◌+◌, ◌-◌, ◌*ℤ◌, ◌+ℤ◌, ◌≤◌, ◌<◌, pos, length, map, slice_index, slice_index_or};
+ghost use Rattle.std.specs.Prelude.{◌≡◌, ℕ, ◌*ℤ◌, ◌+ℤ◌, ◌<◌, pos, length, map, slice_index_or};
 ghost use Rattle.base.specs.Narrow.{IsNarrow};
 ghost use Rattle.grid_quantiser.specs.Indices.{middle_of};
 ghost use Rattle.plant_record.specs.Limits.{IsWithinLimits};
-ghost use Rattle.successor_box.specs.SuccessorBoxes.{noise_centre};
+ghost use Rattle.successor_box.specs.SuccessorBoxes.{noise_centre, central_values};
 ghost use Rattle.successor_box.specs.inside.Area.{variables_of, axis_along};
+ghost use Rattle.successor_box.specs.inside.Lines.{HasIndexIn};
 
-use crate::indices_limit::INDICES_LIMIT;
 use crate::noise_centres::noise_centre;
 use plant_record::Plant;
 
-/// The value of a variable at the centre of the cell that has these indices in the states. That of an input variable is 0
-/// until an input vector is set.
+/// The most variables in which a pair of a cell and an input vector has indices: 6 states and 3 input variables.
+pub const INDICES_LIMIT: usize = 9;
+
+/// The value of a variable at the centre of each cell, under each input vector, that have this index in it.
 pub(crate) fn central_value(p: &Plant, indices: &[u32; INDICES_LIMIT], k: u32) -> i64
     requires plant { IsWithinLimits p.now }
     requires variable { k < variables_of p.now }
-    requires within { k < length p.now.states → slice_index indices.now k < (axis_along p.now k).count }
-    ensures state { k < length p.now.states → result ≡ middle_of (axis_along p.now k) (slice_index indices.now k) }
-    ensures noise { length p.now.states + length p.now.inputs ≤ k → result ≡ slice_index_or (map noise_centre p.now.noises) (k - length p.now.states - length p.now.inputs) (pos 0) }
+    requires pair { (c u : ℕ) × HasIndexIn p.now indices.now k c u }
+    ensures { (c u : ℕ) → HasIndexIn p.now indices.now k c u → result ≡ slice_index_or (central_values p.now c u) k (pos 0) }
 {
     let states = p.states();
     let inputs = p.input_variables();
@@ -26,7 +27,7 @@ pub(crate) fn central_value(p: &Plant, indices: &[u32; INDICES_LIMIT], k: u32) -
         return middle(first, width, indices[k as usize]);
     }
     if k - states < inputs {
-        return 0;
+        return p.value_at(k - states, indices[k as usize]) as i64;
     }
     noise_middle(p, k - states - inputs)
 }

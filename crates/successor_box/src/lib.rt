@@ -11,8 +11,6 @@ mod cell_line;
 mod cell_spans;
 mod central_value;
 mod extents;
-mod indices_limit;
-mod input_numbers;
 pub mod laws;
 mod line_extents;
 mod noise_centres;
@@ -23,8 +21,7 @@ mod slopes;
 
 pub use additive::AdditiveLine;
 pub use cell_line::CellLine;
-pub use indices_limit::INDICES_LIMIT;
-pub use input_numbers::input_number;
+pub use central_value::INDICES_LIMIT;
 pub use one_pair::successors;
 pub use sampled::Sampled;
 pub use slope_fault::SlopeFault;

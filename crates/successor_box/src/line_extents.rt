@@ -8,14 +8,14 @@ ghost use Rattle.fixed_expr.specs.Value.{IsWellFormed, StaysInRange, value_of};
 ghost use Rattle.plant_record.specs.declared.version.PlantVersion.TheVariants.{One};
 ghost use Rattle.plant_record.specs.Description.{vectors_of};
 ghost use Rattle.plant_record.specs.Steps.{equation_at};
-ghost use Rattle.successor_box.specs.CellLines.{HaveCentres, KeepCentres, HoldExtentsAtCentres};
-ghost use Rattle.successor_box.specs.AdditiveInputs.{IsAdditiveLineOf};
+ghost use Rattle.successor_box.specs.CellLines.{HaveCentres, HoldExtentsAtCentres};
+ghost use Rattle.successor_box.specs.AdditiveInputs.{IsAdditiveAt};
 ghost use Rattle.successor_box.specs.inside.Area.{no_range};
-ghost use Rattle.successor_box.specs.inside.Lines.{HoldsInLanes, HaveValuesUnder, HoldGrowths, HoldNextIntervals, HoldExtentsAround, HoldExtentsOf, GivesValues, intersection_in};
+ghost use Rattle.successor_box.specs.inside.Lines.{HoldsInFirst, HoldsInLanes, HaveValuesUnder, HoldGrowths, HoldNextIntervals, HoldExtentsAround, HoldExtentsOf, GivesValues, intersection_in};
 
 use crate::additive::AdditiveLine;
 use crate::area::NO_RANGE;
-use crate::cell_line::{CellLine, set_input};
+use crate::cell_line::CellLine;
 use crate::extents::intersection;
 use crate::sampled::Sampled;
 use base::limits::VARIABLES_LIMIT;
@@ -24,31 +24,30 @@ use grid_quantiser::Extent;
 use interval_eval::Interval;
 use plant_record::PlantVersion;
 
+/// So many lanes are evaluated one by one, which costs less than all lanes at once.
+const FEW_LANES: usize = 2;
+
 impl Sampled<'_> {
     /// The extents of successor boxes along the axis of a state extended by its own length below, from which `Grid::shifted_extent`
-    /// goes on, each None where one of the box's ends leaves that too: of the first cells of a line, under an input vector. It takes
-    /// no memory, and leaves the vector's values in the line. With what `additive_line` gives of the line the equation isn't evaluated
-    /// again.
+    /// goes on, each None where one of the box's ends leaves that too: of the first cells of a line, under its input vector. It takes
+    /// no memory. With what `additive_line` gives of the line the equation isn't evaluated again.
     pub fn extents_under(
         &self,
-        input: u32,
         state: u32,
         additive: Option<&AdditiveLine<'_>>,
-        line: &mut CellLine,
+        line: &CellLine,
         extents: &mut [Option<Extent>],
     )
-        requires input { input < vectors_of self.now.plant.now.inputs }
         requires state { state < length self.now.plant.now.equations }
-        requires additive { IfSome additive (λ a. IsAdditiveLineOf self.now.plant.now line.old state a.now) }
-        requires line { HaveCentres self.now.plant.now line.old }
+        requires additive { IfSome additive (λ a. IsAdditiveAt self.now.plant.now line.now state a.now) }
+        requires line { HaveCentres self.now.plant.now line.now }
         requires few { length extents.old ≤ LANES }
         ensures long { length extents.new ≡ length extents.old }
-        ensures kept { KeepCentres self.now.plant.now line.old line.new }
-        ensures each { HoldExtentsAtCentres self.now.plant.now line.old input state extents.new }
+        ensures each { HoldExtentsAtCentres self.now.plant.now line.now state extents.new }
     {
         let p = self.plant;
-        set_input(self, input, &mut line.values);
-        let at = line.lanes(p.variables());
+        let input = line.input;
+        let at = line.lanes(p);
         match p.plant_version() {
             PlantVersion::One => self.growth_extents(input, state, additive, &at, extents),
             PlantVersion::Two => self.next_extents(input, state, &at, extents),
@@ -74,7 +73,8 @@ impl Sampled<'_> {
         ensures each { HoldExtentsOf self.now.plant.now at.now input state extents.new }
     {
         let mut values = [0; LANES];
-        match eval_beside(self.plant.equation(state), input, additive, at, &mut values) {
+        let equation = self.plant.equation(state);
+        match eval_beside(equation, input, additive, at, extents.len(), &mut values) {
             Some(()) => self.narrow_extents(input, state, &values, extents),
             None => self.next_extents(input, state, at, extents),
         }
@@ -102,7 +102,7 @@ impl Sampled<'_> {
         }
     }
 
-    /// The extents between the ends of where an equation leads: in version 1 only where a value leaves 64 bits.
+    /// The extents between the ends of where an equation leads: in version 1 only for few cells, or where a value leaves 64 bits.
     fn next_extents(
         &self,
         input: u32,
@@ -117,37 +117,53 @@ impl Sampled<'_> {
         ensures long { length extents.new ≡ length extents.old }
         ensures each { HoldExtentsOf self.now.plant.now at.now input state extents.new }
     {
-        let next_intervals = self.next_intervals(input, state, at);
+        let next_intervals = self.next_intervals(input, state, at, extents.len());
         let quantiser = self.plant.grid().extended_quantiser(state);
         for j in 0..extents.len() {
             extents[j] = quantiser.extent(next_intervals[j].lo, next_intervals[j].hi);
         }
     }
 
-    /// Where an equation leads from each cell.
-    fn next_intervals(&self, input: u32, state: u32, at: &ValuesAlong<'_>) -> [Interval; LANES]
+    /// Where an equation leads from the cells in the first lanes, so many.
+    fn next_intervals(
+        &self,
+        input: u32,
+        state: u32,
+        at: &ValuesAlong<'_>,
+        lanes: usize,
+    ) -> [Interval; LANES]
         requires input { input < vectors_of self.now.plant.now.inputs }
         requires state { state < length self.now.plant.now.equations }
         requires values { HaveValuesUnder self.now.plant.now input at.now }
-        ensures { HoldNextIntervals self.now.plant.now at.now input state result }
+        requires few { lanes ≤ LANES }
+        ensures { HoldNextIntervals lanes self.now.plant.now at.now input state result }
     {
-        let growth_intervals = self.growth_intervals(input, state, at);
+        let growth_intervals = self.growth_intervals(input, state, at, lanes);
         match self.plant.plant_version() {
             PlantVersion::One => growth_intervals,
-            PlantVersion::Two => intersections(&growth_intervals, &self.spans(input, state, at)),
+            PlantVersion::Two => {
+                intersections(&growth_intervals, &self.spans(input, state, at, lanes))
+            }
         }
     }
 
-    /// The value of an equation at the centre of each cell, less and plus how far it moves within the cell.
-    fn growth_intervals(&self, input: u32, state: u32, at: &ValuesAlong<'_>) -> [Interval; LANES]
+    /// The value of an equation at the centre of each cell in the first lanes, less and plus how far it moves within the cell.
+    fn growth_intervals(
+        &self,
+        input: u32,
+        state: u32,
+        at: &ValuesAlong<'_>,
+        lanes: usize,
+    ) -> [Interval; LANES]
         requires input { input < vectors_of self.now.plant.now.inputs }
         requires state { state < length self.now.plant.now.equations }
         requires values { HaveValuesUnder self.now.plant.now input at.now }
-        ensures { HoldGrowths self.now.plant.now at.now input state result }
+        requires few { lanes ≤ LANES }
+        ensures { HoldGrowths lanes self.now.plant.now at.now input state result }
     {
-        let next = values_in_lanes(self.plant.equation(state), at);
+        let next = values_in_lanes(self.plant.equation(state), at, lanes);
         let mut growth_intervals = [NO_RANGE; LANES];
-        for j in 0..LANES {
+        for j in 0..lanes {
             growth_intervals[j] = self.growth(next[j], input, state);
         }
         growth_intervals
@@ -155,12 +171,13 @@ impl Sampled<'_> {
 }
 
 /// The values of an expression in the lanes under an input vector, by those of a line where it is given, unless one leaves 64
-/// bits. After None nothing is said of `found`.
+/// bits or few lanes are wanted. After None nothing is said of `found`.
 fn eval_beside(
     e: &Expr,
     input: u32,
     additive: Option<&AdditiveLine<'_>>,
     at: &ValuesAlong<'_>,
+    lanes: usize,
     found: &mut [i64; LANES],
 ) -> Option<()>
     requires formed { IsWellFormed (expression_of e.now) (length at.now.values.now) }
@@ -169,6 +186,7 @@ fn eval_beside(
 {
     match additive {
         Some(additive) => additive.values_under(input, found),
+        None if lanes <= FEW_LANES => None,
         None => eval_along(e, at, found),
     }
 }
@@ -184,18 +202,23 @@ fn intersections(first: &[Interval; LANES], second: &[Interval; LANES]) -> [Inte
     intersections
 }
 
-/// The value of an expression in each lane: in 64 bits for all at once, or lane by lane where that leaves them.
-fn values_in_lanes(e: &Expr, at: &ValuesAlong<'_>) -> [i128; LANES]
+/// The value of an expression in each of the first lanes, so many: in 64 bits for all lanes at once, or one lane after the other
+/// where they are few or a value leaves 64 bits.
+fn values_in_lanes(e: &Expr, at: &ValuesAlong<'_>, lanes: usize) -> [i128; LANES]
     requires formed { IsWellFormed (expression_of e.now) (length at.now.values.now) }
     requires few { length at.now.values.now ≤ VARIABLES_LIMIT }
     requires along { at.now.along < length at.now.values.now }
-    requires fits { (j : ℕ) → j < LANES → StaysInRange (expression_of e.now) (lane_of at.now j) }
-    ensures { HoldsInLanes (pos 0) (λ j. value_of (expression_of e.now) (lane_of at.now j)) result }
+    requires lanes { lanes ≤ LANES }
+    requires fits { (j : ℕ) → j < lanes → StaysInRange (expression_of e.now) (lane_of at.now j) }
+    ensures { HoldsInFirst lanes (pos 0) (λ j. value_of (expression_of e.now) (lane_of at.now j)) result }
 {
+    if lanes <= FEW_LANES {
+        return values_one_by_one(e, at, lanes);
+    }
     let mut narrow = [0; LANES];
     match eval_along(e, at, &mut narrow) {
         Some(()) => widened(&narrow),
-        None => wide_values_in_lanes(e, at),
+        None => values_one_by_one(e, at, lanes),
     }
 }
 
@@ -211,17 +234,17 @@ fn widened(narrow: &[i64; LANES]) -> [i128; LANES]
     wide
 }
 
-/// The value of an expression in each lane, one lane after the other.
-#[cold]
-fn wide_values_in_lanes(e: &Expr, at: &ValuesAlong<'_>) -> [i128; LANES]
+/// The value of an expression in each of the first lanes, one lane after the other.
+fn values_one_by_one(e: &Expr, at: &ValuesAlong<'_>, lanes: usize) -> [i128; LANES]
     requires formed { IsWellFormed (expression_of e.now) (length at.now.values.now) }
     requires few { length at.now.values.now ≤ VARIABLES_LIMIT }
     requires along { at.now.along < length at.now.values.now }
-    requires fits { (j : ℕ) → j < LANES → StaysInRange (expression_of e.now) (lane_of at.now j) }
-    ensures { HoldsInLanes (pos 0) (λ j. value_of (expression_of e.now) (lane_of at.now j)) result }
+    requires lanes { lanes ≤ LANES }
+    requires fits { (j : ℕ) → j < lanes → StaysInRange (expression_of e.now) (lane_of at.now j) }
+    ensures { HoldsInFirst lanes (pos 0) (λ j. value_of (expression_of e.now) (lane_of at.now j)) result }
 {
     let mut values = [0; LANES];
-    for j in 0..LANES {
+    for j in 0..lanes {
         values[j] = value_in_lane(e, at, j);
     }
     values

@@ -6,7 +6,7 @@ use Rattle.plant_record.specs.Description.{Description, axes_of, vectors_of}
 use Rattle.plant_record.specs.ValueIndices.{value_count}
 use Rattle.plant_game.specs.Abstraction.{pairs_of}
 use Rattle.successor_box.specs.PairExtents.{depends_on, index_in}
-use Rattle.successor_box.specs.declared.indices_limit.TheConstants.{INDICES_LIMIT}
+use Rattle.successor_box.specs.declared.central_value.TheConstants.{INDICES_LIMIT}
 use Rattle.pair_boxes.specs.declared.digits.Digit.{Digit}
 use Rattle.pair_boxes.specs.declared.digits.Digits.{Digits}
 use Rattle.pair_boxes.specs.declared.extent_lines.SlotLines.{SlotLines}

@@ -4,7 +4,6 @@ use Rattle.fixed_expr.specs.Expression.{Expression}
 use Rattle.fixed_expr.specs.Mentions.{mentions}
 use Rattle.fixed_expr.specs.Value.{value_of}
 use Rattle.plant_record.specs.Description.{Description}
-use Rattle.successor_box.specs.CellLines.{IsNoInput}
 
 -- no input variable stands in an expression
 abbrev pub NamesNoInput : Description → Expression → Type 0
@@ -13,6 +12,10 @@ NamesNoInput p e = (k : ℕ) → k < length p.inputs → IsFalse (mentions e (le
 -- no state stands in an expression
 abbrev pub NamesNoState : Description → Expression → Type 0
 NamesNoState p e = (k : ℕ) → k < length p.states → IsFalse (mentions e k)
+
+-- a variable is a state or a noise
+abbrev pub IsNoInput : Description → ℕ → Type 0
+IsNoInput p k = k < length p.states + length p.inputs → k < length p.states
 
 -- two lists of values differ in input variables alone
 abbrev pub DifferInInputs : Description → List ℤ → List ℤ → Type 0

@@ -1,5 +1,5 @@
 -- What is found of cells in lanes, under an input vector.
-use Rattle.std.specs.Prelude.{◌≡◌, ℕ, ◌+◌, ◌<◌, ◌^◌, ℤ, pos, ◌+ℤ◌, ◌*ℤ◌, List, [], length, slice_index_or, Option}
+use Rattle.std.specs.Prelude.{◌≡◌, ℕ, ◌+◌, ◌<◌, ◌^◌, ℤ, pos, ◌+ℤ◌, ◌*ℤ◌, List, [], length, slice_index, slice_index_or, Option}
 use Rattle.base.specs.Narrow.{IsNarrow}
 use Rattle.fixed_expr.specs.declared.lane_eval.ValuesAlong.{ValuesAlong}
 use Rattle.fixed_expr.specs.declared.lanes.TheConstants.{LANES}
@@ -12,12 +12,13 @@ use Rattle.interval_eval.specs.LaneSpans.{interval_in}
 use Rattle.interval_eval.specs.Span.{span_of}
 use Rattle.grid_quantiser.specs.declared.extents.Extent.{Extent}
 use Rattle.grid_quantiser.specs.Axes.{cells_of}
-use Rattle.plant_record.specs.Description.{Description, axes_of, vectors_of, vector_of}
+use Rattle.plant_record.specs.Description.{Description, axes_of, vectors_of}
 use Rattle.plant_record.specs.Steps.{equation_at}
 use Rattle.successor_box.specs.declared.additive.AdditiveLine.{AdditiveLine}
 use Rattle.successor_box.specs.SuccessorBoxes.{deviation_at, central_values, cell_area_of, growth_of, intersection_of, next_interval_of}
 use Rattle.successor_box.specs.AdditiveInputs.{increased}
-use Rattle.successor_box.specs.CellLines.{IsNoInput, HoldExtentsUnder}
+use Rattle.successor_box.specs.CellLines.{HoldExtentsUnder}
+use Rattle.successor_box.specs.PairExtents.{index_in}
 use Rattle.successor_box.specs.inside.Area.{variables_of, no_range}
 
 -- a cell and an input of a plant
@@ -50,9 +51,13 @@ pub record HasMiddleAfter (first width : ℤ) (index places : ℕ) : Type 0 wher
   pub way : IsNarrow (width *ℤ pos (index + places))
   pub middle : IsNarrow (middle_after first width index places)
 
+-- what is in each of so many lanes, the first ones
+abbrev pub HoldsInFirst : {A : Type 0} → ℕ → A → (ℕ → A) → List A → Type 0
+HoldsInFirst lanes none of found = (lane : ℕ) → lane < lanes → slice_index_or found lane none ≡ of lane
+
 -- what is in each lane
 abbrev pub HoldsInLanes : {A : Type 0} → A → (ℕ → A) → List A → Type 0
-HoldsInLanes none of found = (lane : ℕ) → lane < LANES → slice_index_or found lane none ≡ of lane
+HoldsInLanes none of found = HoldsInFirst LANES none of found
 
 -- what two intervals in a lane have in common
 abbrev pub intersection_in : List Interval → List Interval → ℕ → Interval
@@ -62,13 +67,11 @@ intersection_in first second lane = intersection_of (slice_index_or first lane n
 abbrev pub no_column : IntervalColumn
 no_column = record { lo = []; hi = [] }
 
--- the input variables have the values of an input vector
-abbrev pub AreInputValues : Description → ℕ → List ℤ → Type 0
-AreInputValues p u values = (k : ℕ) → k < length p.inputs → slice_index_or values (length p.states + k) (pos 0) ≡ slice_index_or (vector_of p.inputs u) k (pos 0)
-
--- the other variables keep their values
-abbrev pub KeepOthers : Description → List ℤ → List ℤ → Type 0
-KeepOthers p old new = (k : ℕ) → IsNoInput p k → slice_index_or new k (pos 0) ≡ slice_index_or old k (pos 0)
+-- A cell and an input vector have this index in a variable.
+pub record HasIndexIn (p : Description) (indices : List ℕ) (k c u : ℕ) : Type 0 where
+  pub cell : c < cells_of (axes_of p)
+  pub input : u < vectors_of p.inputs
+  pub index : k < length p.states + length p.inputs → index_in p c u k ≡ slice_index indices k
 
 -- In each lane the variables have their values at the centre of a cell under an input.
 pub record AreValuesUnder (p : Description) (cell : ℕ → ℕ) (u : ℕ) (at : ValuesAlong) : Type 0 where
@@ -81,21 +84,21 @@ pub record AreValuesUnder (p : Description) (cell : ℕ → ℕ) (u : ℕ) (at :
 abbrev pub HaveValuesUnder : Description → ℕ → ValuesAlong → Type 0
 HaveValuesUnder p u at = (cell : ℕ → ℕ) × AreValuesUnder p cell u at
 
--- what each lane has of its cell
-abbrev pub HoldsOfCells : {A : Type 0} → A → Description → ValuesAlong → ℕ → (ℕ → A) → List A → Type 0
-HoldsOfCells none p at u of found = (cell : ℕ → ℕ) → AreValuesUnder p cell u at → HoldsInLanes none (λ lane. of (cell lane)) found
+-- what each of so many lanes has of its cell
+abbrev pub HoldsOfCells : {A : Type 0} → ℕ → A → Description → ValuesAlong → ℕ → (ℕ → A) → List A → Type 0
+HoldsOfCells lanes none p at u of found = (cell : ℕ → ℕ) → AreValuesUnder p cell u at → HoldsInFirst lanes none (λ lane. of (cell lane)) found
 
 -- the growth bounds of the equation of a state
-abbrev pub HoldGrowths : Description → ValuesAlong → ℕ → ℕ → List Interval → Type 0
-HoldGrowths p at u i intervals = HoldsOfCells no_range p at u (λ c. growth_of p c u (equation_at p i)) intervals
+abbrev pub HoldGrowths : ℕ → Description → ValuesAlong → ℕ → ℕ → List Interval → Type 0
+HoldGrowths lanes p at u i intervals = HoldsOfCells lanes no_range p at u (λ c. growth_of p c u (equation_at p i)) intervals
 
 -- its spans over the cells
-abbrev pub HoldSpans : Description → ValuesAlong → ℕ → ℕ → List Interval → Type 0
-HoldSpans p at u i intervals = HoldsOfCells no_range p at u (λ c. span_of (equation_at p i) (cell_area_of p c u)) intervals
+abbrev pub HoldSpans : ℕ → Description → ValuesAlong → ℕ → ℕ → List Interval → Type 0
+HoldSpans lanes p at u i intervals = HoldsOfCells lanes no_range p at u (λ c. span_of (equation_at p i) (cell_area_of p c u)) intervals
 
 -- where it leads
-abbrev pub HoldNextIntervals : Description → ValuesAlong → ℕ → ℕ → List Interval → Type 0
-HoldNextIntervals p at u i intervals = HoldsOfCells no_range p at u (λ c. next_interval_at p i c u) intervals
+abbrev pub HoldNextIntervals : ℕ → Description → ValuesAlong → ℕ → ℕ → List Interval → Type 0
+HoldNextIntervals lanes p at u i intervals = HoldsOfCells lanes no_range p at u (λ c. next_interval_at p i c u) intervals
 
 -- the ranges of a variable over the cells
 abbrev pub HoldCellRanges : Description → ValuesAlong → ℕ → IntervalColumn → Type 0

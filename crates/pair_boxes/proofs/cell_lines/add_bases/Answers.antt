@@ -10,7 +10,7 @@ use Rattle.pair_boxes.specs.inside.Sums.{plus}
 use Rattle.pair_boxes.proofs.BoxSums.{ends_fit, sum_all}
 use Rattle.pair_boxes.proofs.CellLineLists.{cell_before}
 use Rattle.pair_boxes.proofs.LineBoxes.{cell_count}
-use Rattle.pair_boxes.proofs.PairDigits.{some_vectors}
+use Rattle.plant_record.proofs.lemmas.InputVectors.{some_vectors}
 use Rattle.pair_boxes.proofs.WrittenTerms.{written_long, written_before, written_in, written_after}
 use Rattle.pair_boxes.proofs.cell_lines.add_bases.Goals as goal
 use Rattle.pair_boxes.proofs.cell_lines.add_bases.Goals.{In-loop-cell}
@@ -36,7 +36,7 @@ add_base-requires-clause-base c =
     let lt = (here (goal.at.add_base-requires-clause-base c).In-loop-cell).0 in
     let short : cell < length c.args.bases.now = omega (arith, lt, cells.2.few, c.type_inv.bases) in
     subst (λ (b : Option CellBox). IfSome b (λ (b : CellBox). b.last < 2 ^ 28)) (get_or_default c.args.bases.now cell None c.index-bases-cell.result short)
-    (ends_fit (length p.equations) (get_or c.args.bases.now cell None) (omega (arith, plant.one_each, plant.states_bound)) (cells.2.each cell 0 lt (some_vectors p plant)).base_few)
+    (ends_fit (length p.equations) (get_or c.args.bases.now cell None) (omega (arith, plant.one_each, plant.states_bound)) (cells.2.each cell 0 lt (some_vectors p.inputs plant.inputs)).base_few)
 
 pub add_base-requires-clause-boxes : goal.add_base-requires-clause-boxes
 add_base-requires-clause-boxes c = λ u d short.

@@ -13,11 +13,15 @@ use Rattle.pair_boxes.specs.inside.Terms.{AreIndicesOf, IsSumAlong}
 use Rattle.pair_boxes.specs.inside.CellLines.{last_state, line_length, IsInLineOf, AreCellsFrom, AreSumsOfCells}
 use Rattle.pair_boxes.proofs.CellLineLists.{AreCellBoxes, range, cell_before, long_by, boxes_few, cell_fits, first_written, part, part_long, part_read, after_long, left_before, left_after, found_in}
 use Rattle.pair_boxes.proofs.LineCells.{last_among, last_slot_few, line_step, indices_in_line, further_in_line}
+use Rattle.plant_record.proofs.lemmas.InputVectors.{some_vectors}
 use Rattle.pair_boxes.proofs.cell_lines.boxes_in_line.Goals as goal
 use Rattle.pair_boxes.proofs.cell_lines.boxes_in_line.Goals.{After-vectors-inputs, After-copy_first}
 use Rattle.base.proofs.Products.{part_fits}
 
 -- ---- before the loop
+
+pub indices_of-indices-requires : goal.indices_of-indices-requires
+indices_of-indices-requires c = omega (arith, some_vectors c.args.sampled.now.plant.now.inputs c.args.sampled.now.within.plant.inputs)
 
 pub overflow_cast-inputs : goal.overflow_cast-inputs
 overflow_cast-inputs c = omega (arith, c.vectors-inputs.ensures.count, c.args.sampled.now.within.vectors)

@@ -24,9 +24,9 @@ slot_of-requires-clause-fits c =
     let p = c.args.of.now.sampled.plant.now in
     let within = c.args.of.now.sampled.within in
     let digits : List Digit = c.args.digits.now.each.items in
-    let indices : List ℕ = c.indices_of_input-indices.result in
+    let indices : List ℕ = c.indices_of-indices.result in
     let u : ℕ = c.loop-input.input in
-    let found = slot_is p 0 u indices digits (variables p c.args.of.now.state digits c.requires.each) c.indices_of_input-indices.ensures in
+    let found = slot_is p 0 u indices digits (variables p c.args.of.now.state digits c.requires.each) c.indices_of-indices.ensures in
     let below = slot_below p within.plant (sound_plant p within.plant) c.args.of.now.state digits c.args.digits.now.slots c.requires 0 u in
     subst (λ (ds : List Digit). slot_at ds (λ (k : ℕ). get_or indices k 0) < 2 ^ 32) (sym c.deref.ensures.value) (omega (arith, found, below, c.requires.few, within.pairs))
 
@@ -34,12 +34,12 @@ pub loop-input-preserved : goal.loop-input-preserved
 loop-input-preserved c =
     let p = c.args.of.now.sampled.plant.now in
     let digits : List Digit = c.args.digits.now.each.items in
-    let indices : List ℕ = c.indices_of_input-indices.result in
+    let indices : List ℕ = c.indices_of-indices.result in
     let u : ℕ = c.loop-input.input in
     let found : c.slot_of.result ≡ brought p digits u =
     c.slot_of.ensures
     ∙ ap (λ (ds : List Digit). slot_at ds (λ (k : ℕ). get_or indices k 0)) c.deref.ensures.value
-    ∙ slot_is p 0 u indices digits (variables p c.args.of.now.state digits c.requires.each) c.indices_of_input-indices.ensures
+    ∙ slot_is p 0 u indices digits (variables p c.args.of.now.state digits c.requires.each) c.indices_of-indices.ensures
     in
     c.in_ok-push.ensures.items ∙ ap₂ (λ (xs : List ℕ) (x : ℕ). xs ++ x ∷ []) c.loop-input.invariant found ∙ sym (map-range_with_len_more (brought p digits) 0 u u (omega arith))
 

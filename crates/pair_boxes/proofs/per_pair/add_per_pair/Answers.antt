@@ -1,21 +1,24 @@
-use Rattle.std.proofs.Common.{◌≡◌, ◌≢◌, ℕ, ◌+◌, ◌-◌, ◌*◌, ◌/◌, ◌<◌, ◌^◌, ◌∙◌, List, Option, None, length, get_or, below_more, refl, sym, ap, subst, arith}
+use Rattle.std.proofs.Common.{◌≡◌, ◌≢◌, ℕ, ◌+◌, ◌-◌, ◌*◌, ◌/◌, ◌<◌, ◌^◌, ◌∙◌, List, Option, Some, None, Bor, length, get_or, below_more, refl, sym, ap, subst, arith}
 use Rattle.std.specs.Prelude.{IfSome}
+use Rattle.std.specs.Option.{option_copied}
+use Rattle.successor_box.specs.declared.additive.AdditiveLine.{AdditiveLine}
+use Rattle.successor_box.specs.AdditiveInputs.{IsAdditiveAt}
 use Rattle.grid_quantiser.specs.declared.boxes.CellBox.{CellBox}
 use Rattle.grid_quantiser.specs.declared.extents.Extent.{Extent}
 use Rattle.std.proofs.lemmas.List.{length-take-le}
 use Rattle.plant_record.specs.Description.{Description, vectors_of}
 use Rattle.plant_record.proofs.lemmas.SoundPlants.{sound as sound_plant}
-use Rattle.successor_box.specs.CellLines.{LiesInGrid, HaveCentresOf, AreCentresOf, HoldExtentsAtCentres}
-use Rattle.successor_box.proofs.AdditiveInputs.{still_additive}
-use Rattle.pair_boxes.specs.inside.CellLines.{AreCellsFrom, AreExtentsUnder}
+use Rattle.successor_box.specs.CellLines.{AreCellsOn, LiesInGrid, HaveCentresOf, AreCentresOf, HoldExtentsAtCentres}
+use Rattle.successor_box.proofs.AdditiveInputs.{additive_at}
+use Rattle.pair_boxes.specs.inside.CellLines.{last_state, AreCellsFrom, AreExtentsUnder}
 use Rattle.pair_boxes.specs.inside.Sums.{plus}
 use Rattle.pair_boxes.specs.inside.Terms.{IsTermAt, IsSumAlong}
 use Rattle.pair_boxes.proofs.BoxSums.{ends_fit, rest_more}
 use Rattle.pair_boxes.proofs.LineBoxes.{cell_count}
-use Rattle.pair_boxes.proofs.LaneCells.{cell_in, cells_on, cells_in_grid, extents_here}
+use Rattle.pair_boxes.proofs.LaneCells.{cell_in, cells_on, cells_in_grid, first_input, extents_here}
 use Rattle.base.proofs.Products.{nothing_below}
 use Rattle.pair_boxes.proofs.per_pair.add_per_pair.Goals as goal
-use Rattle.pair_boxes.proofs.per_pair.add_per_pair.Goals.{In-loop-input}
+use Rattle.pair_boxes.proofs.per_pair.add_per_pair.Goals.{In-loop-input, After-set_input}
 
 -- there is an extent for each cell
 one_each : (c : goal.In-loop-input) (n : ℕ) → length c.args.boxes.now ≡ n * vectors_of c.args.of.now.sampled.plant.now.inputs → length c.loop-input.extents ≡ n
@@ -25,24 +28,43 @@ one_each c n long = c.loop-input.invariant.cells ∙ cell_count (length c.args.b
 counted : (p : Description) (indices : List ℕ) (d n boxes inputs : ℕ) → boxes ≡ n * vectors_of p.inputs → inputs ≡ vectors_of p.inputs → 0 < inputs → AreCellsFrom p indices d n → AreCellsFrom p indices d (boxes / inputs)
 counted p indices d n boxes inputs long count some = subst (AreCellsFrom p indices d) (sym (cell_count boxes n inputs (vectors_of p.inputs) long count some))
 
--- the line has the centres of the cells from one with these indices on
-centres : (c : goal.In-loop-input) (d n : ℕ) → length c.args.boxes.now ≡ n * vectors_of c.args.of.now.sampled.plant.now.inputs → AreCellsFrom c.args.of.now.sampled.plant.now c.args.indices.now d n →
-    AreCentresOf c.args.of.now.sampled.plant.now (cell_in d (length c.args.boxes.now / c.vectors-inputs.result)) c.loop-input.line
-centres c d n long from =
+-- the cells in the lanes, from one with these indices on
+on : (c : After-set_input) (d n : ℕ) → length c.args.boxes.now ≡ n * vectors_of c.args.of.now.sampled.plant.now.inputs → AreCellsFrom c.args.of.now.sampled.plant.now c.args.indices.now d n →
+    AreCellsOn c.args.of.now.sampled.plant.now c.args.indices.now (last_state c.args.of.now.sampled.plant.now) (length c.args.boxes.now / c.vectors-inputs.result) (cell_in d (length c.args.boxes.now / c.vectors-inputs.result))
+on c d n long from =
     let p = c.args.of.now.sampled.plant.now in
     let size : ℕ = length c.args.boxes.now / c.vectors-inputs.result in
-    c.loop-input.invariant.centres (cell_in d size)
-    (cells_on p c.args.of.now.sampled.within.plant c.args.indices.now d size (counted p c.args.indices.now d n (length c.args.boxes.now) c.vectors-inputs.result long c.vectors-inputs.ensures.count c.vectors-inputs.ensures.some from))
+    cells_on p c.args.of.now.sampled.within.plant c.args.indices.now d size (counted p c.args.indices.now d n (length c.args.boxes.now) c.vectors-inputs.result long c.vectors-inputs.ensures.count c.vectors-inputs.ensures.some from)
+
+-- the line has their centres
+centres : (c : After-set_input) (d n : ℕ) → length c.args.boxes.now ≡ n * vectors_of c.args.of.now.sampled.plant.now.inputs → AreCellsFrom c.args.of.now.sampled.plant.now c.args.indices.now d n →
+    AreCentresOf c.args.of.now.sampled.plant.now (cell_in d (length c.args.boxes.now / c.vectors-inputs.result)) c.set_input.new.self
+centres c d n long from = c.set_input.ensures.kept _ (c.loop-input.invariant.centres _ (on c d n long from))
 
 -- and extents at these are theirs
-found : (c : goal.In-loop-input) (d n : ℕ) → length c.args.boxes.now ≡ n * vectors_of c.args.of.now.sampled.plant.now.inputs → AreCellsFrom c.args.of.now.sampled.plant.now c.args.indices.now d n → (extents : List (Option Extent)) →
-    length extents ≡ length c.loop-input.extents → HoldExtentsAtCentres c.args.of.now.sampled.plant.now c.loop-input.line c.loop-input.input c.args.of.now.state extents → AreExtentsUnder c.args.of.now.sampled.plant.now d c.loop-input.input c.args.of.now.state extents
+found : (c : After-set_input) (d n : ℕ) → length c.args.boxes.now ≡ n * vectors_of c.args.of.now.sampled.plant.now.inputs → AreCellsFrom c.args.of.now.sampled.plant.now c.args.indices.now d n → (extents : List (Option Extent)) →
+    length extents ≡ length c.loop-input.extents → HoldExtentsAtCentres c.args.of.now.sampled.plant.now c.set_input.new.self c.args.of.now.state extents → AreExtentsUnder c.args.of.now.sampled.plant.now d c.loop-input.input c.args.of.now.state extents
 found c d n long from extents all held =
+    let p = c.args.of.now.sampled.plant.now in
     let size : ℕ = length c.args.boxes.now / c.vectors-inputs.result in
-    extents_here c.args.of.now.sampled.plant.now d size c.loop-input.input c.args.of.now.state extents (all ∙ c.loop-input.invariant.cells) (held (cell_in d size) (centres c d n long from))
+    subst (λ (u : ℕ). AreExtentsUnder p d u c.args.of.now.state extents) c.set_input.ensures.input
+    (extents_here p d size c.set_input.new.self.input c.args.of.now.state extents (all ∙ c.loop-input.invariant.cells) (held (cell_in d size) (centres c d n long from)))
 
 pub extents_under-requires-clause-line : goal.extents_under-requires-clause-line
-extents_under-requires-clause-line c = let cells = c.requires.cells.1 in (cell_in cells.0 (length c.args.boxes.now / c.vectors-inputs.result), centres (goal.at.extents_under-requires-clause-line c).In-loop-input cells.0 cells.1 cells.3.one_each cells.2)
+extents_under-requires-clause-line c = let cells = c.requires.cells.1 in (cell_in cells.0 (length c.args.boxes.now / c.vectors-inputs.result), centres (goal.at.extents_under-requires-clause-line c).After-set_input cells.0 cells.1 cells.3.one_each cells.2)
+
+-- what holds of an additive line holds of it where it is borrowed
+seen : (P : AdditiveLine → Type 0) (r : Option (Bor AdditiveLine)) → IfSome (option_copied r) P → IfSome r (λ a. P a.now)
+seen P None holds = holds
+seen P (Some a) holds = holds
+
+pub extents_under-requires-clause-additive : goal.extents_under-requires-clause-additive
+extents_under-requires-clause-additive c =
+    let cells = c.requires.cells.1 in
+    let here = (goal.at.extents_under-requires-clause-additive c).After-set_input in
+    let at : AdditiveLine → Type 0 = IsAdditiveAt c.args.of.now.sampled.plant.now c.set_input.new.self c.args.of.now.state in
+    seen at c.as_ref.result (subst (λ (o : Option AdditiveLine). IfSome o at) (sym c.as_ref.ensures.value)
+    (additive_at c.args.of.now.sampled.plant.now c.set_input.new.self c.args.of.now.state _ (centres here cells.0 cells.1 cells.3.one_each cells.2) c.additive_line-additive.result (c.loop-input.invariant.additive _ (on here cells.0 cells.1 cells.3.one_each cells.2))))
 
 pub extents_under-requires-clause-few : goal.extents_under-requires-clause-few
 extents_under-requires-clause-few c = let cells = c.requires.cells.1 in omega (arith, one_each (goal.at.extents_under-requires-clause-few c).In-loop-input cells.1 cells.3.one_each, cells.3.few)
@@ -63,28 +85,36 @@ new-line-requires-clause-within c =
     subst (λ (k : ℕ). LiesInGrid p c.args.indices.now (k - 1) n) (sym c.states.ensures)
     (cells_in_grid p c.args.of.now.sampled.within.plant c.args.indices.now cells.0 n (counted p c.args.indices.now cells.0 cells.1 (length c.args.boxes.now) c.vectors-inputs.result cells.3.one_each c.vectors-inputs.ensures.count c.vectors-inputs.ensures.some cells.2))
 
+pub new-line-requires-clause-input : goal.new-line-requires-clause-input
+new-line-requires-clause-input c =
+    let cells = c.requires.cells.1 in
+    (0, first_input c.args.of.now.sampled.plant.now c.args.of.now.sampled.within.plant c.args.indices.now cells.0 cells.1 cells.2)
+
 pub additive_line-additive-requires-clause-line : goal.additive_line-additive-requires-clause-line
 additive_line-additive-requires-clause-line c =
     let p = c.args.of.now.sampled.plant.now in
     let cells = c.requires.cells.1 in
     let n : ℕ = length c.args.boxes.now / c.vectors-inputs.result in
     let here = counted p c.args.indices.now cells.0 cells.1 (length c.args.boxes.now) c.vectors-inputs.result cells.3.one_each c.vectors-inputs.ensures.count c.vectors-inputs.ensures.some cells.2 in
-    (cell_in cells.0 n, subst (λ (k : ℕ). HaveCentresOf p c.args.indices.now (k - 1) n c.new-line.result) c.states.ensures c.new-line.ensures (cell_in cells.0 n) (cells_on p c.args.of.now.sampled.within.plant c.args.indices.now cells.0 n here))
+    (cell_in cells.0 n, subst (λ (k : ℕ). HaveCentresOf p c.args.indices.now (k - 1) n c.new-line.result) c.states.ensures c.new-line.ensures.cells (cell_in cells.0 n) (cells_on p c.args.of.now.sampled.within.plant c.args.indices.now cells.0 n here))
 
 pub loop-input-init : goal.loop-input-init
-loop-input-init c = record {
-  long = refl;
-  cells = length-take-le (length c.args.boxes.now / c.vectors-inputs.result) _ (let cells = c.requires.cells.1 in omega (arith, cells.3.few, cell_count (length c.args.boxes.now) cells.1 c.vectors-inputs.result (vectors_of c.args.of.now.sampled.plant.now.inputs) cells.3.one_each c.vectors-inputs.ensures.count c.vectors-inputs.ensures.some));
-  additive = c.additive_line-additive.ensures.line;
-  centres = λ cell on. (c.additive_line-additive.ensures.kept cell).0 (subst (λ (k : ℕ). HaveCentresOf c.args.of.now.sampled.plant.now c.args.indices.now (k - 1) (length c.args.boxes.now / c.vectors-inputs.result) c.new-line.result) c.states.ensures c.new-line.ensures cell on);
-  added = λ bases d n from sums k u lt none. nothing_below u none;
-  left = λ k u from short. refl;
-}
+loop-input-init c =
+    let line : HaveCentresOf c.args.of.now.sampled.plant.now c.args.indices.now (last_state c.args.of.now.sampled.plant.now) (length c.args.boxes.now / c.vectors-inputs.result) c.new-line.result =
+    subst (λ (k : ℕ). HaveCentresOf c.args.of.now.sampled.plant.now c.args.indices.now (k - 1) (length c.args.boxes.now / c.vectors-inputs.result) c.new-line.result) c.states.ensures c.new-line.ensures.cells in
+    record {
+      long = refl;
+      cells = length-take-le (length c.args.boxes.now / c.vectors-inputs.result) _ (let cells = c.requires.cells.1 in omega (arith, cells.3.few, cell_count (length c.args.boxes.now) cells.1 c.vectors-inputs.result (vectors_of c.args.of.now.sampled.plant.now.inputs) cells.3.one_each c.vectors-inputs.ensures.count c.vectors-inputs.ensures.some));
+      additive = λ cell on. c.additive_line-additive.ensures.line cell (line cell on);
+      centres = λ cell on. c.additive_line-additive.ensures.kept cell (line cell on);
+      added = λ bases d n from sums k u lt none. nothing_below u none;
+      left = λ k u from short. refl;
+    }
 
 pub add_extents-requires-clause-extents : goal.add_extents-requires-clause-extents
 add_extents-requires-clause-extents c =
     let cells = c.requires.cells.1 in
-    (cells.0, found (goal.at.add_extents-requires-clause-extents c).In-loop-input cells.0 cells.1 cells.3.one_each cells.2 c.extents_under.new.extents c.extents_under.ensures.long c.extents_under.ensures.each)
+    (cells.0, found (goal.at.add_extents-requires-clause-extents c).After-set_input cells.0 cells.1 cells.3.one_each cells.2 c.extents_under.new.extents c.extents_under.ensures.long c.extents_under.ensures.each)
 
 pub add_extents-requires-clause-one_each : goal.add_extents-requires-clause-one_each
 add_extents-requires-clause-one_each c =
@@ -117,11 +147,11 @@ loop-input-preserved c =
     record {
       long = c.add_extents.ensures.long ∙ so_far.long;
       cells = c.extents_under.ensures.long ∙ so_far.cells;
-      additive = still_additive p c.loop-input.line c.extents_under.new.line i c.additive_line-additive.result c.extents_under.ensures.kept so_far.additive;
-      centres = λ cell on. (c.extents_under.ensures.kept cell).0 (so_far.centres cell on);
+      additive = so_far.additive;
+      centres = λ cell on. c.set_input.ensures.kept cell (so_far.centres cell on);
       added = λ bases d n from sums k u lt.
           let count = one_each (goal.at.loop-input-preserved c).In-loop-input n sums.one_each in
-          let here = found (goal.at.loop-input-preserved c).In-loop-input d n sums.one_each from c.extents_under.new.extents c.extents_under.ensures.long c.extents_under.ensures.each in
+          let here = found (goal.at.loop-input-preserved c).After-set_input d n sums.one_each from c.extents_under.new.extents c.extents_under.ensures.long c.extents_under.ensures.each in
           let below : k < length c.extents_under.new.extents = omega (arith, lt, count, c.extents_under.ensures.long) in
           let change = c.add_extents.ensures.added k below in
           let term : IsTermAt p (d + k) input i change.0 = change.1 (d + k) input (here k below) in

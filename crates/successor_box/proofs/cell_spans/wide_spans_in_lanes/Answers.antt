@@ -1,4 +1,4 @@
-use Rattle.std.proofs.Common.{◌≡◌, ℕ, ◌<◌, ◌∙◌, arith}
+use Rattle.std.proofs.Common.{◌≡◌, ℕ, ◌∙◌, arith}
 use Rattle.std.proofs.lemmas.List.{length-set}
 use Rattle.fixed_expr.specs.Expression.{expression_of}
 use Rattle.interval_eval.specs.declared.interval.Interval.{Interval}
@@ -18,4 +18,4 @@ loop-j-preserved c =
     }
 
 pub returns : goal.returns
-returns c = λ j lt. let below : j < 32 = lt in c.loop-j.invariant.each j (omega (arith, below))
+returns c = λ j lt. c.loop-j.invariant.each j (omega (arith, lt, c.loop-j-test.false))

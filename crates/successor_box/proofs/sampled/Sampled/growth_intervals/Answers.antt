@@ -30,24 +30,26 @@ pub values_in_lanes-next-requires-clause-fits : goal.values_in_lanes-next-requir
 values_in_lanes-next-requires-clause-fits c = λ lane lt.
     let p = c.args.self.now.plant.now in
     let some = c.requires.values in
-    rw (equation_is p c.args.state c.equation.result.now c.equation.ensures, some.1.each lane lt)
-    (stays_at p (some.0 lane) c.args.input (sound_plant p c.args.self.now.within.plant) c.args.self.now.fits (some.1.cells lane lt) c.requires.input c.args.state c.requires.state)
+    let below : lane < 32 = omega (arith, lt, c.requires.few) in
+    rw (equation_is p c.args.state c.equation.result.now c.equation.ensures, some.1.each lane below)
+    (stays_at p (some.0 lane) c.args.input (sound_plant p c.args.self.now.within.plant) c.args.self.now.fits (some.1.cells lane below) c.requires.input c.args.state c.requires.state)
 
 pub growth-requires-clause-next : goal.growth-requires-clause-next
 growth-requires-clause-next c =
     let p = c.args.self.now.plant.now in
     let lane : ℕ = c.loop-j.j in
-    let lt : lane < 32 = c.loop-j-test.true in
+    let below : lane < 32 = omega (arith, c.loop-j-test.true, c.requires.few) in
     let some = c.requires.values in
     let x : ℤ = get_or c.values_in_lanes-next.result lane (pos 0) in
     let fits : FitsSigned w128 x = search rules in
-    (some.0 lane, (some.1.cells lane lt, c.requires.input), rw (to_z-of_z w128 x fits) (c.values_in_lanes-next.ensures lane lt ∙ value_in p c.args.state c.equation.result.now some.0 c.args.input lane c.args.at.now c.equation.ensures some.1 lt))
+    (some.0 lane, (some.1.cells lane below, c.requires.input), rw (to_z-of_z w128 x fits) (c.values_in_lanes-next.ensures lane c.loop-j-test.true ∙ value_in p c.args.state c.equation.result.now some.0 c.args.input lane c.args.at.now c.equation.ensures some.1 below))
 
 pub loop-j-preserved : goal.loop-j-preserved
 loop-j-preserved c =
     let p = c.args.self.now.plant.now in
     let e = equation_at p c.args.state in
     let lane : ℕ = c.loop-j.j in
+    let below : lane < 32 = omega (arith, c.loop-j-test.true, c.requires.few) in
     let growth_intervals = c.loop-j.growth_intervals in
     let ends : Interval = c.growth.result in
     let x : ℤ = get_or c.values_in_lanes-next.result lane (pos 0) in
@@ -57,8 +59,8 @@ loop-j-preserved c =
     record {
       long = length-set growth_intervals lane ends ∙ c.loop-j.invariant.long;
       each = index_more (λ (j : ℕ) (r : Interval). (cell : ℕ → ℕ) → AreValuesUnder p cell c.args.input c.args.at.now → r ≡ growth_of p (cell j) c.args.input e) no_range growth_intervals lane ends (omega arith) c.loop-j.invariant.each
-          (λ cell are. growth_is p (cell lane) c.args.input e x ends (c.values_in_lanes-next.ensures lane c.loop-j-test.true ∙ value_in p c.args.state c.equation.result.now cell c.args.input lane c.args.at.now c.equation.ensures are c.loop-j-test.true) low high);
+          (λ cell are. growth_is p (cell lane) c.args.input e x ends (c.values_in_lanes-next.ensures lane c.loop-j-test.true ∙ value_in p c.args.state c.equation.result.now cell c.args.input lane c.args.at.now c.equation.ensures are below) low high);
     }
 
 pub returns : goal.returns
-returns c = λ cell are j lt. let below : j < 32 = lt in c.loop-j.invariant.each j (omega (arith, below)) cell are
+returns c = λ cell are j lt. c.loop-j.invariant.each j (omega (arith, lt, c.loop-j-test.false)) cell are

@@ -26,7 +26,6 @@ loop-j-preserved c =
     let extents = c.loop-j.extents in
     let extent : Option Extent = c.extent.result in
     let within : lane < length extents = omega (arith, c.loop-j-test.true, c.loop-j.invariant.long) in
-    let lane_below : lane < 32 = omega (arith, c.loop-j-test.true, c.requires.few) in
     let next_interval : Interval = get_or c.next_intervals-next_intervals.result lane no_range in
     let low_fits : FitsSigned w128 next_interval.lo = search rules in
     let high_fits : FitsSigned w128 next_interval.hi = search rules in
@@ -34,7 +33,7 @@ loop-j-preserved c =
     record {
       long = length-set extents lane extent ∙ c.loop-j.invariant.long;
       each = λ cell are. index_more (λ (j : ℕ) (s : Option Extent). IsExtentBeforeAt p (cell j) c.args.input i 0 s) None extents lane extent within (c.loop-j.invariant.each cell are)
-          (extent_of_next p (cell lane) c.args.input i next_interval extent c.requires.state (c.next_intervals-next_intervals.ensures cell are lane lane_below) found);
+          (extent_of_next p (cell lane) c.args.input i next_interval extent c.requires.state (c.next_intervals-next_intervals.ensures cell are lane c.loop-j-test.true) found);
     }
 
 pub returns-clause-each : goal.returns-clause-each

@@ -1,4 +1,4 @@
-use Rattle.std.proofs.Common.{◌≡◌, ◌∙◌, get_or, sym, ap₂, subst}
+use Rattle.std.proofs.Common.{◌≡◌, ◌<◌, ◌∙◌, get_or, sym, ap₂, subst, arith}
 use Rattle.plant_record.specs.declared.version.PlantVersion.{PlantVersion}
 use Rattle.plant_record.specs.declared.version.PlantVersion.TheVariants.{One, Two}
 use Rattle.plant_record.specs.Steps.{equation_at}
@@ -16,5 +16,6 @@ pub returns-in-Two : goal.returns-in-Two
 returns-in-Two c = λ cell are lane lt.
     let p = c.args.self.now.plant.now in
     let version : p.version ≡ Two = sym c.plant_version.ensures ∙ c.in-Two.is in
+    let below : lane < 32 = omega (arith, lt, c.requires.few) in
     subst (λ (v : PlantVersion). get_or c.intersections.result lane no_range ≡ next_interval_of v p (cell lane) c.args.input (equation_at p c.args.state)) (sym version)
-    (c.intersections.ensures lane lt ∙ ap₂ intersection_of (c.growth_intervals-growth_intervals.ensures cell are lane lt) (c.spans.ensures cell are lane lt))
+    (c.intersections.ensures lane below ∙ ap₂ intersection_of (c.growth_intervals-growth_intervals.ensures cell are lane lt) (c.spans.ensures cell are lane lt))

@@ -1,4 +1,4 @@
-use Rattle.std.proofs.Common.{◌∙◌, ap₂, arith}
+use Rattle.std.proofs.Common.{◌<◌, ◌∙◌, ap₂, arith}
 use Rattle.std.proofs.lemmas.List.{length-take-le}
 use Rattle.interval_eval.specs.Span.{span_of}
 use Rattle.plant_record.proofs.lemmas.SoundPlants.{sound as sound_plant}
@@ -17,10 +17,12 @@ pub spans_in_lanes-requires-clause-fits : goal.spans_in_lanes-requires-clause-fi
 spans_in_lanes-requires-clause-fits c = λ lane lt.
     let p = c.args.self.now.plant.now in
     let some = c.requires.values in
-    rw (equation_is p c.args.state c.equation.result.now c.equation.ensures, area_lane_is p (some.0 lane) c.args.input c.cell_columns-area.result c.variables.result lane c.variables.ensures.count (omega arith) (λ k within. c.cell_columns-area.ensures k within some.0 c.args.input some.1 lane lt))
-    (cell_stays p (some.0 lane) c.args.input (sound_plant p c.variables.ensures.limits.plant) (some.1.cells lane lt) c.args.self.now.fits c.requires.input c.args.state c.requires.state)
+    let below : lane < 32 = omega (arith, lt, c.requires.few) in
+    rw (equation_is p c.args.state c.equation.result.now c.equation.ensures, area_lane_is p (some.0 lane) c.args.input c.cell_columns-area.result c.variables.result lane c.variables.ensures.count (omega arith) (λ k within. c.cell_columns-area.ensures k within some.0 c.args.input some.1 lane below))
+    (cell_stays p (some.0 lane) c.args.input (sound_plant p c.variables.ensures.limits.plant) (some.1.cells lane below) c.args.self.now.fits c.requires.input c.args.state c.requires.state)
 
 pub returns : goal.returns
 returns c = λ cell are lane lt.
     let p = c.args.self.now.plant.now in
-    c.spans_in_lanes.ensures lane lt ∙ ap₂ span_of (equation_is p c.args.state c.equation.result.now c.equation.ensures) (area_lane_is p (cell lane) c.args.input c.cell_columns-area.result c.variables.result lane c.variables.ensures.count (omega arith) (λ k within. c.cell_columns-area.ensures k within cell c.args.input are lane lt))
+    let below : lane < 32 = omega (arith, lt, c.requires.few) in
+    c.spans_in_lanes.ensures lane lt ∙ ap₂ span_of (equation_is p c.args.state c.equation.result.now c.equation.ensures) (area_lane_is p (cell lane) c.args.input c.cell_columns-area.result c.variables.result lane c.variables.ensures.count (omega arith) (λ k within. c.cell_columns-area.ensures k within cell c.args.input are lane below))

@@ -1,4 +1,4 @@
-use Rattle.std.proofs.Common.{◌≡◌, ◌<◌, ℕ, ◌∙◌, rules, arith}
+use Rattle.std.proofs.Common.{◌≡◌, ℕ, ◌∙◌, rules, arith}
 use Rattle.std.specs.Prelude.{ℤ, pos, FitsSigned}
 use Rattle.std.specs.Int.{w128}
 use Rattle.std.proofs.lemmas.Int.{to_z-of_z}
@@ -7,7 +7,7 @@ use Rattle.fixed_expr.specs.Expression.{expression_of}
 use Rattle.fixed_expr.specs.Value.{value_of}
 use Rattle.fixed_expr.specs.LaneEval.{lane_of}
 use Rattle.successor_box.proofs.Filling.{index_more}
-use Rattle.successor_box.proofs.line_extents.wide_values_in_lanes.Goals as goal
+use Rattle.successor_box.proofs.line_extents.values_one_by_one.Goals as goal
 
 pub loop-j-preserved : goal.loop-j-preserved
 loop-j-preserved c =
@@ -22,4 +22,4 @@ loop-j-preserved c =
     })
 
 pub returns : goal.returns
-returns c = λ j lt. let below : j < 32 = lt in c.loop-j.invariant.each j (omega (arith, below))
+returns c = λ j lt. c.loop-j.invariant.each j (omega (arith, lt, c.loop-j-test.false))

@@ -3,7 +3,7 @@ use Rattle.std.specs.Prelude.{pos}
 use Rattle.fixed_expr.specs.Expression.{expression_of}
 use Rattle.fixed_expr.specs.Value.{value_of}
 use Rattle.fixed_expr.specs.LaneEval.{lane_of}
-use Rattle.successor_box.proofs.line_extents.wide_values_in_lanes.Given as goal
+use Rattle.successor_box.proofs.line_extents.values_one_by_one.Given as goal
 
 -- the values so far
 abbrev pub invariant-loop-j : goal.invariant-loop-j
