@@ -1,8 +1,7 @@
 -- A state that the plant's equations lead to lies in its box.
-use Rattle.std.proofs.Common.{inl, inr, ◌≡◌, ℕ, ◌<◌, List, [], ◌∷◌, ◌++◌, map, length, take, Some, refl, sym, ap, subst, ◌∙◌}
+use Rattle.std.proofs.Common.{inl, inr, ◌≡◌, ℕ, ◌<◌, List, [], ◌∷◌, map, length, Some, refl, sym, ap, subst, ◌∙◌}
 use Rattle.std.specs.Prelude.{ℤ}
 use Rattle.std.specs.List.{Contains}
-use Rattle.fixed_expr.specs.Value.{value_of}
 use Rattle.std.proofs.lemmas.List.{length-map}
 use Rattle.game_core.specs.declared.game.Row.{Row}
 use Rattle.grid_quantiser.specs.declared.boxes.CellBox.{CellBox}
@@ -15,7 +14,7 @@ use Rattle.plant_record.specs.declared.aims.GoalKind.TheVariants.{Reach, Keep}
 use Rattle.plant_record.specs.Description.{Description, axes_of, vector_of, vectors_of}
 use Rattle.plant_record.specs.Plants.{IsPlant}
 use Rattle.plant_record.specs.Soundness.{IsSound}
-use Rattle.plant_record.specs.Steps.{step_of, IsNoise}
+use Rattle.plant_record.specs.Steps.{IsNoise}
 use Rattle.plant_record.proofs.lemmas.SoundPlants.{sound}
 use Rattle.successor_box.specs.SuccessorBoxes.{low_corner, high_corner, IsEnabledAt, IsBoxOf}
 use Rattle.successor_box.proofs.Enabled.{box_successors, corners_ordered}

@@ -31,7 +31,7 @@ use Rattle.text_control.specs.declared.text_kind.TextKind.{TextKind}
 use Rattle.text_control.specs.declared.text_kind.TextKind.TheVariants.{Patrol}
 use Rattle.text_control.specs.declared.visits.Visit.{Visit}
 use Rattle.text_control.specs.declared.visits.Visit.TheVariants.{Next, Same, WrongSize}
-use Rattle.text_control.specs.Texts.{TextModel, due_rows, TellsAs, IsReadFrom}
+use Rattle.text_control.specs.Texts.{TextModel, TellsAs, IsReadFrom}
 use Rattle.text_control.specs.Control.{AppliesAs, IsRank}
 use Rattle.text_control.specs.Loops.{Answers, AlwaysAnswers}
 use Rattle.text_control.specs.Visits.{HasArrivedInTurn, with_turn, IsVisit}
