@@ -1,5 +1,5 @@
 -- A followed loop by the table of a plant that is to reach its targets falls in rank with each sample.
-use Rattle.std.proofs.Common.{◌≡◌, ℕ, zero, suc, ◌+◌, ◌<◌, ◌≤◌, List, [], ◌∷◌, length, Option, refl, sym, ap, subst, ◌∙◌, arith}
+use Rattle.std.proofs.Common.{◌≡◌, ℕ, zero, suc, ◌+◌, ◌<◌, ◌≤◌, List, [], ◌∷◌, length, refl, sym, ap, subst, ◌∙◌, arith}
 use Rattle.std.specs.Prelude.{ℤ, pos}
 use Rattle.std.proofs.lemmas.List.Elements.{All-contains}
 use Rattle.game_core.specs.declared.game.Row.{Row}
@@ -13,13 +13,9 @@ use Rattle.plant_record.specs.declared.aims.GoalKind.TheVariants.{Reach}
 use Rattle.plant_record.specs.Description.{Description, axes_of, vector_of, vectors_of}
 use Rattle.plant_record.specs.Plants.{IsPlant}
 use Rattle.plant_record.specs.States.{LiesInSome, IsClear}
-use Rattle.plant_text.specs.Grammar.{Spells}
 use Rattle.successor_box.specs.SuccessorBoxes.{IsEnabledAt}
-use Rattle.plant_game.specs.PlantSolution.{Solves}
 use Rattle.row_runs.specs.declared.run.TableVersion.{TableVersion}
 use Rattle.controller_table.specs.Choice.{Applies, HasRowAt}
-use Rattle.controller_table.specs.TableText.{written_version}
-use Rattle.controller_table.specs.Tables.{IsTable}
 use Rattle.plant_refine.specs.RightRows.{AreRightRowsOf}
 use Rattle.plant_refine.proofs.Leading.{Guides, clear_at, arrived_at}
 use Rattle.plant_refine.proofs.Choosing.{one_row}
@@ -28,18 +24,17 @@ use Rattle.text_control.specs.declared.reply.Reply.{Reply}
 use Rattle.text_control.specs.declared.reply.Reply.TheVariants.{Apply, Arrived, NoRow, WrongSizes}
 use Rattle.text_control.specs.declared.text_kind.TextKind.{TextKind}
 use Rattle.text_control.specs.declared.text_kind.TextKind.TheVariants.{Table}
-use Rattle.text_control.specs.Texts.{TextModel, due_rows, IsReadFrom}
+use Rattle.text_control.specs.Texts.{TextModel, due_rows}
 use Rattle.text_control.specs.Control.{AreSized, AppliesAs, IsReply, IsRank, reply_number}
 use Rattle.text_control.specs.Loops.{Answers, AlwaysAnswers}
-use Rattle.synth_run.specs.Headline.{IsTableFor, IsTableOf}
-use Rattle.synth_run.proofs.Below.{one_plant_per_text}
 use Rattle.driven_loops.specs.Laws.{AlwaysArrived}
 use Rattle.text_control.specs.Followed.{FollowedSample, IsInItsBox}
 use Rattle.driven_loops.specs.Followed.{IsFollowedLoop}
 use Rattle.driven_loops.specs.FollowedLaws.{FollowedTablesEnd}
-use Rattle.driven_loops.proofs.ReadBack.{of_table}
+use Rattle.driven_loops.proofs.ReadBack.{HoldsTable, holds_table}
 use Rattle.driven_loops.proofs.ItsBox.{enabled_in, in_successor}
-use Rattle.driven_loops.proofs.RowAnswers.{chosen_by, row_answers, table_rank}
+use Rattle.text_control.proofs.Answering.{chosen_by}
+use Rattle.driven_loops.proofs.RowAnswers.{row_answers, has_rank}
 
 module _ (t : TextModel) (plant : IsPlant t.plant) (version : TableVersion) (kind : t.kind ≡ Table version) (goal : t.plant.goal ≡ Reach) (right : AreRightRowsOf t.plant (due_rows t)) (h : Guides t.plant right.game (due_rows t)) where
   abbrev p : Description
@@ -123,46 +118,23 @@ module _ (t : TextModel) (plant : IsPlant t.plant) (version : TableVersion) (kin
         clear_at h y last end.1,
         (
           last.rank,
-          table_rank t y last end.1 version kind,
+          has_rank t y last end.1,
           omega (arith, le, is),
           λ some. row_answers t y last end.1 (applies_reach last some),
           λ none. (in_target y last end.1 none, λ before after number sized encodes. encodes.1 ∙ arrived y before after last end.1 none sized encodes.0 encodes.2),
         ),
       )
 
--- What a table of a plant that is to reach its targets holds, once it is read again: right rows.
-pub record Reaches (p : Description) (t : TextModel) : Type 0 where
-  pub same : t.plant ≡ p
-  pub plant : IsPlant t.plant
-  pub version : TableVersion
-  pub kind : t.kind ≡ Table version
-  pub goal : t.plant.goal ≡ Reach
-  pub right : AreRightRowsOf t.plant (due_rows t)
-
-pub reaches : (p : Description) (bytes text : List ℕ) (t : TextModel) → Spells bytes p → p.goal ≡ Reach → IsTableFor bytes text → IsReadFrom text t → Reaches p t
-reaches p bytes text t spells goal given read =
-    let q : Description = given.0 in
-    let written : IsTableOf q text = given.3 in
-    let solved = written.solution in
-    let same : q ≡ p = one_plant_per_text bytes q p given.1.spells spells in
-    let table : IsTable text q written.rows = record { limits = given.1.limits; fitting = written.fitting; version = written_version; text = written.text_is } in
-    let held = of_table text q written.rows t table read in
-    let reach : q.goal ≡ Reach = ap (λ (d : Description). d.goal) same ∙ goal in
-    let solution : Solves Reach solved.game written.rows = subst (λ (g : GoalKind). Solves g solved.game written.rows) reach solved.solution in
-    let rows : AreRightRowsOf q written.rows = record { game = solved.game; abstraction = solved.abstraction; right = solutions_are_right solved.game written.rows solved.abstraction.game solution } in
-    record {
-      same = held.0 ∙ same;
-      plant = subst (λ (d : Description). IsPlant d) (sym held.0) given.1.limits.plant;
-      version = held.1.0;
-      kind = held.1.1;
-      goal = ap (λ (d : Description). d.goal) held.0 ∙ reach;
-      right = subst (λ (r : List (Option Row)). AreRightRowsOf t.plant r) (sym held.2) (subst (λ (d : Description). AreRightRowsOf d written.rows) (sym held.0) rows);
-    }
+-- the rows are right
+pub right_rows : (t : TextModel) → HoldsTable Reach t → AreRightRowsOf t.plant (due_rows t)
+right_rows t h = record { game = h.game; abstraction = h.abstraction; right = solutions_are_right h.game (due_rows t) h.abstraction.game h.solution }
 
 pub followed_tables_end : FollowedTablesEnd
 followed_tables_end p bytes text t spells goal given read =
-    let r = reaches p bytes text t spells goal given read in (
-      r.same,
-      λ x y k samples rank loop. subst (λ (d : Description). IsClear d y × ((n : ℕ) × IsRank t y n × (n + length samples ≤ k) × (0 < n → AlwaysAnswers t y) × (n ≡ 0 → LiesInSome d d.targets y × AlwaysArrived t y))) r.same
-          (ends t r.plant r.version r.kind r.goal r.right (guides t.plant (due_rows t) r.plant r.right) x y k samples rank loop),
+    let r = holds_table p bytes text t Reach spells goal given read in
+    let h = r.1 in
+    let right = right_rows t h in (
+      r.0,
+      λ x y k samples rank loop. subst (λ (d : Description). IsClear d y × ((n : ℕ) × IsRank t y n × (n + length samples ≤ k) × (0 < n → AlwaysAnswers t y) × (n ≡ 0 → LiesInSome d d.targets y × AlwaysArrived t y))) r.0
+          (ends t h.plant h.version h.kind h.goal_is right (guides t.plant (due_rows t) h.plant right) x y k samples rank loop),
     )

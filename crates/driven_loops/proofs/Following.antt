@@ -1,8 +1,7 @@
 -- A state that the plant's equations lead to lies in its box.
-use Rattle.std.proofs.Common.{inl, inr, ◌≡◌, ℕ, ◌<◌, List, [], ◌∷◌, ◌++◌, map, length, take, Some, refl, sym, ap, subst, ◌∙◌}
+use Rattle.std.proofs.Common.{inl, inr, ◌≡◌, ℕ, ◌<◌, List, [], ◌∷◌, map, length, Some, refl, sym, ap, subst, ◌∙◌}
 use Rattle.std.specs.Prelude.{ℤ}
 use Rattle.std.specs.List.{Contains}
-use Rattle.fixed_expr.specs.Value.{value_of}
 use Rattle.std.proofs.lemmas.List.{length-map}
 use Rattle.game_core.specs.declared.game.Row.{Row}
 use Rattle.grid_quantiser.specs.declared.boxes.CellBox.{CellBox}
@@ -15,7 +14,7 @@ use Rattle.plant_record.specs.declared.aims.GoalKind.TheVariants.{Reach, Keep}
 use Rattle.plant_record.specs.Description.{Description, axes_of, vector_of, vectors_of}
 use Rattle.plant_record.specs.Plants.{IsPlant}
 use Rattle.plant_record.specs.Soundness.{IsSound}
-use Rattle.plant_record.specs.Steps.{step_of, IsNoise}
+use Rattle.plant_record.specs.Steps.{IsNoise}
 use Rattle.plant_record.proofs.lemmas.SoundPlants.{sound}
 use Rattle.successor_box.specs.SuccessorBoxes.{low_corner, high_corner, IsEnabledAt, IsBoxOf}
 use Rattle.successor_box.proofs.Enabled.{box_successors, corners_ordered}
@@ -32,15 +31,12 @@ use Rattle.synth_run.specs.Headline.{IsTableFor}
 use Rattle.text_control.specs.Followed.{IsInItsBox}
 use Rattle.driven_loops.specs.Followed.{followed_of, IsFollowedLoop, IsFollowedPatrolLoop}
 use Rattle.driven_loops.specs.FollowedLaws.{LoopsAreFollowed}
-use Rattle.driven_loops.proofs.RowAnswers.{chosen_by}
-use Rattle.driven_loops.proofs.Ending.{reach_enabled, reaches}
-use Rattle.driven_loops.proofs.Keeping.{keeps, keep_enabled}
+use Rattle.text_control.proofs.Answering.{chosen_by, moves}
+use Rattle.driven_loops.proofs.Ending.{reach_enabled, right_rows}
+use Rattle.driven_loops.proofs.Keeping.{keep_enabled}
+use Rattle.driven_loops.proofs.ReadBack.{holds_table}
 use Rattle.driven_loops.proofs.Settling.{settled, stay_enabled}
 use Rattle.driven_loops.proofs.Patrolling.{patrolled, patrol_enabled}
-
--- the values move the plant as their input does
-moves : (p : Description) (s : LoopSample) (u : ℕ) → s.values ≡ vector_of p.inputs u → moved_by p s ≡ step_of p s.state u s.noise
-moves p s u are = ap (λ (values : List ℤ). map (λ e. value_of e (take (length p.states) s.state ++ values ++ take (length p.noises) s.noise)) p.equations) are
 
 in_its_box : (p : Description) (s : LoopSample) (u : ℕ) → IsPlant p → IsInDomain (axes_of p) s.state → u < vectors_of p.inputs → IsEnabledAt p (cell_of (axes_of p) s.state) u → s.values ≡ vector_of p.inputs u → IsNoise p.noises s.noise → IsInItsBox p (followed_of p s)
 in_its_box p s u plant inside below enabled are noise =
@@ -104,11 +100,12 @@ followed_patrol t plant on (s ∷ samples) j x y u loop =
 table_followed : (bytes text : List ℕ) (t : TextModel) → IsReadFrom text t → (given : IsTableFor bytes text) (goal : GoalKind) → given.0.goal ≡ goal → (samples : List LoopSample) (x y : List ℤ) → IsLoop t x samples y
     → IsFollowedLoop t x (map (followed_of t.plant) samples) y
 table_followed bytes text t read given Reach goal =
-    let r = reaches given.0 bytes text t given.1.spells goal given read in
-    followed t r.plant (reach_enabled t r.plant r.version r.kind r.goal r.right (guides t.plant (due_rows t) r.plant r.right))
+    let h = (holds_table given.0 bytes text t Reach given.1.spells goal given read).1 in
+    let right = right_rows t h in
+    followed t h.plant (reach_enabled t h.plant h.version h.kind h.goal_is right (guides t.plant (due_rows t) h.plant right))
 table_followed bytes text t read given Keep goal =
-    let k = keeps given.0 bytes text t given.1.spells goal given read in
-    followed t k.1.plant (keep_enabled t k.1)
+    let h = (holds_table given.0 bytes text t Keep given.1.spells goal given read).1 in
+    followed t h.plant (keep_enabled t h)
 
 pub loops_are_followed : LoopsAreFollowed
 loops_are_followed bytes text t read = (

@@ -5,7 +5,7 @@ use Rattle.std.proofs.lemmas.List.Elements.{All-contains}
 use Rattle.game_core.specs.declared.game.Row.{Row}
 use Rattle.game_core.specs.declared.game.Mark.TheVariants.{Obstacle}
 use Rattle.game_core.specs.Game.{Game, IsEnabled, mark_of, successors_of}
-use Rattle.game_core.specs.Keep.{StandsOn, IsKept, IsKeptBy, IsKeepRow, IsKeepSolution}
+use Rattle.game_core.specs.Keep.{StandsOn, IsKept, IsKeptBy, IsKeepRow}
 use Rattle.game_core.specs.Solution.{row_of}
 use Rattle.game_core.specs.Strategy.{Tree, Leaf, Apply}
 use Rattle.game_core.proofs.Rows.{below_cells}
@@ -14,48 +14,29 @@ use Rattle.grid_quantiser.proofs.Domain.{cell_below}
 use Rattle.plant_record.specs.declared.aims.GoalKind.{GoalKind}
 use Rattle.plant_record.specs.declared.aims.GoalKind.TheVariants.{Keep}
 use Rattle.plant_record.specs.Description.{Description, axes_of, vector_of, vectors_of}
-use Rattle.plant_record.specs.Plants.{IsPlant}
 use Rattle.plant_record.specs.States.{IsClear}
 use Rattle.plant_record.proofs.lemmas.SoundPlants.{sound}
-use Rattle.plant_text.specs.Grammar.{Spells}
 use Rattle.successor_box.specs.SuccessorBoxes.{IsEnabledAt}
-use Rattle.plant_game.specs.Abstraction.{IsGameOf}
-use Rattle.plant_game.specs.PlantSolution.{Solves}
 use Rattle.plant_game.proofs.GameLaws.{refines, clear_at}
-use Rattle.row_runs.specs.declared.run.TableVersion.{TableVersion}
 use Rattle.controller_table.specs.Choice.{Applies, HasRowAt}
-use Rattle.controller_table.specs.TableText.{written_version}
-use Rattle.controller_table.specs.Tables.{IsTable}
 use Rattle.text_control.specs.declared.text_kind.TextKind.{TextKind}
-use Rattle.text_control.specs.declared.text_kind.TextKind.TheVariants.{Table}
-use Rattle.text_control.specs.Texts.{TextModel, due_rows, IsReadFrom}
+use Rattle.text_control.specs.Texts.{TextModel, due_rows}
 use Rattle.text_control.specs.Control.{AppliesAs, IsRank}
 use Rattle.text_control.specs.Loops.{AlwaysAnswers}
-use Rattle.synth_run.specs.Headline.{IsTableFor, IsTableOf}
-use Rattle.synth_run.proofs.Below.{one_plant_per_text}
 use Rattle.text_control.specs.Followed.{FollowedSample, IsInItsBox}
 use Rattle.driven_loops.specs.Followed.{IsFollowedLoop}
 use Rattle.driven_loops.specs.FollowedLaws.{FollowedTablesKeep}
-use Rattle.driven_loops.proofs.ReadBack.{of_table}
+use Rattle.driven_loops.proofs.ReadBack.{HoldsTable, holds_table}
 use Rattle.driven_loops.proofs.ItsBox.{enabled_in, in_successor}
-use Rattle.driven_loops.proofs.RowAnswers.{chosen_by, row_answers, table_rank}
+use Rattle.text_control.proofs.Answering.{chosen_by}
+use Rattle.driven_loops.proofs.RowAnswers.{row_answers, has_rank}
 
 -- where a tree of depth 0 stands is no obstacle
 no_obstacle : (g : Game) (c : ℕ) (t : Tree) → StandsOn g t 0 c → mark_of g c ≢ Obstacle
 no_obstacle g c Leaf h = h
 no_obstacle g c (Apply u next) h = absurd h
 
--- What a table of a plant that is to be kept holds, once it is read again.
-pub record Keeps (t : TextModel) : Type 0 where
-  pub plant : IsPlant t.plant
-  pub version : TableVersion
-  pub kind : t.kind ≡ Table version
-  pub goal : t.plant.goal ≡ Keep
-  pub game : Game
-  pub abstraction : IsGameOf t.plant game
-  pub solution : IsKeepSolution game (due_rows t)
-
-module _ (t : TextModel) (h : Keeps t) where
+module _ (t : TextModel) (h : HoldsTable Keep t) where
   abbrev p : Description
   p = t.plant
 
@@ -85,7 +66,7 @@ module _ (t : TextModel) (h : Keeps t) where
       (next.0, record { inside = b.inside; is = next.1 })
 
   applied_input : (row : Row) (u : ℕ) → AppliesAs t.kind p.goal row u → row.input ≡ u
-  applied_input row u applies = subst (λ (g : GoalKind). Applies g row u) h.goal (subst (λ (k : TextKind). AppliesAs k p.goal row u) h.kind applies)
+  applied_input row u applies = subst (λ (g : GoalKind). Applies g row u) h.goal_is (subst (λ (k : TextKind). AppliesAs k p.goal row u) h.kind applies)
 
   pub keep_enabled : (x : List ℤ) (row : Row) (u : ℕ) → HasRow x row → AppliesAs t.kind p.goal row u → (u < vectors_of p.inputs) × IsEnabledAt p (cell_of (axes_of p) x) u
   keep_enabled x row u has applies =
@@ -94,7 +75,7 @@ module _ (t : TextModel) (h : Keeps t) where
       enabled_in p h.game c u h.plant h.abstraction lt (subst (λ (v : ℕ). IsEnabled h.game c v) (applied_input row u applies) (kept_by c row has.is).leads.0)
 
   applies : (row : Row) → AppliesAs t.kind p.goal row row.input
-  applies row = subst (λ (k : TextKind). AppliesAs k p.goal row row.input) (sym h.kind) (subst (λ (g : GoalKind). Applies g row row.input) (sym h.goal) refl)
+  applies row = subst (λ (k : TextKind). AppliesAs k p.goal row row.input) (sym h.kind) (subst (λ (g : GoalKind). Applies g row row.input) (sym h.goal_is) refl)
 
   goes_on : (samples : List FollowedSample) (x y : List ℤ) (row : Row) → HasRow x row → IsFollowedLoop t x samples y → (last : Row) × HasRow y last
   goes_on [] x y row has loop = (row, subst (λ (z : List ℤ). HasRow z row) (sym loop) has)
@@ -115,31 +96,9 @@ module _ (t : TextModel) (h : Keeps t) where
   keeps_on x y k samples rank loop =
       let start = rank.0 in
       let end = goes_on samples x y start.row start.has loop in
-      (unblocked y end.0 end.1, row_answers t y end.0 end.1 (applies end.0), (end.0.rank, table_rank t y end.0 end.1 h.version h.kind))
-
-pub keeps : (p : Description) (bytes text : List ℕ) (t : TextModel) → Spells bytes p → p.goal ≡ Keep → IsTableFor bytes text → IsReadFrom text t → (t.plant ≡ p) × Keeps t
-keeps p bytes text t spells goal given read =
-    let q : Description = given.0 in
-    let written : IsTableOf q text = given.3 in
-    let solved = written.solution in
-    let same : q ≡ p = one_plant_per_text bytes q p given.1.spells spells in
-    let table : IsTable text q written.rows = record { limits = given.1.limits; fitting = written.fitting; version = written_version; text = written.text_is } in
-    let held = of_table text q written.rows t table read in
-    let keep : q.goal ≡ Keep = ap (λ (d : Description). d.goal) same ∙ goal in
-    let solution : Solves Keep solved.game written.rows = subst (λ (g : GoalKind). Solves g solved.game written.rows) keep solved.solution in (
-      held.0 ∙ same,
-      record {
-        plant = subst (λ (d : Description). IsPlant d) (sym held.0) given.1.limits.plant;
-        version = held.1.0;
-        kind = held.1.1;
-        goal = ap (λ (d : Description). d.goal) held.0 ∙ keep;
-        game = solved.game;
-        abstraction = subst (λ (d : Description). IsGameOf d solved.game) (sym held.0) solved.abstraction;
-        solution = subst (λ (r : List (Option Row)). IsKeepSolution solved.game r) (sym held.2) solution;
-      },
-    )
+      (unblocked y end.0 end.1, row_answers t y end.0 end.1 (applies end.0), (end.0.rank, has_rank t y end.0 end.1))
 
 pub followed_tables_keep : FollowedTablesKeep
 followed_tables_keep p bytes text t spells goal given read =
-    let k = keeps p bytes text t spells goal given read in
+    let k = holds_table p bytes text t Keep spells goal given read in
     (k.0, λ x y n samples rank loop. subst (λ (d : Description). IsClear d y × AlwaysAnswers t y × ((n : ℕ) × IsRank t y n)) k.0 (keeps_on t k.1 x y n samples rank loop))

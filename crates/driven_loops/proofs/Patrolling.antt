@@ -2,12 +2,10 @@
 use Rattle.std.proofs.Common.{inl, inr, ◌≡◌, ◌⊎◌, ℕ, zero, suc, ◌<◌, ◌≤◌, List, [], ◌∷◌, length, take, Option, Some, None, Contains, refl, sym, ap, subst, ◌∙◌, arith}
 use Rattle.std.specs.Prelude.{ℤ}
 use Rattle.std.specs.List.{Any}
-use Rattle.std.proofs.lemmas.Bool.{cases_lt}
-use Rattle.std.proofs.lemmas.List.{get_or_past}
 use Rattle.game_core.specs.declared.game.Row.{Row}
 use Rattle.game_core.specs.Game.{Game, IsEnabled, successors_of}
 use Rattle.game_core.specs.Solution.{row_of}
-use Rattle.game_core.specs.Strategy.{Tree, Leaf, Apply, Trees, NoTrees, AndTree, LeadsTo, LeadEachTo, depth_of, greatest_depth}
+use Rattle.game_core.specs.Strategy.{Tree, Leaf, Apply, LeadsTo, depth_of, greatest_depth}
 use Rattle.game_core.proofs.Rows.{below_from_row}
 use Rattle.grid_quantiser.specs.Cells.{cell_of}
 use Rattle.grid_quantiser.proofs.Domain.{cell_below}
@@ -24,17 +22,20 @@ use Rattle.plant_refine.proofs.Choosing.{one_row}
 use Rattle.temporal_games.specs.Visits.{VisitsOn, IsArrival}
 use Rattle.temporal_games.specs.Patrol.{IsReachedLaterBy, IsPatrolRow, IsPatrol}
 use Rattle.temporal_games.proofs.PatrolRowLaws.{later_reachers_have_rows}
-use Rattle.temporal_texts.specs.Targets.{IsInTarget, next_turn}
-use Rattle.temporal_texts.specs.PatrolText.{rows_for, IsPatrolText}
+use Rattle.temporal_promises.proofs.Patrolling.{tree_at}
+use Rattle.turn_rows.specs.Targets.{IsInTarget, next_turn}
+use Rattle.temporal_texts.specs.PatrolText.{IsPatrolText}
+use Rattle.turn_rows.specs.Rows.{rows_for}
 use Rattle.temporal_texts.proofs.OnePatrolText.{one_patrol_text}
 use Rattle.text_control.specs.declared.text_kind.TextKind.{TextKind}
 use Rattle.text_control.specs.declared.text_kind.TextKind.TheVariants.{Patrol}
 use Rattle.text_control.specs.declared.visits.Visit.{Visit}
 use Rattle.text_control.specs.declared.visits.Visit.TheVariants.{Next, Same, WrongSize}
-use Rattle.text_control.specs.Texts.{TextModel, due_rows, TellsAs, IsReadFrom}
-use Rattle.text_control.specs.Control.{AppliesAs, HasTextRank, IsRank}
+use Rattle.text_control.specs.Texts.{TextModel, TellsAs, IsReadFrom}
+use Rattle.text_control.specs.Control.{AppliesAs, IsRank}
 use Rattle.text_control.specs.Loops.{Answers, AlwaysAnswers}
 use Rattle.text_control.specs.Visits.{HasArrivedInTurn, with_turn, IsVisit}
+use Rattle.text_control.proofs.OneText.{turn_known}
 use Rattle.text_control.proofs.TextRefusals.{read_texts_tell}
 use Rattle.synth_run.specs.Headline.{IsPatrolTableFor, IsPatrolTableOf}
 use Rattle.synth_run.proofs.Below.{one_plant_per_text}
@@ -43,30 +44,8 @@ use Rattle.driven_loops.specs.Followed.{IsFollowedPatrolLoop, FollowedEndsTurn}
 use Rattle.driven_loops.specs.FollowedLaws.{FollowedPatrolTextsGoOn}
 use Rattle.driven_loops.proofs.ReadBack.{of_patrol}
 use Rattle.driven_loops.proofs.ItsBox.{enabled_in, in_successor}
-use Rattle.driven_loops.proofs.RowAnswers.{chosen_by, row_answers}
-
--- a cell with a row for a turn has it in one of the turns
-turn_known : (turns : List (List (Option Row))) (j c : ℕ) (row : Row) → row_of (rows_for turns j) c ≡ Some row → j < length turns
-turn_known turns j c row is = elim (cases_lt j (length turns)) [
-  | inl lt ↦ lt
-  | inr ge ↦ let none : row_of [] c ≡ Some row = subst (λ (r : List (Option Row)). row_of r c ≡ Some row) (get_or_past turns j [] ge) is in absurd (cc)
-]
-
-patrol_rank : (u : TextModel) (y : List ℤ) (row : Row) → HasRowAt u.plant (due_rows u) y row → (bytes : List ℕ) → TellsAs Patrol bytes u → HasTextRank Patrol u.turn bytes y row.rank
-patrol_rank u y row has bytes tells =
-    let known : u.turn < length u.turns = turn_known u.turns u.turn (cell_of (axes_of u.plant) y) row has.is in
-    let fit = tells.fitting in
-    (row, record { plant = u.plant; rows = u.turns; table = tells; turn = omega (arith, known, fit.one_list_each); inside = has.inside; is = has.is }, refl)
-
--- the subtree for one of the cells
-tree_at : (g : Game) (End : ℕ → Type 0) (next : Trees) (cells : List ℕ) (s : ℕ) → LeadEachTo End g next cells → Contains cells s → (t : Tree) × LeadsTo End g t s × (depth_of t ≤ greatest_depth next)
-tree_at g End NoTrees cells s l (k, lt, e) = absurd (let none : length cells ≡ 0 = ap (λ (xs : List ℕ). length xs) l in omega (arith, none, lt))
-tree_at g End (AndTree t rest) [] s l has = absurd l
-tree_at g End (AndTree t rest) (c ∷ cells) s l (zero, lt, e) = (t, subst (LeadsTo End g t) e l.0, omega arith)
-tree_at g End (AndTree t rest) (c ∷ cells) s l (suc k, lt, e) =
-    let found = tree_at g End rest cells s l.1 (k, omega (arith, lt), e) in
-    let deep = found.2 in
-    (found.0, found.1, omega (arith, deep))
+use Rattle.text_control.proofs.Answering.{chosen_by}
+use Rattle.driven_loops.proofs.RowAnswers.{row_answers, has_rank}
 
 -- What a patrol text that was written holds, once it is read again.
 pub record Patrolled (t : TextModel) : Type 0 where
@@ -218,12 +197,6 @@ module _ (t : TextModel) (h : Patrolled t) where
       let lj = turn_is j y row has in
       clear_at p h.game h.abstraction (refines p h.game h.plant h.abstraction) y has.inside (cell_is j c row lj has.is) (reached_by j c row lj has.is).reached.1.0
 
-  ranked : (j : ℕ) (y : List ℤ) (row : Row) → HasRow j y row → IsRank (with_turn t j) y row.rank
-  ranked j y row has = (
-    record { row = row; has = has; is = refl },
-    λ bytes tells. subst (λ (k : TextKind). HasTextRank k j bytes y row.rank) (sym h.kind) (patrol_rank (with_turn t j) y row has bytes (subst (λ (k : TextKind). TellsAs k bytes (with_turn t j)) h.kind tells)),
-  )
-
   patrols : (j : ℕ) (x y : List ℤ) (k : ℕ) (samples : List FollowedSample) (u : TextModel) → IsRank (with_turn t j) x k → IsFollowedPatrolLoop (with_turn t j) x samples u y
       → IsClear p y × AlwaysAnswers u y × (k ≤ length samples → Any (FollowedEndsTurn (with_turn t j)) (take k samples)) × (u ≡ with_turn t u.turn) × ((n : ℕ) × IsRank u y n)
   patrols j x y k samples u rank loop =
@@ -235,7 +208,7 @@ module _ (t : TextModel) (h : Patrolled t) where
         subst (λ (m : TextModel). AlwaysAnswers m y) (sym end.0) (row_answers (with_turn t u.turn) y last end.1.1 (applies last)),
         λ le. turn_ends samples j x y u start.row k start.has (omega (arith, is)) le loop,
         end.0,
-        (last.rank, subst (λ (m : TextModel). IsRank m y last.rank) (sym end.0) (ranked u.turn y last end.1.1)),
+        (last.rank, subst (λ (m : TextModel). IsRank m y last.rank) (sym end.0) (has_rank (with_turn t u.turn) y last end.1.1)),
       )
 
 pub patrolled : (p : Description) (bytes text : List ℕ) (t : TextModel) → Spells bytes p → IsPatrolTableFor bytes text → IsReadFrom text t → (t.plant ≡ p) × Patrolled t

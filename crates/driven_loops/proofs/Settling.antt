@@ -1,12 +1,11 @@
 -- A followed loop by the text of reach and stay falls in rank with each sample, down to 0, and stays there.
-use Rattle.std.proofs.Common.{◌≡◌, ◌≢◌, ℕ, ◌-◌, ◌<◌, ◌≤◌, List, [], ◌∷◌, length, Option, Some, None, refl, sym, ap, subst, ◌∙◌, arith}
+use Rattle.std.proofs.Common.{◌≡◌, ℕ, ◌-◌, ◌<◌, ◌≤◌, List, [], ◌∷◌, length, Option, Some, None, refl, sym, ap, subst, ◌∙◌, arith}
 use Rattle.std.specs.Prelude.{ℤ}
 use Rattle.std.proofs.lemmas.List.Elements.{All-contains}
 use Rattle.game_core.specs.declared.game.Row.{Row}
-use Rattle.game_core.specs.declared.game.Mark.TheVariants.{Goal, Obstacle}
-use Rattle.game_core.specs.Game.{Game, IsEnabled, mark_of, successors_of}
+use Rattle.game_core.specs.Game.{Game, IsEnabled, successors_of}
 use Rattle.game_core.specs.Solution.{row_of}
-use Rattle.game_core.specs.Strategy.{Tree, Leaf, Apply, LeadsTo, depth_of, IsRankTo}
+use Rattle.game_core.specs.Strategy.{IsRankTo}
 use Rattle.game_core.proofs.Rows.{below_cells}
 use Rattle.grid_quantiser.specs.Cells.{cell_of}
 use Rattle.grid_quantiser.proofs.Domain.{cell_below}
@@ -23,6 +22,7 @@ use Rattle.plant_refine.proofs.Choosing.{one_row}
 use Rattle.temporal_games.specs.Held.{IsHeld}
 use Rattle.temporal_games.specs.Stay.{IsStayedBy, IsStayRow, IsStaySolution}
 use Rattle.temporal_texts.proofs.OneStayText.{one_stay_text}
+use Rattle.temporal_promises.proofs.Settling.{clear_of, goal_of}
 use Rattle.text_control.specs.declared.text_kind.TextKind.{TextKind}
 use Rattle.text_control.specs.declared.text_kind.TextKind.TheVariants.{Stay}
 use Rattle.text_control.specs.Texts.{TextModel, due_rows, TellsAs, IsReadFrom}
@@ -36,15 +36,8 @@ use Rattle.driven_loops.specs.Followed.{IsFollowedLoop}
 use Rattle.driven_loops.specs.FollowedLaws.{FollowedStayTextsSettle}
 use Rattle.driven_loops.proofs.ReadBack.{of_stay}
 use Rattle.driven_loops.proofs.ItsBox.{enabled_in, in_successor}
-use Rattle.driven_loops.proofs.RowAnswers.{chosen_by, row_answers, stay_rank}
-
-clear_of : (g : Game) (c : ℕ) (t : Tree) → LeadsTo (IsHeld g) g t c → mark_of g c ≢ Obstacle
-clear_of g c Leaf l e = let goal : mark_of g c ≡ Goal = l 0 in cc
-clear_of g c (Apply u next) l e = l.0 e
-
-goal_of : (g : Game) (c : ℕ) (t : Tree) → LeadsTo (IsHeld g) g t c → depth_of t ≡ 0 → mark_of g c ≡ Goal
-goal_of g c Leaf l e = l 0
-goal_of g c (Apply u next) l e = absurd (omega arith)
+use Rattle.text_control.proofs.Answering.{chosen_by}
+use Rattle.driven_loops.proofs.RowAnswers.{row_answers, has_rank}
 
 -- What a stay text that was written holds, once it is read again.
 pub record Settled (t : TextModel) : Type 0 where
@@ -143,7 +136,7 @@ module _ (t : TextModel) (h : Settled t) where
         unblocked y end.0 end.1,
         row_answers t y end.0 end.1 (applies end.0),
         λ le. settled_in y end.0 end.1 (omega (arith, le, low, is)),
-        (end.0.rank, stay_rank t y end.0 end.1 h.kind, omega (arith, low, is)),
+        (end.0.rank, has_rank t y end.0 end.1, omega (arith, low, is)),
       )
 
 pub settled : (p : Description) (bytes text : List ℕ) (t : TextModel) → Spells bytes p → IsStayTableFor bytes text → IsReadFrom text t → (t.plant ≡ p) × Settled t

@@ -5,7 +5,7 @@ use Rattle.grid_quantiser.specs.declared.axis.Axis.{Axis}
 use Rattle.grid_quantiser.specs.Axes.{cells_of}
 use Rattle.grid_quantiser.specs.CellBoxes.{IsInBox}
 use Rattle.plant_record.specs.Description.{Description, axes_of}
-use Rattle.temporal_texts.specs.Targets.{target_at}
+use Rattle.turn_rows.specs.Targets.{target_at}
 use Rattle.text_control.specs.Texts.{TextModel}
 use Rattle.text_control.specs.Loops.{LoopSample, moved_by, Answers}
 use Rattle.text_control.specs.Followed.{FollowedSample, IsInItsBox}

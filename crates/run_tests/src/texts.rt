@@ -12,7 +12,7 @@ use std::test::Fail;
 use std::thread::Threads;
 use synth_run::Open;
 use synth_run::laws::some_game_per_plant;
-use temporal_games::laws::{patrol_solutions_patrol, stay_solutions_settle};
+use temporal_promises::laws::{patrol_solutions_patrol, stay_solutions_settle};
 use temporal_texts::laws::{one_patrol_text, one_stay_text};
 
 /// Whether a word writes the same for a plant by one worker and by two.

@@ -9,8 +9,9 @@ use Rattle.plant_game.proofs.OneGame.{one_game}
 use Rattle.temporal_games.specs.Held.{IsHeld}
 use Rattle.temporal_games.specs.Stay.{IsStayedBy, IsStayRow, IsStaySolution}
 use Rattle.temporal_texts.specs.StayText.{stay_text}
-use Rattle.temporal_texts.specs.Targets.{IsInTarget}
-use Rattle.temporal_texts.specs.PatrolText.{rows_for, patrol_text}
+use Rattle.turn_rows.specs.Targets.{IsInTarget}
+use Rattle.temporal_texts.specs.PatrolText.{patrol_text}
+use Rattle.turn_rows.specs.Rows.{rows_for}
 use Rattle.temporal_games.specs.Patrol.{IsReachedLaterBy, IsPatrolRow, IsPatrol}
 use Rattle.synth_run.specs.Headline.{IsStayTableOf, IsPatrolTableOf}
 use Rattle.synth_run.specs.Laws.{OneStayTextForBytes, OnePatrolTextForBytes}

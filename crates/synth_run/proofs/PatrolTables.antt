@@ -5,10 +5,10 @@ use Rattle.game_core.specs.Game.{Game}
 use Rattle.plant_record.specs.Description.{Description}
 use Rattle.plant_record.specs.Limits.{IsWithinLimits}
 use Rattle.plant_game.specs.Abstraction.{IsGameOf}
-use Rattle.temporal_texts.specs.Targets.{IsInTarget}
+use Rattle.turn_rows.specs.Targets.{IsInTarget}
 use Rattle.temporal_games.specs.Patrol.{IsPatrol}
 use Rattle.temporal_texts.specs.PatrolText.{patrol_text}
-use Rattle.temporal_games.proofs.PatrolLaws.{solution_has_patrol_text, patrol_text_patrols}
+use Rattle.temporal_promises.proofs.PatrolLaws.{solution_has_patrol_text, patrol_text_patrols}
 use Rattle.command_line.specs.declared.outcome.Failure.TheVariants.{Read, Write, Memory}
 use Rattle.synth_run.specs.declared.stop.Stop.{Stop}
 use Rattle.synth_run.specs.declared.stop.Stop.TheVariants.{Refused, Failed}

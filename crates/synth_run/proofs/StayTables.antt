@@ -7,7 +7,7 @@ use Rattle.plant_record.specs.Limits.{IsWithinLimits}
 use Rattle.plant_game.specs.Abstraction.{IsGameOf}
 use Rattle.temporal_games.specs.Stay.{IsStaySolution}
 use Rattle.temporal_texts.specs.StayText.{stay_text}
-use Rattle.temporal_games.proofs.StayLaws.{solution_has_stay_text, stay_text_settles}
+use Rattle.temporal_promises.proofs.StayLaws.{solution_has_stay_text, stay_text_settles}
 use Rattle.synth_run.specs.Headline.{IsStayTableOf}
 
 -- the text of a plant within the limits and of the solution of its game

@@ -8,7 +8,7 @@ use Rattle.plant_game.specs.PlantSolution.{IsSolutionOf}
 use Rattle.temporal_games.specs.Stay.{IsStaySolution}
 use Rattle.temporal_texts.specs.StayText.{IsStayText}
 use Rattle.temporal_texts.specs.Settles.{Settles}
-use Rattle.temporal_texts.specs.Targets.{IsInTarget}
+use Rattle.turn_rows.specs.Targets.{IsInTarget}
 use Rattle.temporal_games.specs.Patrol.{IsPatrol}
 use Rattle.temporal_texts.specs.PatrolText.{IsPatrolText}
 use Rattle.temporal_texts.specs.Patrols.{Patrols}

@@ -2,9 +2,8 @@
 
 ghost use Rattle.std.specs.Prelude.{◌≡◌, IfOk};
 ghost use Rattle.abstraction_table.specs.Table.{game_of, forward_game};
-ghost use Rattle.plant_record.specs.declared.aims.GoalKind.TheVariants.{Reach, Keep};
 ghost use Rattle.base.specs.Workers.{AreWorkers};
-ghost use Rattle.synth_run.specs.inside.SolvedAbstractions.{IsSolvedAbstraction};
+ghost use Rattle.synth_run.specs.inside.SolvedAbstractions.{goal_of, IsScratchFor, IsSolvedGame, IsSolvedAbstraction};
 
 use abstraction_table::{Abstraction, ForwardAbstraction, add_sources};
 use board_rounds::SolvedGame;
@@ -40,44 +39,56 @@ pub fn solve_game<R: Threads + Sync, T: Gate>(
     ensures game { IfOk result (λ solved. game_of solved.game ≡ forward_game forward) }
     ensures solved { IfOk result (IsSolvedAbstraction goal) }
 {
-    match goal {
-        GoalKind::Reach => solve_forward(rt, alloc, forward, workers, gate),
-        GoalKind::Keep => keep_forward(rt, alloc, forward, workers, gate),
+    let scratch = Scratch::new(rt, alloc, goal, &forward, workers)?;
+    let game = add_sources(rt, alloc, forward)?;
+    let solution = scratch.solve(rt, alloc, &game, gate);
+    Ok(SolvedAbstraction { game, solution })
+}
+
+/// The memory in which the game of a goal is solved.
+#[derive(Drop)]
+pub enum Scratch {
+    Reach(reach_avoid::Scratch),
+    Keep(safety_game::Scratch),
+}
+
+impl Scratch {
+    fn new<R: Threads + Sync>(
+        rt: &R,
+        alloc: Global,
+        goal: GoalKind,
+        forward: &ForwardAbstraction,
+        workers: u32,
+    ) -> Result<Scratch, NoMemory>
+        requires { AreWorkers workers }
+        ensures goal { IfOk result (λ scratch. goal_of scratch ≡ goal) }
+        ensures board { IfOk result (IsScratchFor (forward_game forward.now)) }
+    {
+        match goal {
+            GoalKind::Reach => {
+                let scratch = reach_avoid::Scratch::new(rt, alloc, forward, workers)?;
+                Ok(Scratch::Reach(scratch))
+            }
+            GoalKind::Keep => {
+                let scratch = safety_game::Scratch::new(rt, alloc, forward, workers)?;
+                Ok(Scratch::Keep(scratch))
+            }
+        }
     }
-}
 
-/// The game that is to reach.
-fn solve_forward<R: Threads + Sync, T: Gate>(
-    rt: &R,
-    alloc: Global,
-    forward: ForwardAbstraction,
-    workers: u32,
-    gate: &T,
-) -> Result<SolvedAbstraction, NoMemory>
-    requires { AreWorkers workers }
-    ensures game { IfOk result (λ solved. game_of solved.game ≡ forward_game forward) }
-    ensures solved { IfOk result (IsSolvedAbstraction Reach) }
-{
-    let scratch = reach_avoid::Scratch::new(rt, alloc, &forward, workers)?;
-    let game = add_sources(rt, alloc, forward)?;
-    let solution = reach_avoid::solve_in(rt, alloc, &game, scratch, gate);
-    Ok(SolvedAbstraction { game, solution })
-}
-
-/// The game that is to be kept.
-fn keep_forward<R: Threads + Sync, T: Gate>(
-    rt: &R,
-    alloc: Global,
-    forward: ForwardAbstraction,
-    workers: u32,
-    gate: &T,
-) -> Result<SolvedAbstraction, NoMemory>
-    requires { AreWorkers workers }
-    ensures game { IfOk result (λ solved. game_of solved.game ≡ forward_game forward) }
-    ensures solved { IfOk result (IsSolvedAbstraction Keep) }
-{
-    let scratch = safety_game::Scratch::new(rt, alloc, &forward, workers)?;
-    let game = add_sources(rt, alloc, forward)?;
-    let solution = safety_game::keep_in(rt, alloc, &game, scratch, gate);
-    Ok(SolvedAbstraction { game, solution })
+    fn solve<R: Threads + Sync, T: Gate>(
+        self,
+        rt: &R,
+        alloc: Global,
+        game: &Abstraction,
+        gate: &T,
+    ) -> SolvedGame
+        requires { IsScratchFor (game_of game.now) self }
+        ensures { IsSolvedGame (goal_of self) (game_of game.now) result }
+    {
+        match self {
+            Scratch::Reach(scratch) => reach_avoid::solve_in(rt, alloc, game, scratch, gate),
+            Scratch::Keep(scratch) => safety_game::keep_in(rt, alloc, game, scratch, gate),
+        }
+    }
 }

@@ -14,7 +14,8 @@ use plant_record::Plant;
 use run_devices::{Sink, WriteFault, write_buffered, write_whole};
 use std::alloc::{AllocError, Global};
 use successor_box::Slopes;
-use temporal_games::{PatrolRows, PatrolWriter, StayWriter};
+use temporal_texts::{PatrolWriter, StayWriter};
+use turn_rows::PatrolRows;
 
 /// How many bytes are asked for before a trace is written: more than its writer takes of the stack.
 const TRACE_STACK: usize = 1 << 18;

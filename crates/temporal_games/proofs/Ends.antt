@@ -1,7 +1,7 @@
 -- A search with no turn due has the solution.
 use Rattle.std.proofs.Common.{◌≡◌, ℕ, ◌<◌, false}
 use Rattle.game_core.specs.Game.{Game, IsGame}
-use Rattle.temporal_texts.specs.Targets.{next_turn}
+use Rattle.turn_rows.specs.Targets.{next_turn}
 use Rattle.temporal_games.specs.Patrol.{IsPatrol}
 use Rattle.temporal_games.specs.inside.PatrolSearch.{PatrolProgress, IsMarked, is_due, IsUnderWay}
 use Rattle.temporal_games.proofs.Patrols.{patrols}

@@ -2,7 +2,7 @@
 use Rattle.std.proofs.Common.{ℕ, zero, suc, ◌<◌}
 use Rattle.game_core.specs.Game.{Game, IsGame}
 use Rattle.game_core.specs.Strategy.{Apply}
-use Rattle.temporal_texts.specs.Targets.{next_turn}
+use Rattle.turn_rows.specs.Targets.{next_turn}
 use Rattle.temporal_games.specs.Visits.{ReachesLater, Visits}
 use Rattle.game_core.proofs.Carried.{weaker}
 

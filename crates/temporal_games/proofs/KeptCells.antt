@@ -9,7 +9,7 @@ use Rattle.game_core.specs.Strategy.{Tree, Leaf, Apply, Trees, NoTrees, AndTree,
 use Rattle.game_core.proofs.InTime.{kept_or_falls_in_time}
 use Rattle.game_core.proofs.Keep.{keep_trees_for}
 use Rattle.game_core.proofs.Rows.{successors_below}
-use Rattle.temporal_texts.specs.Targets.{next_turn}
+use Rattle.turn_rows.specs.Targets.{next_turn}
 use Rattle.temporal_games.specs.Visits.{Visits}
 
 module _ (g : Game) (a : IsGame g) where

@@ -1,9 +1,3 @@
-pub mod Settling
-pub mod FittingStayRows
-pub mod StayLaws
-pub mod Patrolling
-pub mod FittingPatrolRows
-pub mod PatrolLaws
 pub mod Trees
 pub mod HeldCells
 pub mod StayRows

@@ -5,7 +5,7 @@ use Rattle.game_core.specs.Game.{Game, IsGame}
 use Rattle.game_core.specs.Solution.{row_of, HasRowBelow}
 use Rattle.game_core.specs.Strategy.{Trees, Apply, LeadsTo, depth_of}
 use Rattle.temporal_games.specs.Visits.{IsArrival}
-use Rattle.temporal_texts.specs.PatrolText.{rows_for}
+use Rattle.turn_rows.specs.Rows.{rows_for}
 use Rattle.temporal_games.specs.Patrol.{IsPatrol}
 use Rattle.temporal_games.proofs.RowBounds as bounds
 pub use Rattle.temporal_games.proofs.TargetCells.{targets_are_told}

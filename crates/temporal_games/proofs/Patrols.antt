@@ -5,9 +5,9 @@ use Rattle.game_core.specs.declared.game.Row.{Row}
 use Rattle.game_core.specs.Game.{Game, IsGame}
 use Rattle.game_core.specs.Strategy.{Apply}
 use Rattle.game_core.specs.Solution.{row_of, HasRow}
-use Rattle.temporal_texts.specs.Targets.{next_turn}
+use Rattle.turn_rows.specs.Targets.{next_turn}
 use Rattle.temporal_games.specs.Visits.{ReachesLater, Visits, VisitsOn, IsArrival}
-use Rattle.temporal_texts.specs.PatrolText.{rows_for}
+use Rattle.turn_rows.specs.Rows.{rows_for}
 use Rattle.temporal_games.specs.Patrol.{IsReachedLaterBy, IsLaterReachRow, IsPatrolRow, IsPatrol}
 use Rattle.game_core.proofs.Carried.{weaker}
 use Rattle.temporal_games.proofs.ForEver.{reaches_later_weaker, for_ever, one_more}

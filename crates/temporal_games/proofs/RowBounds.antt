@@ -9,9 +9,9 @@ use Rattle.game_core.specs.Game.{Game, IsGame, pair_of, successors_of}
 use Rattle.game_core.specs.Strategy.{Tree, Leaf, Apply, Trees, NoTrees, AndTree, LeadsTo, LeadEachTo, depth_of, greatest_depth}
 use Rattle.game_core.specs.Solution.{row_of, HasRowBelow}
 use Rattle.game_core.proofs.Rows.{successors_below, below_from_row}
-use Rattle.temporal_texts.specs.Targets.{next_turn}
+use Rattle.turn_rows.specs.Targets.{next_turn}
 use Rattle.temporal_games.specs.Visits.{ReachesLater, Visits, VisitsOn, IsArrival}
-use Rattle.temporal_texts.specs.PatrolText.{rows_for}
+use Rattle.turn_rows.specs.Rows.{rows_for}
 use Rattle.temporal_games.specs.Patrol.{IsReachedLaterBy, IsPatrolRow, IsPatrol}
 use Rattle.temporal_games.proofs.ForEver.{reaches_later_weaker}
 use Rattle.game_core.proofs.RankBound.{HasRowOf, below_of, differs}

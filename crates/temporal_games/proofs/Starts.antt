@@ -3,10 +3,10 @@ use Rattle.std.proofs.Common.{◌≡◌, ℕ, ◌<◌, Bool, true, false, List, 
 use Rattle.std.proofs.lemmas.List.{get_or-replicate, length-replicate}
 use Rattle.game_core.specs.Game.{Game, IsGame}
 use Rattle.plant_record.specs.Description.{Description}
-use Rattle.temporal_texts.specs.Targets.{IsInTarget, next_turn}
+use Rattle.turn_rows.specs.Targets.{IsInTarget, next_turn}
 use Rattle.temporal_games.specs.inside.PatrolSearch.{PatrolProgress, is_due, IsUnderWay, IsAtStart}
 use Rattle.temporal_games.proofs.KeptCells.{visitors_have_rows}
-use Rattle.temporal_texts.proofs.NextTurns.{next_below}
+use Rattle.turn_rows.proofs.NextTurns.{next_below}
 
 pub starts : (p : Description) (g : Game) (t : PatrolProgress) → IsGame g → IsAtStart p g t → IsUnderWay g (IsInTarget p) (length p.targets) t
 starts p g t a s = record {

@@ -8,9 +8,9 @@ use Rattle.game_core.specs.declared.game.Mark.TheVariants.{Goal, Plain}
 use Rattle.game_core.specs.declared.game.Row.{Row}
 use Rattle.game_core.specs.Game.{Game, IsGame}
 use Rattle.game_core.specs.Solution.{row_of, HasRow}
-use Rattle.temporal_texts.specs.Targets.{next_turn}
+use Rattle.turn_rows.specs.Targets.{next_turn}
 use Rattle.temporal_games.specs.Visits.{Visits}
-use Rattle.temporal_texts.specs.PatrolText.{rows_for}
+use Rattle.turn_rows.specs.Rows.{rows_for}
 use Rattle.temporal_games.specs.Patrol.{IsLaterReachRow}
 use Rattle.temporal_games.specs.inside.PatrolSearch.{PatrolProgress, marks_for, mark_at, IsMarked, is_due, AreTurnMarks, AreLaterReachRows, withdrawn_mark, withdrawn, is_goal, one_if, work_left, IsUnderWay, IsStableAt}
 use Rattle.temporal_games.proofs.Withdrawing.{kept_goal, kept_row, still_turn_marks}

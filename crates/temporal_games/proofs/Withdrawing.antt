@@ -9,7 +9,7 @@ use Rattle.game_core.specs.declared.game.Row.{Row}
 use Rattle.game_core.specs.Game.{Game}
 use Rattle.game_core.specs.Solution.{row_of}
 use Rattle.plant_record.specs.Description.{Description}
-use Rattle.temporal_texts.specs.Targets.{IsInTarget}
+use Rattle.turn_rows.specs.Targets.{IsInTarget}
 use Rattle.temporal_games.specs.inside.PatrolSearch.{mark_at, AreTurnMarks, AreTargetMarks, AreFirstMarks, withdrawn_mark, withdrawn, is_gone, is_goal, one_if}
 
 -- the marks below c are withdrawn, the others are as they were, and as many goals are gone

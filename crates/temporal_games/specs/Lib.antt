@@ -1,4 +1,3 @@
-pub mod Laws
 pub mod inside
 pub mod Held
 pub mod Stay

@@ -5,7 +5,7 @@ use Rattle.game_core.specs.declared.game.Row.{Row}
 use Rattle.game_core.specs.Game.{Game}
 use Rattle.game_core.specs.Strategy.{Trees, Apply, LeadsTo, depth_of}
 use Rattle.game_core.specs.Solution.{row_of}
-use Rattle.temporal_texts.specs.PatrolText.{rows_for}
+use Rattle.turn_rows.specs.Rows.{rows_for}
 use Rattle.temporal_games.specs.Visits.{ReachesLater, VisitsOn, IsArrival}
 
 -- The least depth of a strategy that begins with an input, and the least input with which one of that depth begins.

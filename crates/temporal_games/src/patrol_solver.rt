@@ -2,7 +2,7 @@
 ghost use Rattle.std.specs.Prelude.{◌≤◌, ◌*◌, length, IfOk};
 ghost use Rattle.base.specs.Workers.{AreWorkers};
 ghost use Rattle.plant_game.specs.Abstraction.{IsGameOf};
-ghost use Rattle.temporal_texts.specs.Targets.{IsInTarget};
+ghost use Rattle.turn_rows.specs.Targets.{IsInTarget};
 ghost use Rattle.temporal_games.specs.Patrol.{IsPatrol};
 ghost use Rattle.temporal_games.specs.inside.PatrolSearch.{IsAtStart};
 ghost use Rattle.base.specs.declared.limits.TheConstants.{TURNS_LIMIT};
@@ -14,7 +14,7 @@ use plant_record::Plant;
 use safety_game::keep;
 use std::alloc::Global;
 use std::thread::Threads;
-use temporal_texts::PatrolRows;
+use turn_rows::PatrolRows;
 
 /// Solves patrol of a plant's game by 1 to 64 workers: for each turn its rows. The gate is passed before each cell of each
 /// round of each solution (tested: `Gate`).

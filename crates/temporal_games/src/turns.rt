@@ -15,7 +15,7 @@ use reach_avoid::solve;
 use std::alloc::Global;
 use std::marker::Model;
 use std::thread::Threads;
-use temporal_texts::PatrolRows;
+use turn_rows::PatrolRows;
 
 /// For each turn its arrivals, its rows, and whether it is to be solved again.
 #[derive(Drop)]

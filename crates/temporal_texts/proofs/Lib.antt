@@ -10,6 +10,5 @@ pub mod TurnsRead
 pub mod SomeTurns
 pub mod ShortTexts
 pub mod PatrolRefusals
-pub mod NextTurns
 pub mod Trajectories
 pub mod TextLaws

@@ -12,7 +12,8 @@ use Rattle.plant_record.specs.Description.{Description, axes_of}
 use Rattle.plant_record.specs.Steps.{step_of, IsNoise}
 use Rattle.temporal_texts.specs.StayText.{HasStayRow}
 use Rattle.temporal_texts.specs.Settles.{IsUnderWay, Holds}
-use Rattle.temporal_texts.specs.PatrolText.{IsPatrolRowOf, HasPatrolRow, rows_for}
+use Rattle.temporal_texts.specs.PatrolText.{IsPatrolRowOf, HasPatrolRow}
+use Rattle.turn_rows.specs.Rows.{rows_for}
 use Rattle.temporal_texts.specs.Patrols.{LandsWell, Goes}
 use Rattle.temporal_texts.specs.TextTrajectories.{Sample, state_after, IsStayTrajectory, IsPatrolTrajectory, EndsTurn}
 use Rattle.temporal_texts.specs.Laws.{StayTrajectoriesSettle, PatrolTrajectoriesGoOn}

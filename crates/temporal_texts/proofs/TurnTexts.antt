@@ -8,7 +8,8 @@ use Rattle.row_runs.specs.declared.row_format.RowFormat.TheVariants.{Both}
 use Rattle.row_runs.specs.declared.run.TableVersion.TheVariants.{Second}
 use Rattle.row_runs.specs.Runs.{runs_from}
 use Rattle.row_runs.specs.RunText.{run_line, run_lines}
-use Rattle.temporal_texts.specs.PatrolText.{rows_for, turn_line, turn_lines}
+use Rattle.temporal_texts.specs.PatrolText.{turn_line, turn_lines}
+use Rattle.turn_rows.specs.Rows.{rows_for}
 
 -- the first of some turns, in its pieces
 first_turn : (j : ℕ) (rows : List (Option Row)) (rest : List (List (Option Row))) → concat (turn_lines j (rows ∷ rest)) ≡ turn_line j (length (runs_from Second 0 rows)) ++ (concat (run_lines Both rows) ++ concat (turn_lines (suc j) rest))

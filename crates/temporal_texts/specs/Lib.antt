@@ -1,4 +1,3 @@
-pub mod Targets
 pub mod StayText
 pub mod StayRefusals
 pub mod Settles

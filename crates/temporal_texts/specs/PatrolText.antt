@@ -1,5 +1,5 @@
 -- The text of a plant with its rows of patrol, turn by turn.
-use Rattle.std.specs.Prelude.{◌≡◌, ℕ, suc, ◌<◌, ◌≤◌, ℤ, List, [], ◌∷◌, ◌++◌, length, Option, Some, IfSome, slice_index_or, codes}
+use Rattle.std.specs.Prelude.{◌≡◌, ℕ, suc, ◌<◌, ◌≤◌, ℤ, List, [], ◌∷◌, ◌++◌, length, Option, Some, IfSome, codes}
 use Rattle.std.specs.List.{All, concat}
 use Rattle.std.specs.Fmt.{decimal}
 use Rattle.game_core.specs.declared.game.Row.{Row}
@@ -12,7 +12,8 @@ use Rattle.grid_quantiser.specs.Cells.{IsInDomain, cell_of}
 use Rattle.plant_record.specs.Description.{Description, axes_of, vectors_of}
 use Rattle.plant_record.specs.Limits.{IsWithinLimits}
 use Rattle.plant_writing.specs.CanonicalText.{text_of}
-use Rattle.temporal_texts.specs.Targets.{IsInTarget, next_turn}
+use Rattle.turn_rows.specs.Targets.{IsInTarget, next_turn}
+use Rattle.turn_rows.specs.Rows.{rows_for}
 
 -- the first line
 abbrev pub patrol_line : List ℕ
@@ -30,10 +31,6 @@ turn_lines j (rows ∷ rest) = turn_line j (length (run_lines Both rows)) ∷ ru
 -- the text of a plant and of one optional row for each turn and cell
 abbrev pub patrol_text : Description → List (List (Option Row)) → List ℕ
 patrol_text p rows = patrol_line ++ text_of p ++ concat (turn_lines 0 rows ++ end_line ∷ [])
-
--- the rows of a turn
-abbrev pub rows_for : List (List (Option Row)) → ℕ → List (Option Row)
-rows_for rows j = slice_index_or rows j []
 
 -- What a patrol text says.
 pub record PatrolModel : Type 0 where

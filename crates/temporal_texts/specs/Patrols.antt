@@ -7,7 +7,7 @@ use Rattle.plant_record.specs.Steps.{step_of, IsNoise}
 use Rattle.std.specs.Prelude.{◌⊎◌, ℕ, ◌-◌, ◌≤◌, ℤ, List, [], ◌∷◌, length}
 use Rattle.std.specs.List.{All}
 use Rattle.game_core.specs.declared.game.Row.{Row}
-use Rattle.temporal_texts.specs.Targets.{target_at, next_turn}
+use Rattle.turn_rows.specs.Targets.{target_at, next_turn}
 use Rattle.temporal_texts.specs.PatrolText.{HasPatrolRow, IsArrivalIn}
 
 -- where a step lands: at an arrival, within its target, from which it goes on to the next; or not yet, with samples left

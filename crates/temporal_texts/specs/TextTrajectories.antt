@@ -4,7 +4,7 @@ use Rattle.game_core.specs.declared.game.Row.{Row}
 use Rattle.grid_quantiser.specs.CellBoxes.{IsInBox}
 use Rattle.plant_record.specs.Description.{Description, axes_of}
 use Rattle.plant_record.specs.Steps.{step_of, IsNoise}
-use Rattle.temporal_texts.specs.Targets.{target_at, next_turn}
+use Rattle.turn_rows.specs.Targets.{target_at, next_turn}
 use Rattle.temporal_texts.specs.StayText.{HasStayRow}
 use Rattle.temporal_texts.specs.PatrolText.{HasPatrolRow, IsArrivalIn}
 

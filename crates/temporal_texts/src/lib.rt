@@ -9,7 +9,6 @@
 pub mod laws;
 mod patrol_fault;
 mod patrol_reader;
-mod patrol_rows;
 mod patrol_table;
 mod patrol_writer;
 mod stay_reader;
@@ -20,7 +19,6 @@ mod turn_reader;
 
 pub use patrol_fault::PatrolFault;
 pub use patrol_reader::{PATROL_LIMIT, read_patrol};
-pub use patrol_rows::PatrolRows;
 pub use patrol_table::PatrolTable;
 pub use patrol_writer::PatrolWriter;
 pub use stay_reader::read_stay;

@@ -3,13 +3,14 @@ ghost use Rattle.grid_quantiser.specs.Axes.{cells_of};
 ghost use Rattle.game_core.specs.Solution.{row_of};
 ghost use Rattle.plant_record.specs.Description.{axes_of};
 ghost use Rattle.plant_record.specs.Limits.{IsWithinLimits};
-ghost use Rattle.temporal_texts.specs.PatrolText.{IsPatrolRowOf, PatrolRowsFit, rows_for};
+ghost use Rattle.temporal_texts.specs.PatrolText.{IsPatrolRowOf, PatrolRowsFit};
+ghost use Rattle.turn_rows.specs.Rows.{rows_for};
 ghost use Rattle.temporal_texts.specs.PatrolRefusals.{HasFewTurns};
 
-use crate::patrol_rows::PatrolRows;
 use game_core::Row;
 use plant_record::Plant;
 use std::marker::Model;
+use turn_rows::PatrolRows;
 
 /// What a patrol text says: a plant with few enough turns, and for each turn a row that fits it for some of its cells.
 #[derive(Drop)]

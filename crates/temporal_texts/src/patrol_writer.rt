@@ -1,7 +1,6 @@
 ghost use Rattle.std.specs.Prelude.{◌≡◌, IfOk};
 ghost use Rattle.temporal_texts.specs.PatrolText.{patrol_text};
 
-use crate::patrol_rows::PatrolRows;
 use crate::turn_lines::TurnLines;
 use controller_table::header_of;
 use game_core::NoMemory;
@@ -10,6 +9,7 @@ use row_runs::FramedText;
 use std::alloc::Global;
 use std::marker::Model;
 use text_pieces::Pieces;
+use turn_rows::PatrolRows;
 
 /// Writes the text of a patrol piece by piece. Seen as the bytes that are still to come.
 #[derive(Drop)]

@@ -3,10 +3,10 @@ ghost use Rattle.std.specs.List.{concat};
 ghost use Rattle.temporal_texts.specs.PatrolText.{turn_line, turn_lines};
 ghost use Rattle.temporal_texts.specs.inside.Left.{left_of};
 
-use crate::patrol_rows::PatrolRows;
 use row_runs::{LineText, RowFormat, RunLines, count_runs};
 use std::marker::Model;
 use text_pieces::{Pieces, copy_prefix};
+use turn_rows::PatrolRows;
 
 /// The lines of all turns, piece by piece. Seen as the bytes that are still to come.
 #[derive(Drop)]

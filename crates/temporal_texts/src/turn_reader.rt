@@ -8,12 +8,12 @@ ghost use Rattle.row_reading.specs.RowSteps.{IsRefusedAt};
 ghost use Rattle.temporal_texts.specs.TurnSteps.{patrol_rules, EncodeTurns, AreTurnsRefusedAt};
 ghost use Rattle.temporal_texts.specs.inside.ReadTurns.{IsTurnAt, IsTurnRead, IsTurnRefused};
 
-use crate::patrol_rows::PatrolRows;
 use game_core::Answer;
 use plant_record::Plant;
 use row_reading::{RowFault, RowRules, after_prefix, take_number, take_rows};
 use row_runs::{RowFormat, TableVersion};
 use std::alloc::Global;
+use turn_rows::PatrolRows;
 
 /// The rows that the bytes give for each turn.
 pub(crate) fn read_turns(alloc: Global, p: &Plant, bytes: &[u8]) -> Result<PatrolRows, RowFault>

@@ -12,7 +12,7 @@ use Rattle.text_control.specs.Control.{AreSized, AreChosen, AreTextValues, IsRep
 use Rattle.text_control.specs.Loops.{LoopSample, moved_by, Answers, AlwaysAnswers}
 
 -- an answer 1 is to apply
-chosen_by : (t : TextModel) (x before values : List ℤ) (reply : Reply) → pos 1 ≡ reply_number reply → IsReply t x before values reply → AreChosen t x values
+pub chosen_by : (t : TextModel) (x before values : List ℤ) (reply : Reply) → pos 1 ≡ reply_number reply → IsReply t x before values reply → AreChosen t x values
 chosen_by t x before values Apply number is = is.1
 chosen_by t x before values Arrived number is = absurd (cc)
 chosen_by t x before values NoRow number is = absurd (cc)

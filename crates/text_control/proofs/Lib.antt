@@ -1,11 +1,11 @@
 mod Cells
 mod Pieces
 mod Replies
-mod OneText
+pub mod OneText
 mod PatrolTurns
 pub mod ByText
 pub mod TurnChanges
-mod Answering
+pub mod Answering
 pub mod TableLoops
 pub mod TemporalLoops
 pub mod TextRefusals

@@ -10,7 +10,8 @@ use Rattle.plant_record.specs.Description.{Description, axes_of, vector_of}
 use Rattle.controller_table.specs.Choice.{HasRowAt, Applies, Chooses, IsChoice}
 use Rattle.controller_table.proofs.OneTable.{one_table}
 use Rattle.temporal_texts.specs.StayText.{IsStayText, HasStayRow}
-use Rattle.temporal_texts.specs.PatrolText.{IsPatrolText, HasPatrolRow, rows_for}
+use Rattle.temporal_texts.specs.PatrolText.{IsPatrolText, HasPatrolRow}
+use Rattle.turn_rows.specs.Rows.{rows_for}
 use Rattle.temporal_texts.proofs.OneStayText.{one_stay_text}
 use Rattle.temporal_texts.proofs.OnePatrolText.{one_patrol_text}
 use Rattle.text_control.specs.declared.text_kind.TextKind.{TextKind}

@@ -10,7 +10,7 @@ use Rattle.temporal_texts.specs.StayText.{HasStayRow}
 use Rattle.temporal_texts.specs.PatrolText.{IsPatrolText, HasPatrolRow}
 use Rattle.temporal_texts.specs.TextTrajectories.{Sample, state_after, IsStayTrajectory, IsTurnFrom, IsPatrolTrajectory}
 use Rattle.temporal_texts.specs.TextTrajectories as texts
-use Rattle.temporal_texts.specs.Targets.{target_at}
+use Rattle.turn_rows.specs.Targets.{target_at}
 use Rattle.temporal_texts.proofs.TextLaws.{stay_trajectories_settle, patrol_trajectories_go_on}
 use Rattle.text_control.specs.declared.text_kind.TextKind.{TextKind}
 use Rattle.text_control.specs.declared.text_kind.TextKind.TheVariants.{Stay, Patrol}

@@ -21,7 +21,7 @@ use Rattle.text_control.specs.Laws.{ReadTextsTell, OneTextRefusal, TextOrRefused
 
 -- ---- first lines
 
-abbrev first : List ℕ → ℕ
+abbrev pub first : List ℕ → ℕ
 first bytes = get_or bytes 0 0
 
 stay_first : (bytes : List ℕ) → HasFirstLine stay_line bytes → first bytes ≡ 115
@@ -30,11 +30,11 @@ stay_first bytes h = ap first h.1
 patrol_first : (bytes : List ℕ) → HasFirstLine patrol_line bytes → first bytes ≡ 112
 patrol_first bytes h = ap first h.1
 
-version_first : (v : TableVersion) (rest : List ℕ) → first (version_line v ++ rest) ≡ 116
+pub version_first : (v : TableVersion) (rest : List ℕ) → first (version_line v ++ rest) ≡ 116
 version_first First rest = refl
 version_first Second rest = refl
 
-table_first : (bytes : List ℕ) (p : Description) (rows : List (Option Row)) → IsTable bytes p rows → first bytes ≡ 116
+pub table_first : (bytes : List ℕ) (p : Description) (rows : List (Option Row)) → IsTable bytes p rows → first bytes ≡ 116
 table_first bytes p rows h =
     let rest : List ℕ = concat (lines_after h.version p.goal rows) in
     ap first (h.text ∙ append_assoc (version_line h.version) (text_of p) rest) ∙ version_first h.version (text_of p ++ rest)

@@ -6,7 +6,7 @@ use Rattle.plant_record.specs.Description.{axes_of}
 use Rattle.plant_record.specs.States.{LiesInSome, IsClear}
 use Rattle.row_runs.specs.declared.run.TableVersion.{TableVersion}
 use Rattle.temporal_texts.specs.Settles.{Settles}
-use Rattle.temporal_texts.specs.Targets.{target_at}
+use Rattle.turn_rows.specs.Targets.{target_at}
 use Rattle.temporal_texts.specs.Patrols.{Patrols}
 use Rattle.temporal_texts.specs.PatrolRefusals.{HasFewTurns}
 use Rattle.plant_refine.specs.Drives.{Drives}

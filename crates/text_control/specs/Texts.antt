@@ -13,7 +13,8 @@ use Rattle.temporal_texts.specs.declared.patrol_fault.PatrolFault.{PatrolFault}
 use Rattle.temporal_texts.specs.declared.patrol_fault.PatrolFault.TheVariants as patrols
 use Rattle.temporal_texts.specs.StayText.{StayModel, stay_line, IsStayText}
 use Rattle.temporal_texts.specs.StayRefusals.{IsStayRefusedFor}
-use Rattle.temporal_texts.specs.PatrolText.{PatrolModel, patrol_line, rows_for, IsPatrolText}
+use Rattle.temporal_texts.specs.PatrolText.{PatrolModel, patrol_line, IsPatrolText}
+use Rattle.turn_rows.specs.Rows.{rows_for}
 use Rattle.temporal_texts.specs.PatrolRefusals.{IsPatrolRefusedFor}
 use Rattle.text_control.specs.declared.text_kind.TextKind.{TextKind}
 use Rattle.text_control.specs.declared.text_kind.TextKind.TheVariants.{Table, Stay, Patrol}

@@ -4,8 +4,8 @@ use Rattle.game_core.specs.declared.game.Row.{Row}
 use Rattle.grid_quantiser.specs.Cells.{cell_of}
 use Rattle.plant_record.specs.Description.{axes_of}
 use Rattle.controller_table.specs.Choice.{HasRowAt}
-use Rattle.temporal_texts.specs.Targets.{IsInTarget, next_turn}
-use Rattle.temporal_texts.specs.PatrolText.{rows_for}
+use Rattle.turn_rows.specs.Targets.{IsInTarget, next_turn}
+use Rattle.turn_rows.specs.Rows.{rows_for}
 use Rattle.temporal_texts.specs.TextTrajectories.{IsTurnFrom}
 use Rattle.text_control.specs.declared.visits.Visit.{Visit}
 use Rattle.text_control.specs.declared.visits.Visit.TheVariants.{Next, Same, WrongSize}

@@ -5,7 +5,7 @@ ghost use Rattle.game_core.specs.Solution.{row_of};
 ghost use Rattle.packed_rows.specs.RowWords.{FitsWord};
 ghost use Rattle.plant_record.specs.Description.{axes_of, vectors_of};
 ghost use Rattle.plant_record.specs.Limits.{IsWithinLimits};
-ghost use Rattle.temporal_texts.specs.PatrolText.{rows_for};
+ghost use Rattle.turn_rows.specs.Rows.{rows_for};
 ghost use Rattle.base.specs.declared.limits.TheConstants.{CELLS_LIMIT};
 ghost use Rattle.text_control.specs.Texts.{TurnsFit, of_table, of_stay, of_patrol};
 ghost use Rattle.text_control.specs.Visits.{with_turn};

@@ -4,7 +4,7 @@ ghost use Rattle.std.specs.Prelude.{◌≡◌, ◌<◌, ◌≤◌, ◌↔◌, le
 ghost use Rattle.grid_quantiser.specs.Axes.{cells_of};
 ghost use Rattle.plant_record.specs.Description.{axes_of};
 ghost use Rattle.plant_record.specs.Limits.{IsWithinLimits};
-ghost use Rattle.temporal_texts.specs.Targets.{IsInTarget};
+ghost use Rattle.turn_rows.specs.Targets.{IsInTarget};
 ghost use Rattle.text_control.specs.declared.text_kind.TextKind.TheVariants.{Patrol};
 ghost use Rattle.text_control.specs.Visits.{with_turn, HasArrivedInTurn, BeginsAt, IsVisit, IsVisitByText};
 

@@ -8,9 +8,9 @@ use Rattle.game_core.specs.Game.{Game, mark_of}
 use Rattle.game_core.specs.Keep.{IsKeepSolution}
 use Rattle.game_core.specs.Solution.{row_of, HasRow}
 use Rattle.plant_record.specs.Description.{Description}
-use Rattle.temporal_texts.specs.Targets.{IsInTarget, next_turn}
+use Rattle.turn_rows.specs.Targets.{IsInTarget, next_turn}
 use Rattle.temporal_games.specs.Visits.{Visits}
-use Rattle.temporal_texts.specs.PatrolText.{rows_for}
+use Rattle.turn_rows.specs.Rows.{rows_for}
 use Rattle.temporal_games.specs.Patrol.{IsLaterReachRow}
 
 -- For each turn the marks with its arrivals as goals, the rows of its last game, and whether it is to be solved again.

@@ -1,13 +1,13 @@
 use Rattle.std.proofs.Common.{ℕ, length, Option, List, arith, sym, subst}
 use Rattle.game_core.specs.declared.game.Row.{Row}
 use Rattle.game_core.specs.Game.{IsGraph}
-use Rattle.temporal_texts.specs.Targets.{IsInTarget}
+use Rattle.turn_rows.specs.Targets.{IsInTarget}
 use Rattle.temporal_games.specs.Patrol.{IsPatrol}
 use Rattle.temporal_games.specs.inside.PatrolSearch.{IsBefore}
 use Rattle.temporal_games.proofs.Ends.{ends}
 use Rattle.temporal_games.proofs.Starts.{starts}
 use Rattle.temporal_games.proofs.Steps.{goes_on, less_work}
-use Rattle.temporal_texts.proofs.NextTurns.{next_below}
+use Rattle.turn_rows.proofs.NextTurns.{next_below}
 use Rattle.temporal_games.proofs.patrol_solver.patrol.Goals as goal
 
 pub loop-turn-init : goal.loop-turn-init

@@ -1,5 +1,5 @@
 use Rattle.std.proofs.Common.{length}
-use Rattle.temporal_texts.specs.Targets.{IsInTarget}
+use Rattle.turn_rows.specs.Targets.{IsInTarget}
 use Rattle.temporal_games.specs.inside.PatrolSearch.{IsUnderWay, work_left}
 use Rattle.temporal_games.proofs.patrol_solver.patrol.Given as goal
 

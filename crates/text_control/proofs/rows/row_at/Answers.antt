@@ -1,7 +1,7 @@
 use Rattle.std.proofs.Common.{◌≡◌, ℕ, List, refl, ap, ◌∙◌, ◌<◌}
 use Rattle.grid_quantiser.specs.declared.axis.Axis.{Axis}
 use Rattle.game_core.specs.Solution.{row_of}
-use Rattle.temporal_texts.specs.PatrolText.{rows_for}
+use Rattle.turn_rows.specs.Rows.{rows_for}
 use Rattle.game_core.specs.declared.game.Row.{Row}
 use Rattle.plant_record.specs.Description.{axes_of, vectors_of}
 use Rattle.grid_quantiser.specs.Cells.{cell_of}

@@ -5,12 +5,12 @@ use Rattle.game_core.specs.Game.{Game}
 use Rattle.plant_record.specs.Description.{Description}
 use Rattle.plant_record.specs.Limits.{IsWithinLimits}
 use Rattle.plant_game.specs.Abstraction.{IsGameOf}
-use Rattle.temporal_texts.specs.Targets.{IsInTarget}
+use Rattle.turn_rows.specs.Targets.{IsInTarget}
 use Rattle.temporal_games.specs.Patrol.{IsPatrol}
 use Rattle.temporal_texts.specs.PatrolText.{patrol_text, IsPatrolText}
-use Rattle.temporal_games.proofs.FittingPatrolRows.{patrol_rows_fit}
+use Rattle.temporal_promises.proofs.FittingPatrolRows.{patrol_rows_fit}
 pub use Rattle.temporal_texts.proofs.OnePatrolText.{one_patrol_text}
-pub use Rattle.temporal_games.proofs.Patrolling.{patrol_text_patrols}
+pub use Rattle.temporal_promises.proofs.Patrolling.{patrol_text_patrols}
 
 -- the text of the solution is one
 pub solution_has_patrol_text : (p : Description) (g : Game) (rows : List (List (Option Row))) → IsWithinLimits p → IsGameOf p g → IsPatrol g (IsInTarget p) (length p.targets) rows → IsPatrolText (patrol_text p rows) p rows

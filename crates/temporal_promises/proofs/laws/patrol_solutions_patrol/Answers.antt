@@ -1,6 +1,6 @@
 use Rattle.temporal_texts.specs.PatrolText.{patrol_text}
-use Rattle.temporal_games.proofs.PatrolLaws.{solution_has_patrol_text, patrol_text_patrols}
-use Rattle.temporal_games.proofs.laws.patrol_solutions_patrol.Goals as goal
+use Rattle.temporal_promises.proofs.PatrolLaws.{solution_has_patrol_text, patrol_text_patrols}
+use Rattle.temporal_promises.proofs.laws.patrol_solutions_patrol.Goals as goal
 
 pub returns : goal.returns
 returns c = λ p g rows within game solution.

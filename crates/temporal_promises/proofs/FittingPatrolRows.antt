@@ -9,8 +9,9 @@ use Rattle.game_core.specs.Solution.{row_of}
 use Rattle.grid_quantiser.specs.Axes.{cells_of}
 use Rattle.plant_record.specs.Description.{Description, axes_of}
 use Rattle.plant_game.specs.Abstraction.{IsGameOf}
-use Rattle.temporal_texts.specs.Targets.{IsInTarget}
-use Rattle.temporal_texts.specs.PatrolText.{rows_for, IsPatrolRowOf, PatrolRowsFit}
+use Rattle.turn_rows.specs.Targets.{IsInTarget}
+use Rattle.temporal_texts.specs.PatrolText.{IsPatrolRowOf, PatrolRowsFit}
+use Rattle.turn_rows.specs.Rows.{rows_for}
 use Rattle.temporal_games.specs.Patrol.{IsPatrol}
 use Rattle.temporal_games.proofs.PatrolRowLaws.{rows_are_within}
 

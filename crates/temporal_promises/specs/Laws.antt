@@ -6,7 +6,7 @@ use Rattle.plant_record.specs.Description.{Description}
 use Rattle.plant_record.specs.Limits.{IsWithinLimits}
 use Rattle.plant_game.specs.Abstraction.{IsGameOf}
 use Rattle.temporal_games.specs.Stay.{IsStaySolution}
-use Rattle.temporal_texts.specs.Targets.{IsInTarget}
+use Rattle.turn_rows.specs.Targets.{IsInTarget}
 use Rattle.temporal_games.specs.Patrol.{IsPatrol}
 use Rattle.temporal_texts.specs.StayText.{stay_text, IsStayText}
 use Rattle.temporal_texts.specs.Settles.{Settles}

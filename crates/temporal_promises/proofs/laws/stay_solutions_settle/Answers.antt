@@ -1,6 +1,6 @@
 use Rattle.temporal_texts.specs.StayText.{stay_text}
-use Rattle.temporal_games.proofs.StayLaws.{solution_has_stay_text, stay_text_settles}
-use Rattle.temporal_games.proofs.laws.stay_solutions_settle.Goals as goal
+use Rattle.temporal_promises.proofs.StayLaws.{solution_has_stay_text, stay_text_settles}
+use Rattle.temporal_promises.proofs.laws.stay_solutions_settle.Goals as goal
 
 pub returns : goal.returns
 returns c = λ p g rows within game solution.

@@ -1,6 +1,6 @@
 -- The turn after a turn.
 use Rattle.std.proofs.Common.{ℕ, ◌<◌, arith}
-use Rattle.temporal_texts.specs.Targets.{next_turn}
+use Rattle.turn_rows.specs.Targets.{next_turn}
 
 pub next_below : (turns j : ℕ) → j < turns → next_turn turns j < turns
 next_below turns j lt = omega arith

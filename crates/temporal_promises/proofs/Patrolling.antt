@@ -13,9 +13,10 @@ use Rattle.plant_record.specs.States.{IsClear}
 use Rattle.plant_record.specs.Steps.{step_of, IsNoise}
 use Rattle.plant_game.specs.Abstraction.{IsGameOf}
 use Rattle.plant_game.specs.Refinement.{IsRefinement}
-use Rattle.temporal_texts.specs.Targets.{IsInTarget, next_turn}
+use Rattle.turn_rows.specs.Targets.{IsInTarget, next_turn}
 use Rattle.temporal_games.specs.Visits.{VisitsOn, IsArrival}
-use Rattle.temporal_texts.specs.PatrolText.{rows_for, IsPatrolText, HasPatrolRow, IsArrivalIn}
+use Rattle.temporal_texts.specs.PatrolText.{IsPatrolText, HasPatrolRow, IsArrivalIn}
+use Rattle.turn_rows.specs.Rows.{rows_for}
 use Rattle.temporal_games.specs.Patrol.{IsReachedLaterBy, IsPatrolRow, IsPatrol}
 use Rattle.temporal_games.proofs.PatrolRowLaws.{targets_are_told, later_reachers_have_rows}
 use Rattle.plant_game.proofs.GameLaws.{refines, clear_at, lands}
@@ -24,7 +25,7 @@ use Rattle.temporal_texts.proofs.OnePatrolText.{one_patrol_text}
 use Rattle.game_core.proofs.Rows.{below_from_row}
 
 -- the subtree for one of the cells
-tree_at : (g : Game) (End : ℕ → Type 0) (next : Trees) (cells : List ℕ) (s : ℕ) → LeadEachTo End g next cells → Contains cells s → (t : Tree) × LeadsTo End g t s × (depth_of t ≤ greatest_depth next)
+pub tree_at : (g : Game) (End : ℕ → Type 0) (next : Trees) (cells : List ℕ) (s : ℕ) → LeadEachTo End g next cells → Contains cells s → (t : Tree) × LeadsTo End g t s × (depth_of t ≤ greatest_depth next)
 tree_at g End NoTrees cells s l (k, lt, e) = absurd (let none : length cells ≡ 0 = ap (λ (xs : List ℕ). length xs) l in omega (arith, none, lt))
 tree_at g End (AndTree t rest) [] s l has = absurd l
 tree_at g End (AndTree t rest) (c ∷ cells) s l (zero, lt, e) = (t, subst (LeadsTo End g t) e l.0, omega arith)

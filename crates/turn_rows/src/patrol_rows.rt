@@ -1,7 +1,7 @@
 //! What a solver of patrol gives.
 ghost use Rattle.std.specs.Prelude.{◌≡◌, ◌<◌, ◌^◌, length};
 ghost use Rattle.game_core.specs.Solution.{row_of};
-ghost use Rattle.temporal_texts.specs.PatrolText.{rows_for};
+ghost use Rattle.turn_rows.specs.Rows.{rows_for};
 
 use game_core::{Answer, Row};
 use std::marker::Model;

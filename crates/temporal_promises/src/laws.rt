@@ -1,6 +1,6 @@
 //! What the texts of solutions promise.
 
-ghost use Rattle.temporal_games.specs.Laws.{StaySolutionsSettle, PatrolSolutionsPatrol};
+ghost use Rattle.temporal_promises.specs.Laws.{StaySolutionsSettle, PatrolSolutionsPatrol};
 
 /// The text of the solution of a plant's game is a stay text, and settles the plant.
 pub fn stay_solutions_settle()

@@ -21,11 +21,11 @@ use Rattle.plant_game.proofs.GameLaws.{refines, clear_at, in_target, lands}
 use Rattle.temporal_texts.proofs.OneStayText.{one_stay_text}
 use Rattle.game_core.proofs.Rows.{below_cells}
 
-clear_of : (g : Game) (c : ℕ) (t : Tree) → LeadsTo (IsHeld g) g t c → mark_of g c ≢ Obstacle
+pub clear_of : (g : Game) (c : ℕ) (t : Tree) → LeadsTo (IsHeld g) g t c → mark_of g c ≢ Obstacle
 clear_of g c Leaf l e = let goal : mark_of g c ≡ Goal = l 0 in cc
 clear_of g c (Apply u next) l e = l.0 e
 
-goal_of : (g : Game) (c : ℕ) (t : Tree) → LeadsTo (IsHeld g) g t c → depth_of t ≡ 0 → mark_of g c ≡ Goal
+pub goal_of : (g : Game) (c : ℕ) (t : Tree) → LeadsTo (IsHeld g) g t c → depth_of t ≡ 0 → mark_of g c ≡ Goal
 goal_of g c Leaf l e = l 0
 goal_of g c (Apply u next) l e = absurd (omega arith)
 
