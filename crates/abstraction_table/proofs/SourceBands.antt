@@ -11,9 +11,11 @@ use Rattle.grid_quantiser.specs.declared.axis.Axis.{Axis}
 use Rattle.grid_quantiser.specs.declared.boxes.CellBox.{CellBox}
 use Rattle.grid_quantiser.specs.Axes.{cells_of}
 use Rattle.edge_rows.specs.Rows.{row_at}
+use Rattle.abstraction_table.specs.declared.cell_ranges.CellRange.{CellRange}
 use Rattle.abstraction_table.specs.declared.cuts.Cuts.{Cuts}
 use Rattle.abstraction_table.specs.declared.cuts.Group.{Group}
 use Rattle.abstraction_table.specs.inside.BandCuts.{AreCutsOf, AreGroupsTo, IsGroupIn, band_start, group_at}
+use Rattle.abstraction_table.specs.inside.CellRanges.{IsRangeOf, AreRangesOf}
 use Rattle.abstraction_table.specs.inside.SourceLists.{AreSourceBands, HasRow, HasBandRows, HoldBands, band_of, slot_in_band, sources_among}
 use Rattle.abstraction_table.proofs.Mapped.{mapped_at, mapped_long}
 
@@ -33,6 +35,15 @@ hold_bands {E = E} items F axes boxes cuts n rs (Ok v) bands each h =
     let by_call = subst (λ (rs : List (Result (List (List ℕ)) E)). AllZip (λ (k : ℕ) (r : Result (List (List ℕ)) E). IfOk r (Held k)) (range_with_len 0 n) rs) h.1 each in
     let by_band = all_ok E Held (range_with_len 0 n) h.0 by_call in
     rw h.2 (record { one_each = ap (λ (m : ℕ). m + 1) (mapped_long Held n h.0 by_band) ∙ bands; each = λ k lt. mapped_at Held n h.0 by_band k [] (omega (arith, lt, mapped_long Held n h.0 by_band)) })
+
+-- where a call for each number gave the range of its pairs, these are ranges of the boxes
+pub hold_ranges : {V E : Type 0} (items : V → List CellRange) (boxes : List (Option CellBox)) (count : ℕ) (r : Result V E) (Gives : List CellRange → Type 0) →
+    ((ranges : List CellRange) → Gives ranges → AllZip (IsRangeOf boxes) (range_with_len 0 count) ranges) →
+    IfOk r (λ v. (ranges : List CellRange) × Gives ranges × (items v ≡ ranges)) → IfOk r (λ v. AreRangesOf boxes (items v))
+hold_ranges items boxes count (Err e) Gives given h = tt
+hold_ranges items boxes count (Ok v) Gives given h =
+    let each = given h.0 h.1 in
+    rw h.2 (λ k lt. mapped_at (IsRangeOf boxes) count h.0 each k _ (omega (arith, lt, mapped_long (IsRangeOf boxes) count h.0 each)))
 
 -- each cell lies in a group
 group_of_cell : (cells size c : ℕ) → 0 < size → c < cells → c / size < div_ceil cells size

@@ -4,6 +4,7 @@ pub mod StoredGame
 pub mod Props
 pub mod Shapes
 pub mod BandCuts
+pub mod CellRanges
 pub mod SourceLists
 pub mod Tallies
 pub mod Intakes

@@ -1,15 +1,18 @@
 //! The pairs that lead to each cell of a band.
-ghost use Rattle.std.specs.Prelude.{◌≡◌, ◌+◌, ◌^◌, ◌<◌, ◌≤◌, length, sum, IfOk, IfSome};
+ghost use Rattle.std.specs.Prelude.{◌≡◌, ◌+◌, ◌*◌, ◌^◌, ◌<◌, ◌≤◌, length, sum, IsTrue, IfOk, IfSome};
 ghost use Rattle.std.specs.List.{All, range_with_len};
 ghost use Rattle.grid_quantiser.specs.Axes.{cells_of, AreAxes};
 ghost use Rattle.edge_rows.specs.Rows.{empty_rows};
 ghost use Rattle.successor_box.specs.SuccessorBoxes.{cells_in};
+ghost use Rattle.abstraction_table.specs.declared.cell_ranges.TheConstants.{PAIRS_FOR_A_RANGE};
+ghost use Rattle.abstraction_table.specs.inside.CellRanges.{Misses, range_at, range_start, AreRangesOf};
 ghost use Rattle.abstraction_table.specs.inside.Shapes.{cells_from, EndsBy, HasSegmentsOf, EachBoxHasSegments};
-ghost use Rattle.abstraction_table.specs.inside.SourceLists.{IsBox, AreBandRows};
-ghost use Rattle.abstraction_table.specs.inside.Tallies.{slots_in, AreCounted, CountsFit, edges_of, AreCountsAmong};
+ghost use Rattle.abstraction_table.specs.inside.SourceLists.{IsBox, AreRowsAmong, AreBandRows};
+ghost use Rattle.abstraction_table.specs.inside.Tallies.{slots_in, AreCounted, CountsFit, edges_of, AreCountsAmong, CountsSoFar};
 ghost use Rattle.base.specs.declared.limits.TheConstants.{CELLS_LIMIT, EDGES_LIMIT, PAIRS_LIMIT};
 
 use crate::band::Band;
+use crate::cell_ranges::{CellRange, PAIRS_FOR_A_RANGE};
 use crate::intake::{Counts, Intake};
 use crate::shapes::{Segment, Shapes};
 use edge_rows::{NoMemory, RowFill, Rows};
@@ -23,20 +26,22 @@ pub(crate) fn fill_band(
     grid: &Grid,
     shapes: &Shapes,
     boxes: &[PairBox],
+    ranges: &[CellRange],
     band: Band,
 ) -> Result<Rows, NoMemory>
     requires grid { AreAxes grid.now }
     requires limit { cells_of grid.now ≤ CELLS_LIMIT }
     requires ordered { All (IsBox grid.now) boxes.now }
     requires segments { EachBoxHasSegments grid.now shapes.now boxes.now }
+    requires ranges { AreRangesOf boxes.now ranges.now }
     requires pairs { length boxes.now ≤ PAIRS_LIMIT }
     requires edges { edges_of grid.now boxes.now ≤ EDGES_LIMIT }
     requires within { band.from + band.len ≤ cells_of grid.now }
     ensures { IfOk result (λ rows. AreBandRows grid.now boxes.now band.from band.len rows) }
 {
-    let counts = count_sources(alloc, grid, shapes, boxes, band)?;
+    let counts = count_sources(alloc, grid, shapes, boxes, ranges, band)?;
     let mut fill = RowFill::new(alloc, &counts)?;
-    put_sources(grid, shapes, boxes, band, &mut fill);
+    put_sources(grid, shapes, boxes, ranges, band, &mut fill);
     Ok(fill.finish())
 }
 
@@ -46,12 +51,14 @@ fn count_sources(
     grid: &Grid,
     shapes: &Shapes,
     boxes: &[PairBox],
+    ranges: &[CellRange],
     band: Band,
 ) -> Result<Vec<u32>, AllocError>
     requires grid { AreAxes grid.now }
     requires limit { cells_of grid.now ≤ CELLS_LIMIT }
     requires ordered { All (IsBox grid.now) boxes.now }
     requires segments { EachBoxHasSegments grid.now shapes.now boxes.now }
+    requires ranges { AreRangesOf boxes.now ranges.now }
     requires pairs { length boxes.now ≤ PAIRS_LIMIT }
     requires edges { edges_of grid.now boxes.now ≤ EDGES_LIMIT }
     requires within { band.from + band.len ≤ cells_of grid.now }
@@ -59,10 +66,40 @@ fn count_sources(
     ensures total { IfOk result (λ counts. sum counts.items ≤ edges_of grid.now boxes.now) }
 {
     let mut counts = vec![in alloc; 0; band.len as usize]?;
-    for b in boxes {
-        count_box(grid, shapes, b.get(), band, &mut counts);
+    for k in 0..boxes.len().div_ceil(PAIRS_FOR_A_RANGE) {
+        if !is_skipped(ranges, k, band) {
+            count_pairs(grid, shapes, boxes, k, band, &mut counts);
+        }
     }
     Ok(counts)
+}
+
+/// Counts the boxes of the pairs of a range.
+#[inline]
+fn count_pairs(
+    grid: &Grid,
+    shapes: &Shapes,
+    boxes: &[PairBox],
+    k: usize,
+    band: Band,
+    counts: &mut [u32],
+)
+    requires grid { AreAxes grid.now }
+    requires limit { cells_of grid.now ≤ CELLS_LIMIT }
+    requires ordered { All (IsBox grid.now) boxes.now }
+    requires segments { EachBoxHasSegments grid.now shapes.now boxes.now }
+    requires pairs { length boxes.now ≤ PAIRS_LIMIT }
+    requires edges { edges_of grid.now boxes.now ≤ EDGES_LIMIT }
+    requires within { band.from + band.len ≤ cells_of grid.now }
+    requires range { k * PAIRS_FOR_A_RANGE < length boxes.now }
+    requires so_far { CountsSoFar grid.now boxes.now band.from band.len (range_start boxes.now k) counts.old }
+    ensures { CountsSoFar grid.now boxes.now band.from band.len (range_start boxes.now (k + 1)) counts.new }
+{
+    let from = k * PAIRS_FOR_A_RANGE;
+    let end = boxes.len().min(from + PAIRS_FOR_A_RANGE);
+    for pair in from..end {
+        count_box(grid, shapes, boxes[pair].get(), band, counts);
+    }
 }
 
 /// Adds one to the count of each slot of a box in a band.
@@ -82,11 +119,19 @@ fn count_box(grid: &Grid, shapes: &Shapes, b: Option<CellBox>, band: Band, count
 }
 
 /// Puts each pair, in rising order, at the slots of its box in a band.
-fn put_sources(grid: &Grid, shapes: &Shapes, boxes: &[PairBox], band: Band, fill: &mut RowFill)
+fn put_sources(
+    grid: &Grid,
+    shapes: &Shapes,
+    boxes: &[PairBox],
+    ranges: &[CellRange],
+    band: Band,
+    fill: &mut RowFill,
+)
     requires grid { AreAxes grid.now }
     requires limit { cells_of grid.now ≤ CELLS_LIMIT }
     requires ordered { All (IsBox grid.now) boxes.now }
     requires segments { EachBoxHasSegments grid.now shapes.now boxes.now }
+    requires ranges { AreRangesOf boxes.now ranges.now }
     requires pairs { length boxes.now ≤ PAIRS_LIMIT }
     requires within { band.from + band.len ≤ cells_of grid.now }
     requires empty { fill.old.rows ≡ empty_rows fill.old.lengths }
@@ -94,9 +139,49 @@ fn put_sources(grid: &Grid, shapes: &Shapes, boxes: &[PairBox], band: Band, fill
     ensures rows { AreBandRows grid.now boxes.now band.from band.len fill.new.rows }
     ensures lengths { fill.new.lengths ≡ fill.old.lengths }
 {
-    for pair in 0..boxes.len() {
+    for k in 0..boxes.len().div_ceil(PAIRS_FOR_A_RANGE) {
+        if !is_skipped(ranges, k, band) {
+            put_pairs(grid, shapes, boxes, k, band, fill);
+        }
+    }
+}
+
+/// Puts each pair of a range, in rising order, at the slots of its box in a band.
+#[inline]
+fn put_pairs(
+    grid: &Grid,
+    shapes: &Shapes,
+    boxes: &[PairBox],
+    k: usize,
+    band: Band,
+    fill: &mut RowFill,
+)
+    requires grid { AreAxes grid.now }
+    requires limit { cells_of grid.now ≤ CELLS_LIMIT }
+    requires ordered { All (IsBox grid.now) boxes.now }
+    requires segments { EachBoxHasSegments grid.now shapes.now boxes.now }
+    requires pairs { length boxes.now ≤ PAIRS_LIMIT }
+    requires within { band.from + band.len ≤ cells_of grid.now }
+    requires range { k * PAIRS_FOR_A_RANGE < length boxes.now }
+    requires counts { AreCountsAmong grid.now boxes.now band.from band.len (length boxes.now) fill.old.lengths }
+    requires rows { AreRowsAmong grid.now boxes.now band.from band.len (range_start boxes.now k) fill.old.rows }
+    ensures rows { AreRowsAmong grid.now boxes.now band.from band.len (range_start boxes.now (k + 1)) fill.new.rows }
+    ensures lengths { fill.new.lengths ≡ fill.old.lengths }
+{
+    let from = k * PAIRS_FOR_A_RANGE;
+    let end = boxes.len().min(from + PAIRS_FOR_A_RANGE);
+    for pair in from..end {
         add_box(grid, shapes, boxes[pair].get(), band, pair as u32, fill);
     }
+}
+
+/// Whether the range of a number is known to miss a band.
+fn is_skipped(ranges: &[CellRange], k: usize, band: Band) -> bool
+    requires { band.from + band.len < 2 ^ 32 }
+    ensures known { IsTrue result → k < length ranges.now }
+    ensures outside { IsTrue result → Misses band.from band.len (range_at ranges.now k) }
+{
+    k < ranges.len() && ranges[k].misses(band)
 }
 
 /// Adds a pair at each slot of its box in a band.

@@ -14,7 +14,7 @@ use rayon::current_num_threads;
 use std::alloc::{AllocError, Global};
 use std::thread::Threads;
 
-/// The most bands: each goes over all boxes.
+/// The most bands: each goes over all boxes that it can't skip.
 const BANDS_LIMIT: u64 = 32;
 
 /// So many pairs for each band at least: to start a thread takes as long as to go over some thousands

@@ -12,6 +12,7 @@ mod band_filling;
 mod boxed_game;
 mod build_fault;
 mod builders;
+mod cell_ranges;
 mod cuts;
 mod fans;
 mod forward;

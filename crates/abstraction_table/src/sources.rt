@@ -5,6 +5,7 @@ ghost use Rattle.grid_quantiser.specs.Axes.{cells_of, AreAxes};
 ghost use Rattle.edge_rows.specs.Rows.{row_at};
 ghost use Rattle.abstraction_table.specs.declared.cuts.TheConstants.{BANDS_LIMIT};
 ghost use Rattle.abstraction_table.specs.inside.BandCuts.{AreCutsOf};
+ghost use Rattle.abstraction_table.specs.inside.CellRanges.{AreRangesOf};
 ghost use Rattle.abstraction_table.specs.inside.Fans.{AreFansOf};
 ghost use Rattle.abstraction_table.specs.inside.Shapes.{EachBoxHasSegments};
 ghost use Rattle.abstraction_table.specs.inside.SourceLists.{IsBox, AreSourceBands, HasRow, HasBandRows, HoldBands, band_of, slot_in_band};
@@ -12,6 +13,7 @@ ghost use Rattle.abstraction_table.specs.inside.Tallies.{edges_of};
 ghost use Rattle.base.specs.declared.limits.TheConstants.{CELLS_LIMIT, EDGES_LIMIT, PAIRS_LIMIT};
 
 use crate::band_filling::fill_band;
+use crate::cell_ranges::{CellRange, build_ranges};
 use crate::cuts::{Cuts, Group, build_cuts};
 use crate::fans::Fans;
 use crate::shapes::Shapes;
@@ -61,7 +63,8 @@ pub(crate) fn build_sources<R: Threads + Sync>(
 {
     let cuts = build_cuts(rt, alloc, grid.cells(), boxes, fans)?;
     let groups = cuts.groups(alloc, grid.cells())?;
-    let bands = fill_bands(rt, alloc, grid, boxes, shapes, &cuts)?;
+    let ranges = build_ranges(rt, alloc, boxes, cuts.bands())?;
+    let bands = fill_bands(rt, alloc, grid, boxes, &ranges, shapes, &cuts)?;
     Ok(Sources {
         size: cuts.size,
         groups,
@@ -75,6 +78,7 @@ fn fill_bands<R: Threads + Sync>(
     alloc: Global,
     grid: &Grid,
     boxes: &[PairBox],
+    ranges: &[CellRange],
     shapes: &Shapes,
     cuts: &Cuts,
 ) -> Result<Vec<Rows>, NoMemory>
@@ -82,6 +86,7 @@ fn fill_bands<R: Threads + Sync>(
     requires limit { cells_of grid.now ≤ CELLS_LIMIT }
     requires ordered { All (IsBox grid.now) boxes.now }
     requires segments { EachBoxHasSegments grid.now shapes.now boxes.now }
+    requires ranges { AreRangesOf boxes.now ranges.now }
     requires pairs { length boxes.now ≤ PAIRS_LIMIT }
     requires edges { edges_of grid.now boxes.now ≤ EDGES_LIMIT }
     requires cuts { AreCutsOf (cells_of grid.now) cuts.now }
@@ -97,12 +102,22 @@ fn fill_bands<R: Threads + Sync>(
                 requires limit { cells_of grid.now ≤ CELLS_LIMIT }
                 requires ordered { All (IsBox grid.now) boxes.now }
                 requires segments { EachBoxHasSegments grid.now shapes.now boxes.now }
+                requires ranges { AreRangesOf boxes.now ranges.now }
                 requires pairs { length boxes.now ≤ PAIRS_LIMIT }
                 requires edges { edges_of grid.now boxes.now ≤ EDGES_LIMIT }
                 requires cuts { AreCutsOf (cells_of grid.now) cuts.now }
                 requires band { k + 1 < length cuts.now.each.items }
                 ensures { IfOk result (HasBandRows grid.entry.now boxes.entry.now cuts.entry.now k) }
-            { fill_band(alloc, grid, shapes, boxes, cuts.band(grid.cells(), k)) },
+            {
+                fill_band(
+                    alloc,
+                    grid,
+                    shapes,
+                    boxes,
+                    ranges,
+                    cuts.band(grid.cells(), k),
+                )
+            },
         )
         .collect::<Result<Vec<Rows>, NoMemory>>(rt, alloc)?
 }

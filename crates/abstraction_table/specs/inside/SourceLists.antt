@@ -24,10 +24,14 @@ leads_to axes boxes c pair = list_any (◌==◌ c) (cells_in axes (box_at boxes 
 abbrev pub sources_among : List Axis → List (Option CellBox) → ℕ → ℕ → List ℕ
 sources_among axes boxes n c = filter (leads_to axes boxes c) (range_with_len 0 n)
 
--- Rows hold, for each cell of a band of len cells from `from` on, the pairs that lead to it.
-pub record AreBandRows (axes : List Axis) (boxes : List (Option CellBox)) (from len : ℕ) (rows : List (List ℕ)) : Type 0 where
+-- Rows hold, for each cell of a band of len cells from `from` on, the pairs, of the first n, that lead to it.
+pub record AreRowsAmong (axes : List Axis) (boxes : List (Option CellBox)) (from len n : ℕ) (rows : List (List ℕ)) : Type 0 where
   pub one_each : length rows ≡ len
-  pub each : (i : ℕ) → i < len → row_at rows i ≡ sources_among axes boxes (length boxes) (from + i)
+  pub each : (i : ℕ) → i < len → row_at rows i ≡ sources_among axes boxes n (from + i)
+
+-- rows hold all pairs that lead to each cell of a band
+abbrev pub AreBandRows : List Axis → List (Option CellBox) → ℕ → ℕ → List (List ℕ) → Type 0
+AreBandRows axes boxes from len rows = AreRowsAmong axes boxes from len (length boxes) rows
 
 -- the rows of the band of a cell, where groups have `size` cells each
 abbrev pub band_of : ℕ → List Group → List (List (List ℕ)) → ℕ → List (List ℕ)

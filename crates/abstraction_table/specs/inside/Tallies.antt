@@ -1,5 +1,5 @@
 -- How often numbers occur among cells, and where pairs are put for them.
-use Rattle.std.specs.Prelude.{◌≡◌, ℕ, ◌+◌, ◌-◌, ◌^◌, ◌<◌, ◌≤◌, ◌&&◌, leb, ltb, List, ◌++◌, map, length, replicate, slice_index, sum, sum_by, Option}
+use Rattle.std.specs.Prelude.{◌≡◌, ℕ, ◌+◌, ◌-◌, ◌^◌, ◌<◌, ◌≤◌, ◌&&◌, leb, ltb, List, ◌++◌, map, length, take, replicate, slice_index, sum, sum_by, Option}
 use Rattle.std.specs.List.{filter}
 use Rattle.grid_quantiser.specs.declared.axis.Axis.{Axis}
 use Rattle.grid_quantiser.specs.declared.boxes.CellBox.{CellBox}
@@ -40,3 +40,8 @@ edges_of axes boxes = sum_by (λ b. length (cells_in axes b)) boxes
 pub record AreCountsAmong (axes : List Axis) (boxes : List (Option CellBox)) (from len n : ℕ) (counts : List ℕ) : Type 0 where
   pub one_each : length counts ≡ len
   pub each : (i : ℕ) → i < len → slice_index counts i ≡ length (sources_among axes boxes n (from + i))
+
+-- The first n pairs are counted, and the counts add up to no more than their edges.
+pub record CountsSoFar (axes : List Axis) (boxes : List (Option CellBox)) (from len n : ℕ) (counts : List ℕ) : Type 0 where
+  pub counted : AreCountsAmong axes boxes from len n counts
+  pub total : sum counts ≤ edges_of axes (take n boxes)

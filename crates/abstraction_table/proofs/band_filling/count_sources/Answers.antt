@@ -1,18 +1,23 @@
-use Rattle.std.proofs.Common.{◌≡◌, length, List, ℕ, get_or, ap, arith}
+use Rattle.std.proofs.Common.{◌≡◌, ℕ, ◌+◌, List, Vec, Global, length, sym, ap, subst, ◌∙◌, arith}
 use Rattle.std.proofs.lemmas.List.{take_at}
-use Rattle.abstraction_table.proofs.SourceSteps.{kept_box, count_capacity, counts_more}
+use Rattle.abstraction_table.specs.inside.CellRanges.{range_start}
+use Rattle.abstraction_table.specs.inside.Tallies.{CountsSoFar}
+use Rattle.abstraction_table.proofs.SourceSteps.{counts_kept}
 use Rattle.abstraction_table.proofs.band_filling.count_sources.Goals as goal
+use Rattle.abstraction_table.proofs.band_filling.count_sources.Goals.{then-not-is_skipped, else-not-is_skipped}
 
-pub count_box-requires-clause-capacity : goal.count_box-requires-clause-capacity
-count_box-requires-clause-capacity c =
-    let capacity = count_capacity c.args.grid.now c.args.boxes.now c.requires.grid c.requires.ordered c.loop-b.b-index c.loop-b-test.true c.args.band.from c.args.band.len c.loop-b.counts.items c.loop-b.invariant c.requires.edges in
-    rw (kept_box c.args.boxes.now c.loop-b.b-index c.get.result c.b-item.result c.get.ensures c.b-item.is c.loop-b-test.true) (λ i. omega (arith, capacity i, ap (λ (counts : List ℕ). get_or counts i 0) c.deref_mut.ensures.value))
-
-pub loop-b-preserved : goal.loop-b-preserved
-loop-b-preserved c =
-    let counts = c.loop-b.counts in
-    let after = c.count_box.new.counts in
-    let counted = rw (c.deref_mut.ensures.value, kept_box c.args.boxes.now c.loop-b.b-index c.get.result c.b-item.result c.get.ensures c.b-item.is c.loop-b-test.true) at c.count_box.ensures in
-    let long : length after ≡ counts.len = omega arith in
-    rw (take_at after _ counts.len long)
-    (counts_more c.args.grid.now c.args.boxes.now c.requires.grid c.requires.ordered c.loop-b.b-index c.loop-b-test.true c.args.band.from c.args.band.len counts.items after c.loop-b.invariant counted)
+pub loop-k-preserved : goal.loop-k-preserved
+loop-k-preserved c =
+    let k : ℕ = c.loop-k.k in
+    let counts = c.loop-k.counts in
+    let so_far : List ℕ → Type 0 = λ items. CountsSoFar c.args.grid.now c.args.boxes.now c.args.band.from c.args.band.len (range_start c.args.boxes.now (k + 1)) items in
+    elim c.if-not-is_skipped.branch [
+      | then-not-is_skipped w ↦
+          let after = w.count_pairs.new.counts in
+          let long : length after ≡ counts.len = omega (arith, w.count_pairs.ensures.counted.one_each, c.loop-k.invariant.counted.one_each) in
+          subst so_far (sym (ap (λ (v : Vec ℕ Global). v.items) w.counts-is ∙ take_at after _ counts.len long)) w.count_pairs.ensures
+      | else-not-is_skipped w ↦
+          let skipped = w.if-not-is_skipped.false in
+          subst so_far (sym (ap (λ (v : Vec ℕ Global). v.items) w.counts-is))
+          (counts_kept c.args.grid.now c.args.boxes.now c.args.ranges.now c.requires.grid c.requires.ordered c.requires.ranges c.args.band.from c.args.band.len k (c.is_skipped.ensures.known skipped) (c.is_skipped.ensures.outside skipped) counts.items c.loop-k.invariant)
+    ]

@@ -1,11 +1,22 @@
-use Rattle.abstraction_table.proofs.SourceSteps.{kept_box, row_capacity, rows_more}
+use Rattle.std.proofs.Common.{◌≡◌, ℕ, ◌+◌, sym, ap, subst, ◌∙◌, arith}
+use Rattle.edge_rows.specs.Rows.{Filling}
+use Rattle.abstraction_table.specs.inside.CellRanges.{range_start}
+use Rattle.abstraction_table.specs.inside.SourceLists.{AreRowsAmong}
+use Rattle.abstraction_table.proofs.SourceSteps.{rows_kept}
 use Rattle.abstraction_table.proofs.band_filling.put_sources.Goals as goal
+use Rattle.abstraction_table.proofs.band_filling.put_sources.Goals.{then-not-is_skipped, else-not-is_skipped}
 
-pub add_box-requires-clause-room : goal.add_box-requires-clause-room
-add_box-requires-clause-room c =
-    rw (kept_box c.args.boxes.now c.loop-pair.pair c.get.result c.index-boxes-pair.result c.get.ensures c.index-boxes-pair.is c.loop-pair-test.true)
-    (row_capacity c.args.grid.now c.args.boxes.now c.requires.grid c.requires.ordered c.loop-pair.pair c.loop-pair-test.true c.args.band.from c.args.band.len c.args.fill.now c.loop-pair.fill c.loop-pair.invariant c.requires.counts)
-
-pub loop-pair-preserved : goal.loop-pair-preserved
-loop-pair-preserved c =
-    rows_more c.args.grid.now c.args.boxes.now c.requires.grid c.requires.ordered c.loop-pair.pair c.loop-pair-test.true c.args.band.from c.args.band.len c.args.fill.now c.loop-pair.fill c.add_box.new.intake c.loop-pair.invariant (rw (kept_box c.args.boxes.now c.loop-pair.pair c.get.result c.index-boxes-pair.result c.get.ensures c.index-boxes-pair.is c.loop-pair-test.true) at c.add_box.ensures)
+pub loop-k-preserved : goal.loop-k-preserved
+loop-k-preserved c =
+    let k : ℕ = c.loop-k.k in
+    let fill = c.loop-k.fill in
+    let so_far : Filling → Type 0 = λ f. (f.lengths ≡ c.args.fill.now.lengths) × AreRowsAmong c.args.grid.now c.args.boxes.now c.args.band.from c.args.band.len (range_start c.args.boxes.now (k + 1)) f.rows in
+    elim c.if-not-is_skipped.branch [
+      | then-not-is_skipped w ↦ subst so_far (sym w.fill-is) (w.put_pairs.ensures.lengths ∙ c.loop-k.invariant.0, w.put_pairs.ensures.rows)
+      | else-not-is_skipped w ↦
+          let skipped = w.if-not-is_skipped.false in
+          subst so_far (sym w.fill-is) (
+            c.loop-k.invariant.0,
+            rows_kept c.args.grid.now c.args.boxes.now c.args.ranges.now c.requires.grid c.requires.ordered c.requires.ranges c.args.band.from c.args.band.len k (c.is_skipped.ensures.known skipped) (c.is_skipped.ensures.outside skipped) fill c.loop-k.invariant.1,
+          )
+    ]

@@ -16,7 +16,7 @@ collect-requires-clause-ready g c = λ κs outlives.
     let ends = c.into_par_iter.ensures in
     rw (c.map.ensures.base, c.map.ensures.f, c.with_min_len.ensures.base, ends.0, ends.1) (λ k d lt.
     let band = below_end c.bands.result k d lt in
-    ((asked.grid, (asked.limit, (asked.ordered, (asked.segments, (asked.pairs, (asked.edges, (asked.cuts, omega (arith, band, c.bands.ensures)))))))), λ y is. tt))
+    ((asked.grid, (asked.limit, (asked.ordered, (asked.segments, (asked.ranges, (asked.pairs, (asked.edges, (asked.cuts, omega (arith, band, c.bands.ensures))))))))), λ y is. tt))
 
 pub returns : goal.returns
 returns g c =
