@@ -1,6 +1,7 @@
 """Chooses the plant of a model: the order and the steps of its sampling, the form of its polynomials and the number of straight pieces, by the size of the
 boxes that come out."""
 
+import math
 import random
 from fractions import Fraction
 
@@ -221,6 +222,9 @@ def check_turn(model, name, turn, before, after):
     """Whether right sides a turn apart are the same, but for a turn that a `next` line itself adds to the state."""
     for (state, *_), one, other in zip(model.states, before, after):
         difference = other - one
+        if not math.isfinite(difference):
+            # The ranges will be said to be too wide for a function.
+            continue
         turns = round(difference / turn) if state == name and not model.flows else 0
         if abs(difference - turns * turn) > 1e-7 * max(1.0, abs(one)):
             raise Trouble(f"`wrap {name}`: the equation of {state} isn't the same a turn, {turn:g}, on: it differs by {difference:.3g}. Count an angle in "
