@@ -18,8 +18,8 @@ TOP = Path(__file__).resolve().parents[2]
 COUNT, BLOCK = int(os.environ.get("GAFFCURRANT_MODELS", 5000)), 25
 # Seconds of the processor after which a model is said never to end.
 ENDLESS = 300
-# How a line begins that is said of a model: with the model's line, or with what the model lacks.
-LINED = re.compile(r"line [0-9]+: |the model has ")
+# How a line begins that is said of a model: with the model's line, with what the model lacks, or with a limit of the whole text.
+LINED = re.compile(r"line [0-9]+: |the model has |the plant would be refused, limit: ")
 
 
 class Endless(Exception):
