@@ -12,7 +12,7 @@ from .expression import NODES
 from .flows import Flow, held_names
 from .formula import is_smooth, value_of
 from .linear import Block
-from .maths import Floats
+from .maths import Floats, is_exact
 from .model import at_line
 from .planting import Planting
 from .refused import Failure
@@ -43,6 +43,13 @@ def planted(model):
     if model.goal == "reach" and all(keyword != "target" for keyword, _ in model.boxes):
         raise Trouble("the model has `goal reach` and no `target` line, so there is nothing to reach: a line `target LO HI ..`, or `goal keep`, is due")
     return planting
+
+
+def needs_mpmath(model):
+    """Whether sampling or functions of a model need intervals."""
+    if model.flows:
+        return not Block(model).is_whole()
+    return any(not isinstance(equation, dict) and not is_exact(equation) for equation in model.equations)
 
 
 class Chooser:
