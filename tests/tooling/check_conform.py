@@ -141,7 +141,8 @@ def check_hand(report):
 
 def check_two_states(report):
     """Of two states the farther one beside its cells is the worse; an input's number is its place in the list."""
-    found = conform(read_plant(TWO.encode()), log_of([[50, 500], [55, 530], [55, 550], [52, 520]], [[3], [0], [-3], [0]]))
+    log = log_of([[50, 500], [55, 530], [55, 550], [52, 520]], [[3], [0], [-3], [0]])
+    found = conform(read_plant(TWO.encode()), log)
     report.expect("needed of two states", [[2, 0, 0], [0, 20, 0]], found.needed.tolist())
     report.expect("the worst of two states", [0, 1], found.worst())
     report.expect("numbers of inputs", [0, 2, 1, 2], found.vectors.tolist())
@@ -161,12 +162,13 @@ def check_promises(report):
     """At which steps inputs of rows were applied, and at which promises are broken: by texts of five cells."""
     patrol, stay = read_text(PATROL.encode()), read_text(STAY.replace("rows 5\n0 0 4 2\n", "rows 4\n").encode())
     # Of the patrol's first run turns begin at 4 and at 10. In its second run the turn of the beginning is due again.
-    log = log_of([[7], [4], [7], [10], [7], [4], [7], [7]], [[-3], [3], [3], [-3], [-3], [-3], [-3], [-3]], begins=(0, 5))
+    states, inputs = [7, 4, 7, 10, 7, 4, 7, 7], [-3, 3, 3, -3, -3, -3, -3, -3]
+    log = log_of([[one] for one in states], [[one] for one in inputs], begins=(0, 5))
+    held = log_of([[7], [10], [13], [13], [12], [4], [1]], [[3], [3], [0], [0], [0], [3], [0]], begins=(0, 5))
     for what, text, log, turn, applied, broken in (
             ("patrol", patrol, log, 0, [1, 1, 1, 1, 1, 1], [0, 0, 0, 0, 1, 1]),
             ("patrol from its second turn", patrol, log, 1, [0, 1, 1, 1, 0, 0], [0, 0, 0, 0, 0, 0]),
-            ("stay", stay, log_of([[7], [10], [13], [13], [12], [4], [1]], [[3], [3], [0], [0], [0], [3], [0]], begins=(0, 5)),
-             0, [1, 1, 1, 1, 1], [0, 0, 0, 0, 1])):
+            ("stay", stay, held, 0, [1, 1, 1, 1, 1], [0, 0, 0, 0, 1])):
         found = conform(text.plant, log)
         promises = promises_of(found, text, turn)
         report.expect(f"promises of a {what} text", (applied, broken),
@@ -334,11 +336,13 @@ def check_promises_said(report):
     text.write_text(PATROL)
     wrong.write_text(PATROL.replace("1 1 2 1\n2 3 1 1\n", "1 2 2 1\n3 3 1 1\n"))
     log = "x,u\n7,-3\n4,3\n7,3\n10,-3\n7,-\n"
-    applied = "the text: at {} of 4 judged steps its input was applied; at {} of these the next state has no row, or its rank"
+    applied = "the text: at {} of 4 judged steps its input was applied; at {} of these the next state has no row,"
     for name, turn, wanted, said in ((text, "0", 0, (4, 0)), (text, "1", 0, (3, 0)), (wrong, "0", 1, (4, 1))):
-        status, output, error = report.tool("conform", "-", "--model", plant, "--table", name, "--turn", turn, data=log.encode())
+        words = ("--model", plant, "--table", name, "--turn", turn)
+        status, output, error = report.tool("conform", "-", *words, data=log.encode())
         report.expect(f"conform by {name.name} from turn {turn}", (wanted, "", True, name is wrong),
-                      (status, error, applied.format(*said) in output, "the text isn't one of this plant; line 3" in output))
+                      (status, error, applied.format(*said) in output,
+                       "the text isn't one of this plant; line 3" in output))
 
 
 def check_refused(report):
