@@ -22,7 +22,7 @@ use Rattle.text_control.specs.Loops.{LoopSample, moved_by, Answers, IsLoop, IsPa
 use Rattle.text_control.specs.Followed.{FollowedSample, IsInItsBox, IsSized, IsStep, IsFollow, follow_number}
 use Rattle.driven_loops.specs.Followed.{followed_of}
 use Rattle.driven_loops.specs.CalledLoops.{AlwaysFollows, NoFalseAlarms}
-use Rattle.driven_loops.proofs.RowAnswers.{chosen_by}
+use Rattle.text_control.proofs.Answering.{chosen_by}
 use Rattle.driven_loops.proofs.Patrolling.{patrolled, patrol_enabled}
 use Rattle.driven_loops.proofs.Following.{AppliesEnabled, IsEnabledText, sample_in_box, turn_after_visit, table_enabled, stay_text_enabled}
 

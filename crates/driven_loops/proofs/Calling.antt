@@ -25,12 +25,12 @@ opened bytes (Some t) line is = (t, refl, is.2)
 
 ranked : (t : TextModel) (x : List ℤ) (k : ℕ) → IsRanked (Some t) x k (pos 1) → IsRank t x k
 ranked t x k told = elim told [
-    | inl one ↦ one.1
-    | inr other ↦ elim other [
-        | inl none ↦ let number = none.0 in absurd (cc)
-        | inr wrong ↦ let number = wrong.0 in absurd (cc)
-      ]
+  | inl one ↦ one.1
+  | inr other ↦ elim other [
+    | inl none ↦ let number = none.0 in absurd (cc)
+    | inr wrong ↦ let number = wrong.0 in absurd (cc)
   ]
+]
 
 -- an answer 1 says that the next state lies in its box
 inside : (p : Description) (s : FollowedSample) (f : Follow) → pos 1 ≡ follow_number f → IsFollow p s f → IsSized p s × IsInItsBox p s
