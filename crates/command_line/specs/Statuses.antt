@@ -2,57 +2,31 @@
 use Rattle.std.specs.Prelude.{ℕ, List, [], ◌++◌, codes}
 use Rattle.std.specs.Fmt.{decimal}
 use Rattle.command_line.specs.LimitLines.{limit_line}
-use Rattle.command_line.specs.declared.outcome.Refusal.{Refusal}
 use Rattle.command_line.specs.declared.outcome.Refusal.TheVariants.{Malformed, Overflow, Limit, TooManyTurns, ScriptTooLong, TooManyTables, Invalid, NoRow}
-use Rattle.command_line.specs.declared.outcome.Failure.{Failure}
 use Rattle.command_line.specs.declared.outcome.Failure.TheVariants.{Read, Write, Memory}
 use Rattle.command_line.specs.declared.outcome.Outcome.{Outcome}
 use Rattle.command_line.specs.declared.outcome.Outcome.TheVariants.{Done, Usage, Refused, Failed}
 
--- the exit status of a refusal
-abbrev pub refusal_status : Refusal → ℕ
-refusal_status (Malformed line) = 3
-refusal_status (Overflow equation input) = 4
-refusal_status (Limit what) = 5
-refusal_status TooManyTurns = 5
-refusal_status ScriptTooLong = 5
-refusal_status TooManyTables = 5
-refusal_status (Invalid cell) = 1
-refusal_status NoRow = 1
-
--- the exit status of a failure
-abbrev pub failure_status : Failure → ℕ
-failure_status Read = 6
-failure_status Write = 7
-failure_status Memory = 8
+-- the exit status of a run that ends so, and the line on the error sink
+abbrev pub end_of : Outcome → ℕ × List ℕ
+end_of Done = (0, [])
+end_of Usage = (2, codes "usage\n")
+end_of (Refused (Malformed line)) = (3, codes "malformed: line " ++ decimal line ++ codes "\n")
+end_of (Refused (Overflow equation input)) = (4, codes "overflow: equation " ++ decimal equation ++ codes " input " ++ decimal input ++ codes "\n")
+end_of (Refused (Limit what)) = (5, codes "limit: " ++ limit_line what ++ codes "\n")
+end_of (Refused TooManyTurns) = (5, codes "limit: turns\n")
+end_of (Refused ScriptTooLong) = (5, codes "limit: script\n")
+end_of (Refused TooManyTables) = (5, codes "limit: tables\n")
+end_of (Refused (Invalid cell)) = (1, codes "invalid: cell " ++ decimal cell ++ codes "\n")
+end_of (Refused NoRow) = (1, codes "no row\n")
+end_of (Failed Read) = (6, codes "read fault\n")
+end_of (Failed Write) = (7, [])
+end_of (Failed Memory) = (8, codes "no memory\n")
 
 -- the exit status
 abbrev pub status_of : Outcome → ℕ
-status_of Done = 0
-status_of Usage = 2
-status_of (Refused refusal) = refusal_status refusal
-status_of (Failed failure) = failure_status failure
-
--- the line on the error sink for a refusal
-abbrev pub refusal_line : Refusal → List ℕ
-refusal_line (Malformed line) = codes "malformed: line " ++ decimal line ++ codes "\n"
-refusal_line (Overflow equation input) = codes "overflow: equation " ++ decimal equation ++ codes " input " ++ decimal input ++ codes "\n"
-refusal_line (Limit what) = codes "limit: " ++ limit_line what ++ codes "\n"
-refusal_line TooManyTurns = codes "limit: turns\n"
-refusal_line ScriptTooLong = codes "limit: script\n"
-refusal_line TooManyTables = codes "limit: tables\n"
-refusal_line (Invalid cell) = codes "invalid: cell " ++ decimal cell ++ codes "\n"
-refusal_line NoRow = codes "no row\n"
-
--- the line on the error sink for a failure
-abbrev pub failure_line : Failure → List ℕ
-failure_line Read = codes "read fault\n"
-failure_line Write = []
-failure_line Memory = codes "no memory\n"
+status_of outcome = (end_of outcome).0
 
 -- the line on the error sink
 abbrev pub line_of : Outcome → List ℕ
-line_of Done = []
-line_of Usage = codes "usage\n"
-line_of (Refused refusal) = refusal_line refusal
-line_of (Failed failure) = failure_line failure
+line_of outcome = (end_of outcome).1

@@ -5,7 +5,8 @@ ghost use Rattle.std.specs.List.{flat_map};
 ghost use Rattle.std.specs.Prelude.{◌≡◌, ◌++◌, codes};
 ghost use Rattle.run_devices.specs.Devices.{writing, Reports};
 ghost use Rattle.command_line.specs.declared.outcome.Refusal.TheVariants.{Overflow};
-ghost use Rattle.command_line.specs.Statuses.{refusal_status, failure_status, status_of, refusal_line, failure_line, line_of};
+ghost use Rattle.command_line.specs.declared.outcome.Outcome.TheVariants.{Refused, Failed};
+ghost use Rattle.command_line.specs.Statuses.{status_of, line_of};
 
 use crate::limits::limit_line;
 use itoa::Buffer;
@@ -60,7 +61,7 @@ pub enum Outcome {
 
 impl Refusal {
     fn status(self) -> u8
-        ensures { result ≡ refusal_status self }
+        ensures { result ≡ status_of (Refused self) }
     {
         match self {
             Refusal::Invalid { .. } | Refusal::NoRow => 1,
@@ -75,7 +76,7 @@ impl Refusal {
 
     /// Writes the line; a sink that fails gets a part of it.
     fn report<E: Sink>(self, err: &mut E)
-        ensures { Reports (writing E.got E.faults E.capacity err.old err.new) (refusal_line self) }
+        ensures { Reports (writing E.got E.faults E.capacity err.old err.new) (line_of (Refused self)) }
     {
         match self {
             Refusal::Malformed { line } => report_number(err, b"malformed: line ", line),
@@ -92,7 +93,7 @@ impl Refusal {
 
 impl Failure {
     fn status(self) -> u8
-        ensures { result ≡ failure_status self }
+        ensures { result ≡ status_of (Failed self) }
     {
         match self {
             Failure::Read => 6,
@@ -103,7 +104,7 @@ impl Failure {
 
     /// Writes the line; a sink that fails gets a part of it.
     fn report<E: Sink>(self, err: &mut E)
-        ensures { Reports (writing E.got E.faults E.capacity err.old err.new) (failure_line self) }
+        ensures { Reports (writing E.got E.faults E.capacity err.old err.new) (line_of (Failed self)) }
     {
         match self {
             Failure::Read => report_pieces(err, &[b"read fault\n"]),
@@ -157,7 +158,8 @@ fn report_number<E: Sink>(err: &mut E, text: &[u8], number: u64)
 
 /// Writes the line of an overflow.
 fn report_overflow<E: Sink>(err: &mut E, equation: u32, input: u32)
-    ensures { Reports (writing E.got E.faults E.capacity err.old err.new) (refusal_line (Overflow equation input)) }
+    ensures { let reported = writing E.got E.faults E.capacity err.old err.new in
+        Reports reported (line_of (Refused (Overflow equation input))) }
 {
     let mut first = Buffer::new();
     let mut second = Buffer::new();

@@ -13,6 +13,7 @@ use Rattle.plant_record.specs.declared.version.PlantVersion.TheVariants.{One}
 use Rattle.plant_record.specs.Description.{Description, axes_of}
 use Rattle.game_core.specs.declared.game.Row.{Row}
 use Rattle.game_core.specs.Solution.{rank_in, greatest}
+use Rattle.plant_text.specs.Grammar.{Spells}
 use Rattle.plant_game.specs.Abstraction.{pairs_of, AreEdges}
 use Rattle.plant_game.specs.PlantSolution.{IsSolutionOf}
 
@@ -90,22 +91,26 @@ demo_text n =
     ++ codes "goal reach\n"
     ++ codes "end\n"
 
--- the line that sums up a solved demo plant: how many cells, pairs and edges it has, how many cells have a row,
+-- the line that sums up the n-th demo plant, solved: how many cells, pairs and edges it has, how many cells have a row,
 -- and the greatest rank, which is 0 where no cell has a row
-abbrev pub demo_line : ℕ → List (Option Row) → ℕ → List ℕ
-demo_line n rows edges =
+abbrev pub demo_line : ℕ → Description → List (Option Row) → ℕ → List ℕ
+demo_line n p rows edges =
     codes "demo " ++ decimal n
-    ++ codes " cells " ++ decimal (cells_of (axes_of (demo_plant_of n)))
-    ++ codes " pairs " ++ decimal (pairs_of (demo_plant_of n))
+    ++ codes " cells " ++ decimal (cells_of (axes_of p))
+    ++ codes " pairs " ++ decimal (pairs_of p)
     ++ codes " edges " ++ decimal edges
     ++ codes " won " ++ decimal (count_by is_some rows)
     ++ codes " rank " ++ decimal (greatest (map rank_in rows))
     ++ codes "\n"
 
 -- The line of the n-th demo plant, with the rows of its solution and the number of its edges.
-pub record IsDemoLine (n : ℕ) (text : List ℕ) : Type 0 where
+pub record IsSummaryOf (n : ℕ) (p : Description) (text : List ℕ) : Type 0 where
   pub rows : List (Option Row)
   pub edges : ℕ
-  pub solution : IsSolutionOf (demo_plant_of n) rows
-  pub counted : AreEdges (demo_plant_of n) edges
-  pub line : text ≡ demo_line n rows edges
+  pub solution : IsSolutionOf p rows
+  pub counted : AreEdges p edges
+  pub line : text ≡ demo_line n p rows edges
+
+-- the line of the plant that the n-th demo text spells
+abbrev pub IsDemoLine : ℕ → List ℕ → Type 0
+IsDemoLine n text = (p : Description) × Spells (demo_text n) p × IsSummaryOf n p text

@@ -3,7 +3,7 @@
 ghost use Rattle.std.specs.Prelude.{◌≡◌, map, length, sum_by, IfOk};
 ghost use Rattle.game_core.specs.Solution.{IsReachSolution, rank_in, greatest};
 ghost use Rattle.plant_game.specs.Abstraction.{IsGameOf};
-ghost use Rattle.demo_plants.specs.Demo.{demo_plant_of, IsDemoLine};
+ghost use Rattle.demo_plants.specs.Demo.{demo_plant_of, IsSummaryOf};
 
 use crate::generator::push_part;
 use game_core::{Answer, Graph};
@@ -19,7 +19,7 @@ pub fn demo_line<G: Graph>(
 ) -> Result<Vec<u8>, NoMemory>
     requires game { IsGameOf (demo_plant_of n) (G.game game.now) }
     requires solved { IsReachSolution (G.game game.now) answer.now }
-    ensures { IfOk result (λ text. IsDemoLine n text.items) }
+    ensures { IfOk result (λ text. IsSummaryOf n (demo_plant_of n) text.items) }
 {
     let mut text = Vec::new(alloc);
     push_part(&mut text, b"demo ", n)?;

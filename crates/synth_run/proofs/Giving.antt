@@ -6,7 +6,8 @@ use Rattle.command_line.specs.declared.outcome.Outcome.{Outcome}
 use Rattle.command_line.specs.declared.outcome.Outcome.TheVariants.{Usage}
 use Rattle.run_devices.specs.Devices.{Reading, Writing}
 use Rattle.command_line.specs.Command.{IsOfCommand}
-use Rattle.synth_run.specs.RunClauses.{CanEnd, IsRunOf, Gives}
+use Rattle.synth_run.specs.Sources.{bytes_for}
+use Rattle.synth_run.specs.RunClauses.{Ends, IsRunOf, Gives}
 use Rattle.command_line.proofs.Laws.{one_command}
 
 --  arguments are of one command, and not of none
@@ -19,4 +20,4 @@ gives_by_command arguments command outcome source out played of_command run = re
 }
   where
     not_usage : outcome ≡ Usage → ⊥
-    not_usage e = subst (CanEnd command) e run.can_end
+    not_usage e = (subst (Ends command (bytes_for command source.before)) e run.ends).2

@@ -17,3 +17,4 @@ pub mod Undeniable
 pub mod SomeGame
 pub mod SomePlant
 pub mod SomeOutcome
+pub mod Stages

@@ -1,5 +1,5 @@
 -- A source that is read to one byte past the limit of its text.
-use Rattle.std.proofs.Common.{inl, inr, ◌≡◌, ℕ, ◌<◌, List, length, take, drop, Option, Some, None, subst, arith, length-take}
+use Rattle.std.proofs.Common.{inl, inr, ◌≡◌, ℕ, ◌<◌, List, length, take, drop, Option, Some, None, refl, subst, arith, length-take}
 use Rattle.std.specs.Prelude.{IfSome}
 use Rattle.std.proofs.lemmas.Bool.{cases_lt}
 use Rattle.plant_record.specs.declared.limit_kind.LimitKind.{LimitKind}
@@ -17,7 +17,7 @@ use Rattle.command_line.specs.declared.command.Command.TheVariants.{Synth, Check
 use Rattle.command_line.specs.declared.outcome.Refusal.{Refusal}
 use Rattle.run_devices.specs.Transfers.{ReadUpTo}
 use Rattle.synth_run.specs.Sources.{most_read}
-use Rattle.synth_run.specs.IsOutcomeFor.{IsReadRefusal, IsRefused, IsRefusedTable, IsOverflow, IsPlantRefusal, IsPatrolRefusal, IsTextRefusal, IsRowsRefusal, IsStartRefusal, IsTableRefusal, IsRefusalFor}
+use Rattle.synth_run.specs.inside.Stages.{IsReadRefusal, IsRefused, IsRefusedTable, IsOverflow, IsPlantRefusal, IsPatrolRefusal, IsTextRefusal, IsRowsRefusal, IsStartRefusal, IsTableRefusal, IsStagedRefusal}
 use Rattle.synth_run.specs.Headline.{IsAnswer}
 use Rattle.std.proofs.lemmas.List.{take_all}
 
@@ -33,6 +33,12 @@ of_front Holds most (Some bytes) read front longer h =
       | inl lt ↦ longer bytes lt begun
       | inr le ↦ subst Holds (take_all most bytes le) begun
     ]
+
+-- where a source doesn't tell its text, what was read is one of which this holds
+pub of_some : (Holds : List ℕ → Type 0) (most : ℕ) (told : Option (List ℕ)) (read : List ℕ) → IfSome told (λ bytes. read ≡ take most bytes) → ((bytes : List ℕ) → most < length bytes → Holds (take most bytes) → Holds bytes) → Holds read
+    → (bytes : List ℕ) × IfSome told (λ all. all ≡ bytes) × Holds bytes
+of_some Holds most None read front longer h = (read, tt, h)
+of_some Holds most (Some bytes) read front longer h = (bytes, refl, of_front Holds most (Some bytes) read front longer h)
 
 pub read_to_the_limit : (most : ℕ) (told after : Option (List ℕ)) (read : List ℕ) → ReadUpTo told after most read → IfSome told (λ bytes. after ≡ Some (drop most bytes))
 read_to_the_limit most None after read up_to = tt
@@ -80,7 +86,7 @@ refused_table_of_longer bytes outcome lt h = passes _ _ _ _ (λ line h. absurd (
 
 -- What refuses a text as far as it is read, and how it is answered, holds of the whole text if it is longer.
 pub record PassesOn (command : Command) : Type 0 where
-  pub refusals : (r : Refusal) (bytes : List ℕ) → most_read command < length bytes → IsRefusalFor command (take (most_read command) bytes) r → IsRefusalFor command bytes r
+  pub refusals : (r : Refusal) (bytes : List ℕ) → most_read command < length bytes → IsStagedRefusal command (take (most_read command) bytes) r → IsStagedRefusal command bytes r
   pub answers : (text bytes : List ℕ) → most_read command < length bytes → IsAnswer command (take (most_read command) bytes) text → IsAnswer command bytes text
 
 plant_of_longer : (Refuses : Description → Refusal → Type 0) (bytes : List ℕ) (r : Refusal) → 65537 < length bytes → IsTextRefusal Refuses (take 65537 bytes) r → IsTextRefusal Refuses bytes r

@@ -30,12 +30,14 @@ use Rattle.command_line.specs.declared.outcome.Failure.TheVariants.{Read, Write,
 use Rattle.command_line.specs.declared.outcome.Outcome.TheVariants.{Done, Usage, Refused, Failed}
 use Rattle.synth_run.specs.declared.stop.Stop.{Stop}
 use Rattle.synth_run.specs.declared.stop.Stop.TheVariants as stops
-use Rattle.synth_run.specs.IsOutcomeFor.{IsAccepted, SpellPlantWith, IsReadRefusal, IsRefused, IsSolvable, HasEdges, IsOverflow, HasTooManyEdges, IsPlantRefusal, turns_of, IsPatrollable, IsPatrolRefusal, IsTextRefusal, IsRightFor, IsFirstWrong, AreRight, IsRowsRefusal, IsStartRefusal, AreTableWith, IsRefusedTable, IsTableRefusal, IsAnswerable, IsRefusalFor}
+use Rattle.synth_run.specs.IsOutcomeFor.{IsAccepted, IsSolvable, HasEdges, turns_of, IsPatrollable, IsRightFor, IsFirstWrong, IsAnswerable, IsRefusalFor}
+use Rattle.synth_run.specs.inside.Stages.{SpellPlantWith, IsReadRefusal, IsRefused, IsOverflow, HasManyEdges, IsPlantRefusal, IsPatrolRefusal, IsTextRefusal, AreRight, IsRowsRefusal, IsStartRefusal, AreTableWith, IsRefusedTable, IsTableRefusal, IsStagedRefusal}
 use Rattle.synth_run.specs.Traces.{HasRowFor, HasNoRowFor}
 use Rattle.synth_run.specs.inside.Causes.{IsStopFor, without_memory}
 use Rattle.demo_plants.specs.Demo.{demo_plant_of}
 use Rattle.demo_plants.specs.Laws.{IsSolvableDemo}
 use Rattle.synth_run.specs.Laws.{OneOutcomePerText}
+use Rattle.synth_run.proofs.Stages.{staged}
 use Rattle.synth_run.proofs.Below.{one_plant_per_text, one_refusal, read_or_refused, one_table_per_text, one_table_refusal, table_or_refused}
 use Rattle.table_check.proofs.Verdicts.{one_first}
 
@@ -141,7 +143,7 @@ range_exact p = record {
 plant_exact : (p : Description) → IsPlant p → IsExact (IsSolvable p) (IsPlantRefusal p)
 plant_exact p plant =
     exact_by
-    (one_more (HasNoOverflow p) (IsSolvable p) (IsOverflow p) (HasTooManyEdges p) (range_exact p) (λ r f. f.1.1.fits) (λ r s f g. f.0 ∙ sym g.0)
+    (one_more (HasNoOverflow p) (IsSolvable p) (IsOverflow p) (HasManyEdges p) (range_exact p) (λ r f. f.1.1.fits) (λ r s f g. f.0 ∙ sym g.0)
     (λ solvable r f. few_or_many p solvable.0 f.1.0 plant solvable.1 f.1.1 solvable.2 f.1.2))
     (λ solvable. (solvable.1.fits, solvable)) (λ r f. f)
 
@@ -263,14 +265,17 @@ table_exact Passes Refuses exact bytes =
 
 -- ---- commands
 
+staged_exact : (command : Command) (bytes : List ℕ) → IsExact (IsAnswerable command bytes) (IsStagedRefusal command bytes)
+staged_exact (Synth workers) bytes = text_exact IsSolvable IsPlantRefusal plant_exact bytes
+staged_exact Check bytes = table_exact AreRight IsRowsRefusal rows_exact bytes
+staged_exact Upgrade bytes = table_exact (λ p rows. HasNoOverflow p) (λ p rows r. IsOverflow p r) (λ p rows plant. range_exact p) bytes
+staged_exact (Sim samples seed start) bytes = table_exact (λ p rows. HasNoOverflow p × HasRowFor p rows start) (IsStartRefusal start) (λ p rows plant. start_exact p rows start) bytes
+staged_exact (Demo number workers) bytes = record { one = λ r s f g. absurd f; never_both = λ passes r f. f }
+staged_exact (Stay workers) bytes = text_exact IsSolvable IsPlantRefusal plant_exact bytes
+staged_exact (Patrol workers) bytes = text_exact IsPatrollable IsPatrolRefusal patrol_exact bytes
+
 command_exact : (command : Command) (bytes : List ℕ) → IsExact (IsAnswerable command bytes) (IsRefusalFor command bytes)
-command_exact (Synth workers) bytes = text_exact IsSolvable IsPlantRefusal plant_exact bytes
-command_exact Check bytes = table_exact AreRight IsRowsRefusal rows_exact bytes
-command_exact Upgrade bytes = table_exact (λ p rows. HasNoOverflow p) (λ p rows r. IsOverflow p r) (λ p rows plant. range_exact p) bytes
-command_exact (Sim samples seed start) bytes = table_exact (λ p rows. HasNoOverflow p × HasRowFor p rows start) (IsStartRefusal start) (λ p rows plant. start_exact p rows start) bytes
-command_exact (Demo number workers) bytes = record { one = λ r s f g. absurd f; never_both = λ passes r f. f }
-command_exact (Stay workers) bytes = text_exact IsSolvable IsPlantRefusal plant_exact bytes
-command_exact (Patrol workers) bytes = text_exact IsPatrollable IsPatrolRefusal patrol_exact bytes
+command_exact command bytes = exact_by (staged_exact command bytes) (λ passes. passes) (λ r refuses. staged command bytes r refuses)
 
 pub one_outcome : OneOutcomePerText
 one_outcome command bytes Done Done f g = refl

@@ -12,7 +12,7 @@ use Rattle.temporal_promises.proofs.PatrolLaws.{solution_has_patrol_text, patrol
 use Rattle.command_line.specs.declared.outcome.Failure.TheVariants.{Read, Write, Memory}
 use Rattle.synth_run.specs.declared.stop.Stop.{Stop}
 use Rattle.synth_run.specs.declared.stop.Stop.TheVariants.{Refused, Failed}
-use Rattle.synth_run.specs.IsOutcomeFor.{IsPlantRefusal, IsPatrolRefusal, IsTextRefusal}
+use Rattle.synth_run.specs.inside.Stages.{IsPlantRefusal, IsPatrolRefusal, IsTextRefusal}
 use Rattle.synth_run.specs.inside.Causes.{IsStopFor}
 use Rattle.synth_run.specs.Headline.{IsPatrolTableOf}
 

@@ -28,9 +28,11 @@ use Rattle.command_line.specs.declared.outcome.Refusal.TheVariants.{Malformed, I
 use Rattle.command_line.specs.declared.outcome.Outcome.TheVariants.{Done, Refused}
 use Rattle.plant_record.specs.declared.limit_kind.LimitKind.TheVariants.{Edges}
 use Rattle.successor_box.specs.Deviations.{HasNoOverflow}
-use Rattle.synth_run.specs.IsOutcomeFor.{SpellPlantWith, IsSolvable, IsOverflow, IsPlantRefusal, IsPatrollable, IsPatrolRefusal, IsTextRefusal, IsRightFor, AreRight, IsRowsRefusal, IsStartRefusal, AreTableWith, IsTableRefusal, IsAnswerable, IsRefusalFor}
+use Rattle.synth_run.specs.IsOutcomeFor.{IsSolvable, IsPatrollable, IsRightFor, IsAnswerable}
+use Rattle.synth_run.specs.inside.Stages.{SpellPlantWith, IsOverflow, IsPlantRefusal, IsPatrolRefusal, IsTextRefusal, AreRight, IsRowsRefusal, IsStartRefusal, AreTableWith, IsTableRefusal, IsStagedRefusal}
 use Rattle.synth_run.specs.Traces.{HasRowFor, HasNoRowFor}
 use Rattle.synth_run.specs.Laws.{SomeOutcomePerText}
+use Rattle.synth_run.proofs.Stages.{unstaged}
 use Rattle.synth_run.proofs.Undeniable.{first_without}
 use Rattle.synth_run.proofs.SomeGame.{some_game}
 use Rattle.synth_run.proofs.SomePlant.{some_overflow, PlantEnd, is_solvable, overflows, has_many_edges, plant_end, IsDecided, plant_decided, patrol_decided, text_end}
@@ -126,7 +128,7 @@ driven p rows start deny = some_overflow p (λ found. elim found [
 
 -- ---- commands
 
-decided : (command : Command) (bytes : List ℕ) → (IsDecided (IsAnswerable command bytes) (IsRefusalFor command bytes) → ⊥) → ⊥
+decided : (command : Command) (bytes : List ℕ) → (IsDecided (IsAnswerable command bytes) (IsStagedRefusal command bytes) → ⊥) → ⊥
 decided (Synth workers) bytes deny = by_text bytes IsSolvable IsPlantRefusal plant_decided deny
 decided Check bytes deny = by_table bytes AreRight IsRowsRefusal (λ p rows table refute. plant_end p table.limits (λ end. verdict bytes p rows table end refute)) deny
 decided Upgrade bytes deny = by_table bytes (λ p rows. HasNoOverflow p) (λ p rows r. IsOverflow p r) (λ p rows table refute. range p refute) deny
@@ -138,5 +140,5 @@ decided (Patrol workers) bytes deny = by_text bytes IsPatrollable IsPatrolRefusa
 pub some_outcome : SomeOutcomePerText
 some_outcome command bytes deny = decided command bytes (λ d. elim d [
   | inl answerable ↦ deny Done answerable
-  | inr (r, refuses) ↦ deny (Refused r) refuses
+  | inr (r, refuses) ↦ deny (Refused r) (unstaged command bytes r refuses)
 ])

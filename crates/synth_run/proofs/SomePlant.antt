@@ -20,7 +20,8 @@ use Rattle.plant_game.proofs.EdgeCounts.{games_count_their_edges}
 use Rattle.controller_table.proofs.FrontEnds.{whole, LimitsEnd, is_within, has_many_vectors, has_many_cells, has_many_pairs, limits_end}
 use Rattle.command_line.specs.declared.outcome.Refusal.{Refusal}
 use Rattle.command_line.specs.declared.outcome.Refusal.TheVariants.{Malformed, Overflow, Limit, TooManyTurns}
-use Rattle.synth_run.specs.IsOutcomeFor.{IsAccepted, IsRefused, IsSolvable, HasEdges, IsPlantRefusal, turns_of, IsPatrollable, IsPatrolRefusal}
+use Rattle.synth_run.specs.IsOutcomeFor.{IsAccepted, IsSolvable, HasEdges, turns_of, IsPatrollable}
+use Rattle.synth_run.specs.inside.Stages.{IsRefused, IsPlantRefusal, IsPatrolRefusal}
 use Rattle.synth_run.proofs.Undeniable.{first_without}
 use Rattle.synth_run.proofs.SomeGame.{some_game}
 

@@ -24,7 +24,8 @@ use Rattle.command_line.specs.declared.outcome.Failure.TheVariants.{Read, Write,
 use Rattle.synth_run.specs.declared.stop.Stop.{Stop}
 use Rattle.synth_run.specs.declared.stop.Stop.TheVariants.{Refused, Failed}
 use Rattle.synth_run.specs.inside.Causes.{of_plant, of_table, IsStopFor}
-use Rattle.synth_run.specs.IsOutcomeFor.{IsAccepted, IsSolvable, IsTextRefusal, IsTableRefusal}
+use Rattle.synth_run.specs.IsOutcomeFor.{IsAccepted, IsSolvable}
+use Rattle.synth_run.specs.inside.Stages.{IsTextRefusal, IsTableRefusal}
 use Rattle.synth_run.proofs.Below.{reach_fits}
 
 -- a plant with a graph in memory

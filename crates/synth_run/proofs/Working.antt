@@ -1,12 +1,11 @@
 -- What a command has worked out from what it read.
-use Rattle.std.proofs.Common.{Bool, refl, take, drop, ◌≡◌, ℕ, List, [], sym, subst, arith}
+use Rattle.std.proofs.Common.{Bool, refl, take, drop, length, ◌≡◌, ◌<◌, ℕ, List, [], sym, subst, arith}
 use Rattle.std.specs.Prelude.{Option, Some, None, IfSome, IsTrue}
 use Rattle.command_line.specs.declared.command.Command.{Command}
 use Rattle.command_line.specs.declared.command.Command.TheVariants.{Synth, Check, Upgrade, Sim, Demo, Stay, Patrol}
 use Rattle.controller_table.proofs.ShortTables.{tables_are_short}
 use Rattle.run_devices.specs.declared.transfer.ReadFault.{ReadFault as Fault}
 use Rattle.run_devices.specs.declared.transfer.ReadFault.TheVariants as faults
-use Rattle.command_line.specs.declared.outcome.Refusal.{Refusal}
 use Rattle.command_line.specs.declared.outcome.Failure.TheVariants.{Read, Write, Memory}
 use Rattle.synth_run.specs.declared.stop.Stop.{Stop}
 use Rattle.synth_run.specs.declared.stop.Stop.TheVariants.{Refused, Failed}
@@ -16,12 +15,13 @@ use Rattle.synth_run.specs.inside.Texts.{bytes_of, CanBeWritten}
 use Rattle.run_devices.specs.Transfers.{ReadUpTo}
 use Rattle.synth_run.specs.inside.Working.{IsWorkedOut, IsStopped}
 use Rattle.synth_run.specs.Sources.{Reads, bytes_for, most_read}
-use Rattle.synth_run.specs.IsOutcomeFor.{IsAnswerable, IsRefusalFor}
+use Rattle.synth_run.specs.IsOutcomeFor.{IsAnswerable}
 use Rattle.synth_run.specs.Headline.{IsAnswer}
 use Rattle.synth_run.specs.inside.Causes.{of_read, IsStopFor}
 use Rattle.synth_run.specs.inside.Making.{IsReadFor}
-use Rattle.synth_run.proofs.Limits.{of_front, passes_on, read_to_the_limit}
-use Rattle.base.proofs.Options.{IfSome-weaker}
+use Rattle.synth_run.specs.inside.Stages.{IsStagedRefusal}
+use Rattle.synth_run.proofs.Limits.{of_front, of_some, passes_on, read_to_the_limit}
+use Rattle.synth_run.proofs.Stages.{unstaged}
 
 -- a text that has an answer is to be answered
 answered_is_answerable : (command : Command) (bytes text : List ℕ) → IsAnswer command bytes text → IsAnswerable command bytes
@@ -37,26 +37,25 @@ answered_is_answerable (Patrol workers) bytes text h = (h.0, h.1, h.2)
 pub worked_out : (command : Command) (source : Reading) (read : List ℕ) (text : Text) → IsReadFor command read source → CanBeWritten text → IsAnswer command read (bytes_of text) → IsWorkedOut command text source
 worked_out command source read text whole fits answer = record {
   can_be_written = fits;
-  answer = answers;
-  cause = IfSome-weaker (bytes_for command source.before) (λ bytes. IsAnswer command bytes (bytes_of text)) (λ bytes. IsAnswerable command bytes) (λ bytes. answered_is_answerable command bytes (bytes_of text)) answers;
-  read = whole.read;
-  never_past = whole.never_past;
-  leaves_alone = whole.leaves_alone;
+  answer = of_front (λ bytes. IsAnswer command bytes (bytes_of text)) (most_read command) (bytes_for command source.before) read whole.front longer answer;
+  ends =
+      let all = of_some (λ bytes. IsAnswer command bytes (bytes_of text)) (most_read command) (bytes_for command source.before) read whole.front longer answer in
+      (all.0, all.1, answered_is_answerable command all.0 (bytes_of text) all.2);
+  takes = whole.takes;
   no_fault = whole.no_fault;
 }
   where
-    answers : IfSome (bytes_for command source.before) (λ bytes. IsAnswer command bytes (bytes_of text))
-    answers = of_front (λ bytes. IsAnswer command bytes (bytes_of text)) (most_read command) (bytes_for command source.before) read whole.front ((passes_on tables_are_short command).answers (bytes_of text)) answer
+    longer : (bytes : List ℕ) → most_read command < length bytes → IsAnswer command (take (most_read command) bytes) (bytes_of text) → IsAnswer command bytes (bytes_of text)
+    longer = (passes_on tables_are_short command).answers (bytes_of text)
 
 -- what was read is refused so, or there was no memory
-pub stopped : (command : Command) (source : Reading) (read : List ℕ) (stop : Stop) → IsReadFor command read source → IsStopFor (IsRefusalFor command read) stop → IsStopped command source stop
+pub stopped : (command : Command) (source : Reading) (read : List ℕ) (stop : Stop) → IsReadFor command read source → IsStopFor (IsStagedRefusal command read) stop → IsStopped command source stop
 stopped command source read (Refused refusal) whole h = record {
-  can_end = (read, h);
+  ends =
+      let all = of_some (λ bytes. IsStagedRefusal command bytes refusal) (most_read command) (bytes_for command source.before) read whole.front ((passes_on tables_are_short command).refusals refusal) h in
+      (all.0, all.1, unstaged command all.0 refusal all.2);
   not_write = λ e. cc;
-  cause = λ r e. of_front (λ bytes. IsRefusalFor command bytes r) (most_read command) (bytes_for command source.before) read whole.front ((passes_on tables_are_short command).refusals r) (subst (λ (s : Refusal). IsRefusalFor command read s) (cc) h);
-  read = λ _ _. whole.read;
-  never_past = whole.never_past;
-  leaves_alone = whole.leaves_alone;
+  takes = whole.takes _;
   fault = λ e. absurd (let clash : Refused refusal ≡ Failed Read = e in cc);
   no_fault = λ _. whole.no_fault;
   sound = λ _ e. cc;
@@ -64,12 +63,9 @@ stopped command source read (Refused refusal) whole h = record {
 stopped command source read (Failed Read) whole h = absurd h
 stopped command source read (Failed Write) whole h = absurd h
 stopped command source read (Failed Memory) whole h = record {
-  can_end = tt;
+  ends = tt;
   not_write = λ e. cc;
-  cause = λ r e. absurd (let clash : Failed Memory ≡ Refused r = e in cc);
-  read = λ _ some. absurd (some refl);
-  never_past = whole.never_past;
-  leaves_alone = whole.leaves_alone;
+  takes = whole.takes _;
   fault = λ e. absurd (let clash : Failed Memory ≡ Failed Read = e in cc);
   no_fault = λ _. whole.no_fault;
   sound = λ _ e. cc;
@@ -106,9 +102,7 @@ pub is_read : (command : Command) → Reads command → (source : Reading) (read
     → ReadUpTo source.before source.after (most_read command) read → TakesAtMost source.before source.after (most_read command) → source.faults_after ≡ source.faults_before → IsReadFor command read source
 is_read command reads source read up_to within no_fault = record {
   front = subst (λ (told : Option (List ℕ)). IfSome told (λ bytes. read ≡ take (most_read command) bytes)) (sym (works_on_all command reads source.before)) (front_of (most_read command) source.before source.after read up_to);
-  read = read_to_the_limit (most_read command) source.before source.after read up_to;
-  never_past = within;
-  leaves_alone = λ none. absurd (none reads);
+  takes = λ _. record { read = λ _ _. read_to_the_limit (most_read command) source.before source.after read up_to; never_past = within; leaves_alone = λ none. absurd (none reads) };
   no_fault = no_fault;
 }
 
@@ -120,23 +114,17 @@ pub is_unread : (command : Command) → Reads command → (source : Reading) (fa
     → (IsTrue source.is_sound → fault ≡ faults.Device → ⊥)
     → IsStopped command source (of_read fault)
 is_unread command reads source faults.Device within failed stood sound = record {
-  can_end = reads;
+  ends = reads;
   not_write = λ e. cc;
-  cause = λ r e. absurd (let clash : Failed Read ≡ Refused r = e in cc);
-  read = λ other _. absurd (other refl);
-  never_past = within;
-  leaves_alone = λ none. absurd (none reads);
+  takes = record { read = λ other _. absurd (other refl); never_past = within; leaves_alone = λ none. absurd (none reads) };
   fault = λ _. failed refl;
   no_fault = λ other. absurd (other refl);
   sound = λ is_sound _. sound is_sound refl;
 }
 is_unread command reads source faults.Memory within failed stood sound = record {
-  can_end = tt;
+  ends = tt;
   not_write = λ e. cc;
-  cause = λ r e. absurd (let clash : Failed Memory ≡ Refused r = e in cc);
-  read = λ _ some. absurd (some refl);
-  never_past = within;
-  leaves_alone = λ none. absurd (none reads);
+  takes = record { read = λ _ some. absurd (some refl); never_past = within; leaves_alone = λ none. absurd (none reads) };
   fault = λ e. absurd (let clash : Failed Memory ≡ Failed Read = e in cc);
   no_fault = λ _. stood (λ e. cc);
   sound = λ _ e. cc;
@@ -154,4 +142,4 @@ none_taken (Some bytes) = (0, omega arith, refl)
 
 -- the source of a demo plant stays as it was
 pub demo_is_read : (number workers : ℕ) (told : Option (List ℕ)) (faults : ℕ) (sound : Bool) → IsReadFor (Demo number workers) [] (record { before = told; after = told; faults_before = faults; faults_after = faults; is_sound = sound })
-demo_is_read number workers told faults sound = record { front = refl; read = unread told; never_past = none_taken told; leaves_alone = λ _. record { bytes = refl; faults = refl }; no_fault = refl }
+demo_is_read number workers told faults sound = record { front = refl; takes = λ _. record { read = λ _ _. unread told; never_past = none_taken told; leaves_alone = λ _. refl }; no_fault = refl }

@@ -10,7 +10,7 @@ use Rattle.synth_run.specs.IsOutcomeFor.{IsOutcomeFor}
 use Rattle.synth_run.specs.Headline.{IsTableFor, IsStayTableFor, IsPatrolTableFor}
 use Rattle.synth_run.specs.Traces.{IsTraceFor}
 
--- no plant within the limits lacks a game
+-- no plant within the limits lacks a game; none is named, since that would take an algorithm for marks and successors
 abbrev pub SomeGamePerPlant : Type 0
 SomeGamePerPlant = (p : Description) → IsWithinLimits p → ((g : Game) → IsGameOf p g → ⊥) → ⊥
 

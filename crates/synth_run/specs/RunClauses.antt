@@ -2,19 +2,17 @@
 use Rattle.std.specs.Prelude.{◌≡◌, ◌≢◌, ◌⊎◌, ◌↔◌, ℕ, List, drop, Option, Some, None, IfSome}
 use Rattle.cell_counters.specs.BoardModels.{BoardModel, RootModel}
 use Rattle.command_line.specs.declared.command.Command.{Command}
-use Rattle.command_line.specs.declared.outcome.Refusal.{Refusal}
-use Rattle.command_line.specs.declared.outcome.Failure.{Failure}
 use Rattle.command_line.specs.declared.outcome.Failure.TheVariants.{Read, Write, Memory}
 use Rattle.command_line.specs.declared.outcome.Outcome.{Outcome}
-use Rattle.command_line.specs.declared.outcome.Outcome.TheVariants.{Done, Usage, Refused, Failed}
+use Rattle.command_line.specs.declared.outcome.Outcome.TheVariants.{Done, Usage, Failed}
 use Rattle.run_devices.specs.Devices.{Reading, Writing, GainsWhole, GainsPart, TakesAtMost, AreUnused}
 use Rattle.command_line.specs.Command.{IsOfCommand, AreOfNoCommand}
 use Rattle.command_line.specs.Statuses.{status_of}
 use Rattle.command_line.specs.Ends.{IsShownBy, IsReported}
-use Rattle.synth_run.specs.Sources.{Reads, bytes_for, most_read, LeavesAlone}
-use Rattle.synth_run.specs.IsOutcomeFor.{IsRefusalFor, IsOutcomeFor}
+use Rattle.synth_run.specs.Sources.{Reads, bytes_for, most_read}
+use Rattle.synth_run.specs.IsOutcomeFor.{IsOutcomeFor}
 use Rattle.synth_run.specs.Headline.{IsAnswer}
-use Rattle.synth_run.specs.Played.{IsPlayed, LeavesAGame, SolvesNothing}
+use Rattle.synth_run.specs.Played.{IsPlayed}
 
 -- the answer of a command for some bytes was written whole
 abbrev pub IsAnswered : Command → List ℕ → Writing → Type 0
@@ -24,51 +22,35 @@ IsAnswered command bytes out = (text : List ℕ) × IsAnswer command bytes text 
 abbrev pub IsCutOff : Command → List ℕ → Writing → Type 0
 IsCutOff command bytes out = (text : List ℕ) × IsAnswer command bytes text × GainsPart out text
 
+-- how a command ends whose arguments are right: as its text demands, or some text where the source doesn't tell its bytes; by
+-- a read, where it makes one; by a write; or without memory
+abbrev pub Ends : Command → Option (List ℕ) → Outcome → Type 0
+Ends command told (Failed Read) = Reads command
+Ends command told (Failed failure) = Unit {0}
+Ends command told outcome = (bytes : List ℕ) × IfSome told (λ all. all ≡ bytes) × IsOutcomeFor command bytes outcome
+
+-- What a run of a command wrote: the answer, or a part of it.
+pub record Writes (command : Command) (outcome : Outcome) (source : Reading) (out : Writing) : Type 0 where
+  pub answered : outcome ≡ Done → IfSome (bytes_for command source.before) (λ bytes. IsAnswered command bytes out)
+  pub cut_off : outcome ≡ Failed Write → IfSome (bytes_for command source.before) (λ bytes. IsCutOff command bytes out)
+
 -- a source that tells its bytes was read to its end, or to one byte past the limit of a command's text
 abbrev pub IsRead : Command → Reading → Type 0
 IsRead command source = IfSome source.before (λ bytes. source.after ≡ Some (drop (most_read command) bytes))
 
--- how a command can refuse a text that is not known: as it has to refuse some text
-abbrev pub CanRefuse : Command → Refusal → Type 0
-CanRefuse command refusal = (bytes : List ℕ) × IsRefusalFor command bytes refusal
-
--- how a command can fail: a read of it only if it makes one
-abbrev pub CanFail : Command → Failure → Type 0
-CanFail command Read = Reads command
-CanFail command Write = Unit {0}
-CanFail command Memory = Unit {0}
-
--- how a command can end whose arguments are right, whatever its source tells
-abbrev pub CanEnd : Command → Outcome → Type 0
-CanEnd command Done = Unit {0}
-CanEnd command Usage = ⊥
-CanEnd command (Refused refusal) = CanRefuse command refusal
-CanEnd command (Failed failure) = CanFail command failure
-
--- the text alone decides that the run ends so, and not the arguments, a device or want of memory
-abbrev pub IsTheTexts : Outcome → Type 0
-IsTheTexts Done = Unit {0}
-IsTheTexts Usage = ⊥
-IsTheTexts (Refused refusal) = Unit {0}
-IsTheTexts (Failed failure) = ⊥
+-- What a run of a command took of its source: all that it reads, unless it failed before, and never more.
+pub record Takes (command : Command) (outcome : Outcome) (source : Reading) : Type 0 where
+  pub read : outcome ≢ Failed Read → outcome ≢ Failed Memory → IsRead command source
+  pub never_past : TakesAtMost source.before source.after (most_read command)
+  pub leaves_alone : (Reads command → ⊥) → source.after ≡ source.before
 
 -- What a run of a command gives, by how it ends.
 pub record IsRunOf (command : Command) (outcome : Outcome) (source : Reading) (out : Writing) (played : Option (BoardModel × RootModel)) : Type 0 where
-  pub can_end : CanEnd command outcome
-  -- what was written
-  pub answered : outcome ≡ Done → IfSome (bytes_for command source.before) (λ bytes. IsAnswered command bytes out)
-  pub cut_off : outcome ≡ Failed Write → IfSome (bytes_for command source.before) (λ bytes. IsCutOff command bytes out)
-  -- what is left of the game that was solved
-  pub leaves : outcome ≡ Done → IfSome (bytes_for command source.before) (λ bytes. IsPlayed command bytes played)
-  pub leaves_a_game : outcome ≡ Done → LeavesAGame command played
+  pub ends : Ends command (bytes_for command source.before) outcome
+  pub writes : Writes command outcome source out
+  pub takes : Takes command outcome source
+  pub leaves : outcome ≡ Done → IsPlayed command source.before played
   pub leaves_nothing : outcome ≢ Done → played ≡ None
-  pub solves_nothing : SolvesNothing command played
-  -- what was read, and that a refusal is the one that the text demands
-  pub read : outcome ≢ Failed Read → outcome ≢ Failed Memory → IsRead command source
-  pub never_past : TakesAtMost source.before source.after (most_read command)
-  pub leaves_alone : LeavesAlone command source
-  pub cause : IsTheTexts outcome → IfSome (bytes_for command source.before) (λ bytes. IsOutcomeFor command bytes outcome)
-  -- what its devices show
   pub shown : IsShownBy outcome source out
 
 -- What a run with some arguments gives: what their command does, or `usage` where they are of no command.

@@ -2,5 +2,6 @@ pub mod Causes
 pub mod Judging
 pub mod Making
 pub mod SolvedAbstractions
+pub mod Stages
 pub mod Texts
 pub mod Working

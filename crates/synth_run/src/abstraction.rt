@@ -3,7 +3,8 @@
 ghost use Rattle.std.specs.Prelude.{IfOk, IfErr};
 ghost use Rattle.plant_game.specs.Abstraction.{IsGameOf};
 ghost use Rattle.abstraction_table.specs.Table.{forward_game};
-ghost use Rattle.synth_run.specs.IsOutcomeFor.{IsAccepted, IsTextRefusal, IsPlantRefusal, IsSolvable};
+ghost use Rattle.synth_run.specs.IsOutcomeFor.{IsAccepted, IsSolvable};
+ghost use Rattle.synth_run.specs.inside.Stages.{IsTextRefusal, IsPlantRefusal};
 ghost use Rattle.synth_run.specs.inside.Causes.{IsStopFor};
 
 use crate::stop::Stop;

@@ -4,10 +4,10 @@ ghost use Rattle.command_line.specs.Command.{IsOfCommand, as_words};
 ghost use Rattle.synth_run.specs.Sources.{bytes_for, most_read, NoReadFailed};
 ghost use Rattle.synth_run.specs.RunClauses.{Gives, IsRun, IsRunOf, IsAnswered, IsCompleteAnswer};
 ghost use Rattle.command_line.specs.declared.command.Command.{Command};
-ghost use Rattle.synth_run.specs.IsOutcomeFor.{IsRefusalFor};
 ghost use Rattle.synth_run.specs.inside.Causes.{IsStopFor};
 ghost use Rattle.synth_run.specs.inside.Making.{IsReadFor, IsMade};
 ghost use Rattle.synth_run.specs.inside.SolvedAbstractions.{HasItsGame};
+ghost use Rattle.synth_run.specs.inside.Stages.{IsStagedRefusal};
 ghost use Rattle.synth_run.specs.inside.Texts.{CanBeWritten};
 ghost use Rattle.synth_run.specs.inside.Working.{HasItsAnswer, IsStopped, IsWrittenOut, IsLeftAfter};
 
@@ -79,7 +79,9 @@ fn outcome_of<R: Threads + Sync, S: Source, O: Sink, G: Gate>(
     out: &mut O,
     gate: &G,
 ) -> (Outcome, Option<(Board, Root)>)
-    ensures { Gives (as_words arguments.now) result.0 (reading S.left S.faults S.is_sound source.old source.new) (writing O.got O.faults O.capacity out.old out.new) result.1 }
+    ensures { let read = reading S.left S.faults S.is_sound source.old source.new in
+        let written = writing O.got O.faults O.capacity out.old out.new in
+        Gives (as_words arguments.now) result.0 read written result.1 }
 {
     match parse_command(arguments) {
         Some(command) => carry_out(rt, alloc, command, source, out, gate),
@@ -97,7 +99,9 @@ fn carry_out<R: Threads + Sync, S: Source, O: Sink, G: Gate>(
     gate: &G,
 ) -> (Outcome, Option<(Board, Root)>)
     requires { (arguments : List (List ℕ)) × IsOfCommand arguments command }
-    ensures { IsRunOf command result.0 (reading S.left S.faults S.is_sound source.old source.new) (writing O.got O.faults O.capacity out.old out.new) result.1 }
+    ensures { let read = reading S.left S.faults S.is_sound source.old source.new in
+        let written = writing O.got O.faults O.capacity out.old out.new in
+        IsRunOf command result.0 read written result.1 }
 {
     match work_of(rt, alloc, command, source, gate) {
         Ok(work) => {
@@ -128,7 +132,8 @@ fn work_of<R: Threads + Sync, S: Source, G: Gate>(
 
 /// The bytes that a command works on. `demo` works on none, and leaves its source alone.
 fn read_for<S: Source>(alloc: Global, command: &Command, source: &mut S) -> Result<Vec<u8>, Stop>
-    ensures read { IfOk result (λ bytes. IsReadFor command.now bytes.items (reading S.left S.faults S.is_sound source.old source.new)) }
+    ensures read { let from = reading S.left S.faults S.is_sound source.old source.new in
+        IfOk result (λ bytes. IsReadFor command.now bytes.items from) }
     ensures stopped { IfErr result (IsStopped command.now (reading S.left S.faults S.is_sound source.old source.new)) }
 {
     if let Command::Demo { .. } = command {
@@ -159,7 +164,7 @@ fn work_on<R: Threads + Sync, G: Gate>(
 ) -> Result<Work, Stop>
     requires { (arguments : List (List ℕ)) × IsOfCommand arguments command }
     ensures made { IfOk result (IsMade command bytes.now) }
-    ensures refused { IfErr result (IsStopFor (IsRefusalFor command bytes.now)) }
+    ensures refused { IfErr result (IsStopFor (IsStagedRefusal command bytes.now)) }
 {
     match command {
         Command::Synth { workers } => synth(rt, alloc, bytes, workers, gate),

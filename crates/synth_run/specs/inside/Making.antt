@@ -1,24 +1,23 @@
 -- What a command makes of the bytes that it works on.
-use Rattle.std.specs.Prelude.{◌≡◌, ℕ, List, take, IfSome}
+use Rattle.std.specs.Prelude.{◌≡◌, ℕ, List, Some, take, IfSome}
 use Rattle.command_line.specs.declared.command.Command.{Command}
-use Rattle.run_devices.specs.Devices.{Reading, TakesAtMost}
+use Rattle.command_line.specs.declared.outcome.Outcome.{Outcome}
+use Rattle.run_devices.specs.Devices.{Reading}
 use Rattle.synth_run.specs.declared.work.Work.{Work}
-use Rattle.synth_run.specs.Sources.{bytes_for, most_read, LeavesAlone}
+use Rattle.synth_run.specs.Sources.{bytes_for, most_read}
 use Rattle.synth_run.specs.Headline.{IsAnswer}
 use Rattle.synth_run.specs.Played.{IsPlayed}
-use Rattle.synth_run.specs.RunClauses.{IsRead}
+use Rattle.synth_run.specs.RunClauses.{Takes}
 use Rattle.synth_run.specs.inside.Texts.{bytes_of, CanBeWritten}
 
 -- A command has the bytes that it works on: what it is given, up to one byte past the limit of its text.
 pub record IsReadFor (command : Command) (bytes : List ℕ) (source : Reading) : Type 0 where
   pub front : IfSome (bytes_for command source.before) (λ told. bytes ≡ take (most_read command) told)
-  pub read : IsRead command source
-  pub never_past : TakesAtMost source.before source.after (most_read command)
-  pub leaves_alone : LeavesAlone command source
+  pub takes : (outcome : Outcome) → Takes command outcome source
   pub no_fault : source.faults_after ≡ source.faults_before
 
 -- A command has made its answer of bytes, and what it is to leave.
 pub record IsMade (command : Command) (bytes : List ℕ) (work : Work) : Type 0 where
   pub can_be_written : CanBeWritten work.text
   pub answer : IsAnswer command bytes (bytes_of work.text)
-  pub leaves : IsPlayed command bytes work.played
+  pub leaves : IsPlayed command (Some bytes) work.played

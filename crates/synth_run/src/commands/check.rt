@@ -5,7 +5,8 @@ ghost use Rattle.command_line.specs.declared.command.Command.{Command};
 ghost use Rattle.table_check.specs.declared.verdict.Verdict.TheVariants.{Valid};
 ghost use Rattle.plant_record.specs.declared.aims.GoalKind.TheVariants.{Reach, Keep};
 ghost use Rattle.plant_game.specs.PlantSolution.{IsSolutionOf};
-ghost use Rattle.synth_run.specs.IsOutcomeFor.{IsRefusalFor, IsRowsRefusal, IsSolvable};
+ghost use Rattle.synth_run.specs.IsOutcomeFor.{IsSolvable};
+ghost use Rattle.synth_run.specs.inside.Stages.{IsStagedRefusal, IsRowsRefusal};
 ghost use Rattle.synth_run.specs.inside.Causes.{IsStopFor};
 ghost use Rattle.synth_run.specs.inside.Judging.{IsJudged, IsStopBy};
 ghost use Rattle.synth_run.specs.inside.Making.{IsMade};
@@ -25,7 +26,7 @@ use table_check::{Verdict, check_keep, check_reach};
 /// That the bytes are the table of their plant.
 pub fn check<R: Threads + Sync>(rt: &R, alloc: Global, bytes: &[u8]) -> Result<Work, Stop>
     ensures made { IfOk result (IsMade Command.Check bytes.now) }
-    ensures refused { IfErr result (IsStopFor (IsRefusalFor Command.Check bytes.now)) }
+    ensures refused { IfErr result (IsStopFor (IsStagedRefusal Command.Check bytes.now)) }
 {
     let table = read_table(alloc, bytes)?;
     check_table(rt, alloc, &table)?;

@@ -5,7 +5,8 @@ ghost use Rattle.command_line.specs.declared.command.Command.{Command};
 ghost use Rattle.command_line.specs.declared.outcome.Refusal.TheVariants.{TooManyTurns};
 ghost use Rattle.base.specs.Workers.{AreWorkers};
 ghost use Rattle.synth_run.specs.declared.stop.Stop.TheVariants.{Refused};
-ghost use Rattle.synth_run.specs.IsOutcomeFor.{turns_of, IsRefusalFor};
+ghost use Rattle.synth_run.specs.IsOutcomeFor.{turns_of};
+ghost use Rattle.synth_run.specs.inside.Stages.{IsStagedRefusal};
 ghost use Rattle.synth_run.specs.inside.Causes.{IsStopFor};
 ghost use Rattle.synth_run.specs.inside.Making.{IsMade};
 ghost use Rattle.base.specs.declared.limits.TheConstants.{TURNS_LIMIT};
@@ -32,7 +33,7 @@ pub fn patrol<R: Threads + Sync, G: Gate>(
 ) -> Result<Work, Stop>
     requires { AreWorkers workers }
     ensures made { IfOk result (IsMade (Command.Patrol workers) bytes.now) }
-    ensures refused { IfErr result (IsStopFor (IsRefusalFor (Command.Patrol workers) bytes.now)) }
+    ensures refused { IfErr result (IsStopFor (IsStagedRefusal (Command.Patrol workers) bytes.now)) }
 {
     let (plant, forward) = forward_of_text(rt, alloc, bytes)?;
     limit_turns(turns_of(&plant))?;

@@ -3,7 +3,7 @@
 ghost use Rattle.std.specs.Prelude.{◌≡◌, ◌≤◌, IfSome, IfNone, IfOk, IfErr, OnOk};
 ghost use Rattle.successor_box.specs.Deviations.{HasNoOverflow, deviations_of};
 ghost use Rattle.command_line.specs.declared.command.Command.{Command};
-ghost use Rattle.synth_run.specs.IsOutcomeFor.{IsRefusalFor, IsStartRefusal};
+ghost use Rattle.synth_run.specs.inside.Stages.{IsStagedRefusal, IsStartRefusal};
 ghost use Rattle.synth_run.specs.Traces.{HasRowFor, HasNoRowFor};
 ghost use Rattle.synth_run.specs.inside.Causes.{without_row, IsStopFor};
 ghost use Rattle.synth_run.specs.inside.Making.{IsMade};
@@ -29,7 +29,7 @@ pub fn sim(
 ) -> Result<Work, Stop>
     requires { samples ≤ SAMPLES_LIMIT }
     ensures made { IfOk result (IsMade (Command.Sim samples seed start.now) bytes.now) }
-    ensures refused { IfErr result (IsStopFor (IsRefusalFor (Command.Sim samples seed start.now) bytes.now)) }
+    ensures refused { IfErr result (IsStopFor (IsStagedRefusal (Command.Sim samples seed start.now) bytes.now)) }
 {
     let table = read_table(alloc, bytes)?;
     let slopes = slopes_of(alloc, &table, start)?;

@@ -3,7 +3,7 @@
 ghost use Rattle.std.specs.Prelude.{IfOk, IfErr};
 ghost use Rattle.command_line.specs.declared.command.Command.{Command};
 ghost use Rattle.base.specs.Workers.{AreWorkers};
-ghost use Rattle.synth_run.specs.IsOutcomeFor.{IsRefusalFor};
+ghost use Rattle.synth_run.specs.inside.Stages.{IsStagedRefusal};
 ghost use Rattle.synth_run.specs.inside.Causes.{IsStopFor};
 ghost use Rattle.synth_run.specs.inside.Making.{IsMade};
 
@@ -26,7 +26,7 @@ pub fn stay<R: Threads + Sync, G: Gate>(
 ) -> Result<Work, Stop>
     requires { AreWorkers workers }
     ensures made { IfOk result (IsMade (Command.Stay workers) bytes.now) }
-    ensures refused { IfErr result (IsStopFor (IsRefusalFor (Command.Stay workers) bytes.now)) }
+    ensures refused { IfErr result (IsStopFor (IsStagedRefusal (Command.Stay workers) bytes.now)) }
 {
     let (plant, forward) = forward_of_text(rt, alloc, bytes)?;
     let game = add_sources(rt, alloc, forward)?;

@@ -2,7 +2,7 @@
 
 ghost use Rattle.std.specs.Prelude.{IfOk, IfErr};
 ghost use Rattle.command_line.specs.declared.command.Command.{Command};
-ghost use Rattle.synth_run.specs.IsOutcomeFor.{IsRefusalFor};
+ghost use Rattle.synth_run.specs.inside.Stages.{IsStagedRefusal};
 ghost use Rattle.synth_run.specs.inside.Causes.{IsStopFor};
 ghost use Rattle.synth_run.specs.inside.Making.{IsMade};
 
@@ -16,7 +16,7 @@ use successor_box::find_slopes;
 /// The table that the bytes are, of a plant whose numbers stay in the range.
 pub fn upgrade(alloc: Global, bytes: &[u8]) -> Result<Work, Stop>
     ensures made { IfOk result (IsMade Command.Upgrade bytes.now) }
-    ensures refused { IfErr result (IsStopFor (IsRefusalFor Command.Upgrade bytes.now)) }
+    ensures refused { IfErr result (IsStopFor (IsStagedRefusal Command.Upgrade bytes.now)) }
 {
     let table = read_table(alloc, bytes)?;
     find_slopes(alloc, table.plant())?;

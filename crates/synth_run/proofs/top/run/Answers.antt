@@ -7,7 +7,6 @@ returns-clause-complete g c =
     λ command of_command no_read_fault no_write_fault.
     let gives = c.outcome_of-outcome.ensures.of_command command of_command in
     rw c.status.ensures
-    (answer_is_complete command c.outcome_of-outcome.result.0 _ gives.can_end
-    (read_did_not_fail command c.outcome_of-outcome.result.0 _ _ gives.can_end gives.shown.read_fault no_read_fault)
-    (λ e. no_write_fault (rose_by_one _ _ (gives.shown.write_fault e)))
-    gives.cause)
+    (answer_is_complete command c.outcome_of-outcome.result.0 _ gives.ends
+    (read_did_not_fail command c.outcome_of-outcome.result.0 _ _ _ gives.ends gives.shown.read_fault no_read_fault)
+    (λ e. no_write_fault (rose_by_one _ _ (gives.shown.write_fault e))))

@@ -1,10 +1,10 @@
 use Rattle.std.proofs.Common.{List, ℕ, subst}
 use Rattle.std.specs.Prelude.{IfOk, IfErr}
 use Rattle.run_devices.specs.Devices.{reading}
-use Rattle.synth_run.specs.IsOutcomeFor.{IsRefusalFor}
 use Rattle.synth_run.specs.inside.Causes.{IsStopFor}
 use Rattle.synth_run.specs.inside.Making.{IsMade}
 use Rattle.synth_run.specs.inside.SolvedAbstractions.{HasItsGame}
+use Rattle.synth_run.specs.inside.Stages.{IsStagedRefusal}
 use Rattle.synth_run.specs.inside.Working.{HasItsAnswer, IsStopped}
 use Rattle.synth_run.proofs.Leaving.{to_be_left}
 use Rattle.base.proofs.Results.{passed_on}
@@ -35,9 +35,9 @@ returns-clause-stopped g c =
     let command = c.args.command in
     let source = reading g.S.Source.left g.S.Source.faults g.S.Source.is_sound c.args.source.now c.read_for.new.source in
     let read = c.in_ok-bytes.bytes.items in
-    IfErr-weaker c.work_on.result (IsStopFor (IsRefusalFor command read)) (IsStopped command source)
+    IfErr-weaker c.work_on.result (IsStopFor (IsStagedRefusal command read)) (IsStopped command source)
     (λ stop refused. stopped command source read stop c.in_ok-bytes.ensures.read refused)
-    (subst (λ (bytes : List ℕ). IfErr c.work_on.result (IsStopFor (IsRefusalFor command bytes))) c.deref.ensures.value c.work_on.ensures.refused)
+    (subst (λ (bytes : List ℕ). IfErr c.work_on.result (IsStopFor (IsStagedRefusal command bytes))) c.deref.ensures.value c.work_on.ensures.refused)
 
 pub returns-in_err-bytes-clause-stopped : goal.returns-in_err-bytes-clause-stopped
 returns-in_err-bytes-clause-stopped g c = passed_on c.from_residual.result c.in_err-bytes.field-0.0 _ c.from_residual.ensures.1 c.in_err-bytes.ensures.stopped

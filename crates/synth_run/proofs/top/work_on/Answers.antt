@@ -2,9 +2,9 @@ use Rattle.std.proofs.Common.{◌≡◌, ℕ, List, sym, subst}
 use Rattle.command_line.specs.declared.command.Command.TheVariants.{Demo}
 use Rattle.synth_run.specs.declared.stop.Stop.{Stop}
 use Rattle.synth_run.specs.declared.work.Work.{Work}
-use Rattle.synth_run.specs.IsOutcomeFor.{IsRefusalFor}
 use Rattle.synth_run.specs.inside.Causes.{IsStopFor, without_memory}
 use Rattle.synth_run.specs.inside.Making.{IsMade}
+use Rattle.synth_run.specs.inside.Stages.{IsStagedRefusal}
 use Rattle.synth_run.proofs.top.work_on.Goals as goal
 use Rattle.std.proofs.lemmas.Result.{IfOk-weaker, IfErr-weaker}
 
@@ -37,5 +37,5 @@ pub returns-in-Demo-clause-refused : goal.returns-in-Demo-clause-refused
 returns-in-Demo-clause-refused g c =
     let command = Demo c.in-Demo.number c.in-Demo.workers in
     rw c.in-Demo.is
-    (IfErr-weaker c.demo.result (λ (stop : Stop). stop ≡ without_memory) (IsStopFor (IsRefusalFor command c.args.bytes.now))
-    (λ stop memory. subst (λ (s : Stop). IsStopFor (IsRefusalFor command c.args.bytes.now) s) (sym memory) tt) c.demo.ensures.memory)
+    (IfErr-weaker c.demo.result (λ (stop : Stop). stop ≡ without_memory) (IsStopFor (IsStagedRefusal command c.args.bytes.now))
+    (λ stop memory. subst (λ (s : Stop). IsStopFor (IsStagedRefusal command c.args.bytes.now) s) (sym memory) tt) c.demo.ensures.memory)

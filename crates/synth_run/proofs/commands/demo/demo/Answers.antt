@@ -3,6 +3,7 @@ use Rattle.game_core.specs.Game.{Game}
 use Rattle.plant_record.specs.declared.aims.GoalKind.TheVariants.{Reach}
 use Rattle.plant_game.specs.Abstraction.{IsGameOf}
 use Rattle.demo_plants.specs.Demo.{demo_plant_of}
+use Rattle.demo_plants.proofs.Texts.{texts_spell}
 use Rattle.synth_run.specs.inside.Causes.{without_memory}
 use Rattle.synth_run.specs.declared.stop.Stop.{Stop}
 use Rattle.synth_run.proofs.Leaving.{left, solved_on}
@@ -22,7 +23,8 @@ returns-clause-made g c =
     let n = c.args.number in
     let solved = c.in_ok-solved.solved in
     let on = solved_on (demo_plant_of n) Reach solved (is_to_reach n) (subst (λ (h : Game). IsGameOf (demo_plant_of n) h) (sym c.in_ok-solved.ensures.game) c.in_ok-forward.ensures.game) c.in_ok-solved.ensures.solved in
-    λ bytes. record { can_be_written = tt; answer = c.in_ok-line.ensures; leaves = left (demo_plant_of n) solved.solution.board solved.solution.root on }
+    let spells = (texts_spell n c.requires.number).spells in
+    λ bytes. record { can_be_written = tt; answer = (demo_plant_of n, spells, c.in_ok-line.ensures); leaves = (demo_plant_of n, spells, left (demo_plant_of n) solved.solution.board solved.solution.root on) }
 
 pub returns-in_err-forward-clause-memory : goal.returns-in_err-forward-clause-memory
 returns-in_err-forward-clause-memory g c = passed_on c.from_residual.result c.in_err-forward.field-0.0 (λ (stop : Stop). stop ≡ without_memory) c.from_residual.ensures.1 c.in_err-forward.ensures.memory

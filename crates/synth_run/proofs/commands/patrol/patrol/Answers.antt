@@ -2,7 +2,8 @@ use Rattle.std.proofs.Common.{inr, ◌*◌, ◌^◌, ◌<◌, ◌≤◌, ℕ, le
 use Rattle.plant_game.specs.Abstraction.{IsGameOf}
 use Rattle.abstraction_table.specs.Table.{game_of}
 use Rattle.synth_run.specs.declared.stop.Stop.{Stop}
-use Rattle.synth_run.specs.IsOutcomeFor.{turns_of, IsPatrolRefusal, IsTextRefusal}
+use Rattle.synth_run.specs.IsOutcomeFor.{turns_of}
+use Rattle.synth_run.specs.inside.Stages.{IsPatrolRefusal, IsTextRefusal}
 use Rattle.synth_run.specs.inside.Causes.{IsStopFor}
 use Rattle.synth_run.proofs.PatrolTables.{patrol_table, patrol_stop}
 use Rattle.base.proofs.Results.{passed_on}

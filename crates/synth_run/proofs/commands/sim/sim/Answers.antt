@@ -2,7 +2,7 @@ use Rattle.std.proofs.Common.{List, refl, ap, ◌∙◌}
 use Rattle.std.specs.Prelude.{ℤ}
 use Rattle.loop_sim.specs.Trace.{row_at}
 use Rattle.loop_sim.specs.TraceText.{trace_text}
-use Rattle.synth_run.specs.IsOutcomeFor.{IsStartRefusal}
+use Rattle.synth_run.specs.inside.Stages.{IsStartRefusal}
 use Rattle.synth_run.specs.inside.Causes.{of_table}
 use Rattle.base.proofs.Results.{passed_on}
 use Rattle.synth_run.proofs.Tables.{table_stop, rows_stop}

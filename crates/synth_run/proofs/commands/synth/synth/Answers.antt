@@ -35,7 +35,7 @@ returns-clause-made g c =
           controls = tables_control (table_text written_version p rows) p rows (record { limits = accepted.limits; fitting = fits; version = written_version; text = refl }) solution;
         },
       );
-      leaves = (p, accepted, left p solved.solution.board solved.solution.root (solved_on p c.goal.result solved c.goal.ensures abstraction c.in_ok-solved.ensures.solved));
+      leaves = (p, accepted.limits, accepted, left p solved.solution.board solved.solution.root (solved_on p c.goal.result solved c.goal.ensures abstraction c.in_ok-solved.ensures.solved));
     }
 
 pub returns-in_err-plant-clause-refused : goal.returns-in_err-plant-clause-refused

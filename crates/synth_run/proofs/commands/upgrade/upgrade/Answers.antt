@@ -1,4 +1,4 @@
-use Rattle.synth_run.specs.IsOutcomeFor.{IsOverflow}
+use Rattle.synth_run.specs.inside.Stages.{IsOverflow}
 use Rattle.synth_run.specs.inside.Causes.{of_table}
 use Rattle.base.proofs.Results.{passed_on}
 use Rattle.synth_run.proofs.Tables.{table_stop}
