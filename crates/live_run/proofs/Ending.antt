@@ -20,7 +20,7 @@ use Rattle.command_line.specs.declared.outcome.Outcome.{Outcome}
 use Rattle.command_line.specs.declared.outcome.Outcome.TheVariants.{Done, Usage, Refused, Failed}
 use Rattle.command_line.specs.Statuses.{status_of}
 use Rattle.live_run.specs.LiveCauses.{of_script, of_read}
-use Rattle.live_run.specs.LiveRuns.{most_read, IsAnswered, IsCutOff, IsLiveEnd, IsCompleteAnswer}
+use Rattle.live_run.specs.LiveRuns.{most_read, IsAnswered, IsCutOff, Ends, IsLiveEnd, IsCompleteAnswer}
 use Rattle.live_run.specs.inside.Answering.{IsUnanswered}
 use Rattle.live_run.specs.declared.live_stop.LiveStop.{LiveStop}
 use Rattle.live_run.specs.declared.live_stop.LiveStop.TheVariants.{Unread, Unanswered}
@@ -37,6 +37,12 @@ of_whole Holds (Some bytes) after read up_to longer h =
       | inl lt ↦ longer bytes lt front
       | inr le ↦ subst Holds (take_all most_read bytes le) front
     ]
+
+-- where a source doesn't tell its script, what was read is one of which this holds
+of_some : (Holds : List ℕ → Type 0) (told after : Option (List ℕ)) (read : List ℕ) → ReadUpTo told after most_read read → ((bytes : List ℕ) → most_read < length bytes → Holds (take most_read bytes) → Holds bytes) → Holds read
+    → (script : List ℕ) × IfSome told (λ all. all ≡ script) × Holds script
+of_some Holds None after read up_to longer h = (read, tt, h)
+of_some Holds (Some bytes) after read up_to longer h = (bytes, refl, of_whole Holds (Some bytes) after read up_to longer h)
 
 to_the_limit : (told after : Option (List ℕ)) (read : List ℕ) → ReadUpTo told after most_read read → IfSome told (λ bytes. after ≡ Some (drop most_read bytes))
 to_the_limit None after read up_to = tt
@@ -60,26 +66,22 @@ refuses_whole scripts.Memory bytes lt h = h
 -- there was no memory
 ends_without_memory : (source : Reading) (out : Writing) → TakesAtMost source.before source.after most_read → source.faults_after ≡ source.faults_before → IsUntouched out → IsLiveEnd (Failed Memory) source out
 ends_without_memory source out within stood untouched = record {
-  not_usage = λ e. cc;
+  ends = tt;
   answered = λ e. absurd (let clash : Failed Memory ≡ Done = e in cc);
   cut_off = λ e. absurd (let clash : Failed Memory ≡ Failed Write = e in cc);
   read = λ _ some. absurd (some refl);
   never_past = within;
-  refused = λ refusal e. absurd (let clash : Failed Memory ≡ Refused refusal = e in cc);
-  can_refuse = λ refusal e. absurd (let clash : Failed Memory ≡ Refused refusal = e in cc);
   shown = shown_without_memory source out stood untouched;
 }
 
 -- nothing was read, or not all
 ends_unread : (fault : ReadFault) (source : Reading) (out : Writing) → IsUnread fault source → IsUntouched out → IsLiveEnd (of_read fault) source out
 ends_unread reads.Device source out h untouched = record {
-  not_usage = λ e. cc;
+  ends = tt;
   answered = λ e. absurd (let clash : Failed Read ≡ Done = e in cc);
   cut_off = λ e. absurd (let clash : Failed Read ≡ Failed Write = e in cc);
   read = λ other _. absurd (other refl);
   never_past = h.never_past;
-  refused = λ refusal e. absurd (let clash : Failed Read ≡ Refused refusal = e in cc);
-  can_refuse = λ refusal e. absurd (let clash : Failed Read ≡ Refused refusal = e in cc);
   shown = shown_unread source out (h.failed refl) (λ is_sound. h.sound is_sound refl) untouched;
 }
 ends_unread reads.Memory source out h untouched = ends_without_memory source out h.never_past (h.stood (λ e. cc)) untouched
@@ -87,13 +89,12 @@ ends_unread reads.Memory source out h untouched = ends_without_memory source out
 -- the script is refused
 ends_refused : (fault : ScriptFault) (refusal : Refusal) (source : Reading) (read : List ℕ) (out : Writing) → of_script fault ≡ Refused refusal → IsRead source read → IsScriptRefusedFor read fault → IsUntouched out → IsLiveEnd (Refused refusal) source out
 ends_refused fault refusal source read out same is h untouched = record {
-  not_usage = λ e. cc;
+  ends = of_some (λ script. (why : ScriptFault) × (Refused refusal ≡ of_script why) × IsScriptRefusedFor script why) source.before source.after read is.up_to
+      (λ bytes lt g. (g.0, g.1, refuses_whole g.0 bytes lt g.2)) (fault, sym same, h);
   answered = λ e. absurd (let clash : Refused refusal ≡ Done = e in cc);
   cut_off = λ e. absurd (let clash : Refused refusal ≡ Failed Write = e in cc);
   read = λ _ _. to_the_limit source.before source.after read is.up_to;
   never_past = is.never_past;
-  refused = λ _ _. (fault, sym same, of_whole (λ script. IsScriptRefusedFor script fault) source.before source.after read is.up_to (refuses_whole fault) h);
-  can_refuse = λ _ _. (read, fault, sym same, h);
   shown = shown_refused refusal source out is.no_fault untouched;
 }
 
@@ -111,25 +112,21 @@ ends_stopped (Unanswered fault) source out h untouched = ends_unanswered fault s
 
 ends_done : (text : List ℕ) (source : Reading) (read : List ℕ) (out : Writing) → IsRead source read → IsLiveText read text → GainsWhole out text → IsLiveEnd Done source out
 ends_done text source read out is answers whole = record {
-  not_usage = λ e. cc;
+  ends = tt;
   answered = λ _. of_whole (λ script. IsAnswered script out) source.before source.after read is.up_to (λ bytes lt h. (h.0, answers_whole h.0 bytes lt h.1, h.2)) (text, answers, whole);
   cut_off = λ e. absurd (let clash : Done ≡ Failed Write = e in cc);
   read = λ _ _. to_the_limit source.before source.after read is.up_to;
   never_past = is.never_past;
-  refused = λ refusal e. absurd (let clash : Done ≡ Refused refusal = e in cc);
-  can_refuse = λ refusal e. absurd (let clash : Done ≡ Refused refusal = e in cc);
   shown = shown_done source out text is.no_fault whole;
 }
 
 ends_cut_off : (text : List ℕ) (source : Reading) (read : List ℕ) (out : Writing) → IsRead source read → IsLiveText read text → GainsPart out text → IsLiveEnd (Failed Write) source out
 ends_cut_off text source read out is answers part = record {
-  not_usage = λ e. cc;
+  ends = tt;
   answered = λ e. absurd (let clash : Failed Write ≡ Done = e in cc);
   cut_off = λ _. of_whole (λ script. IsCutOff script out) source.before source.after read is.up_to (λ bytes lt h. (h.0, answers_whole h.0 bytes lt h.1, h.2)) (text, answers, part);
   read = λ _ _. to_the_limit source.before source.after read is.up_to;
   never_past = is.never_past;
-  refused = λ refusal e. absurd (let clash : Failed Write ≡ Refused refusal = e in cc);
-  can_refuse = λ refusal e. absurd (let clash : Failed Write ≡ Refused refusal = e in cc);
   shown = shown_cut_off source out text is.no_fault part;
 }
 
@@ -149,20 +146,19 @@ of_refusal script fault refused = record {
   refused = λ other h. inl (ap (λ (f : ScriptFault). status_of (of_script f)) (one_script_refusal script fault other refused h));
 }
 
-pub complete : (outcome : Outcome) (before : Option (List ℕ)) → (outcome ≡ Usage → ⊥) → (outcome ≡ Failed Read → ⊥) → (outcome ≡ Failed Write → ⊥) → (outcome ≡ Done → IfSome before (λ script. (text : List ℕ) × IsLiveText script text))
-    → ((refusal : Refusal) → outcome ≡ Refused refusal → (fault : ScriptFault) × (outcome ≡ of_script fault) × IfSome before (λ script. IsScriptRefusedFor script fault)) → IfSome before (IsCompleteAnswer (status_of outcome))
-complete outcome None usage read write done refused = tt
-complete Done (Some script) usage read write done refused = record {
+pub complete : (outcome : Outcome) (before : Option (List ℕ)) → Ends before outcome → (outcome ≡ Failed Read → ⊥) → (outcome ≡ Failed Write → ⊥) → (outcome ≡ Done → IfSome before (λ script. (text : List ℕ) × IsLiveText script text)) → IfSome before (IsCompleteAnswer (status_of outcome))
+complete outcome None ends read write done = tt
+complete Done (Some script) ends read write done = record {
   answered = λ commands is. inl refl;
   refused = λ fault h. absurd (let d = done refl in script_or_refused script d.1.commands fault d.1.is_script h);
 }
-complete Usage (Some script) usage read write done refused = absurd (usage refl)
-complete (Refused refusal) (Some script) usage read write done refused =
-    let why = refused refusal refl in
-    subst (λ (o : Outcome). IsCompleteAnswer (status_of o) script) (sym why.1) (of_refusal script why.0 why.2)
-complete (Failed Read) (Some script) usage read write done refused = absurd (read refl)
-complete (Failed Write) (Some script) usage read write done refused = absurd (write refl)
-complete (Failed Memory) (Some script) usage read write done refused = record { answered = λ commands is. inr refl; refused = λ fault h. inr refl }
+complete Usage (Some script) ends read write done = absurd ends
+complete (Refused refusal) (Some script) ends read write done =
+    let why = ends.2 in
+    subst (λ (o : Outcome). IsCompleteAnswer (status_of o) script) (sym why.1) (of_refusal script why.0 (subst (λ (all : List ℕ). IsScriptRefusedFor all why.0) (sym ends.1) why.2))
+complete (Failed Read) (Some script) ends read write done = absurd (read refl)
+complete (Failed Write) (Some script) ends read write done = absurd (write refl)
+complete (Failed Memory) (Some script) ends read write done = record { answered = λ commands is. inr refl; refused = λ fault h. inr refl }
 
 pub some_text : (script : List ℕ) (out : Writing) → IsAnswered script out → (text : List ℕ) × IsLiveText script text
 some_text script out h = (h.0, h.1)

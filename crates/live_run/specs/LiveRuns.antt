@@ -1,11 +1,10 @@
 -- What a run of a live script gives.
-use Rattle.std.specs.Prelude.{◌≡◌, ◌≢◌, ◌⊎◌, ◌↔◌, ℕ, ◌+◌, List, [], ◌∷◌, drop, Some, IfSome, codes}
+use Rattle.std.specs.Prelude.{◌≡◌, ◌≢◌, ◌⊎◌, ◌↔◌, ℕ, ◌+◌, List, [], ◌∷◌, drop, Option, Some, IfSome, codes}
 use Rattle.std.specs.Fmt.{decimal}
 use Rattle.run_devices.specs.Devices.{Reading, Writing, GainsWhole, GainsPart, TakesAtMost, AreUnused}
 use Rattle.base.specs.Workers.{AreWorkers}
 use Rattle.command_line.specs.Statuses.{status_of}
 use Rattle.command_line.specs.Ends.{IsShownBy, IsReported}
-use Rattle.command_line.specs.declared.outcome.Refusal.{Refusal}
 use Rattle.command_line.specs.declared.outcome.Failure.TheVariants.{Read, Write, Memory}
 use Rattle.command_line.specs.declared.outcome.Outcome.{Outcome}
 use Rattle.command_line.specs.declared.outcome.Outcome.TheVariants.{Done, Usage, Refused, Failed}
@@ -33,18 +32,19 @@ IsAnswered script out = (text : List ℕ) × IsLiveText script text × GainsWhol
 abbrev pub IsCutOff : List ℕ → Writing → Type 0
 IsCutOff script out = (text : List ℕ) × IsLiveText script text × GainsPart out text
 
+-- how the command ends: for a refusal of its script, or of some script where the source doesn't tell its bytes, or else
+abbrev pub Ends : Option (List ℕ) → Outcome → Type 0
+Ends told Usage = ⊥
+Ends told (Refused refusal) = (script : List ℕ) × IfSome told (λ all. all ≡ script) × ((fault : ScriptFault) × (Refused refusal ≡ of_script fault) × IsScriptRefusedFor script fault)
+Ends told outcome = Unit {0}
+
 -- What a run of the command gives, by how it ends.
 pub record IsLiveEnd (outcome : Outcome) (source : Reading) (out : Writing) : Type 0 where
-  pub not_usage : outcome ≢ Usage
-  -- what was written
+  pub ends : Ends source.before outcome
   pub answered : outcome ≡ Done → IfSome source.before (λ script. IsAnswered script out)
   pub cut_off : outcome ≡ Failed Write → IfSome source.before (λ script. IsCutOff script out)
-  -- what was read, and that a refusal is the script's, or that of some script where the source doesn't tell its bytes
   pub read : outcome ≢ Failed Read → outcome ≢ Failed Memory → IfSome source.before (λ script. source.after ≡ Some (drop most_read script))
   pub never_past : TakesAtMost source.before source.after most_read
-  pub refused : (refusal : Refusal) → outcome ≡ Refused refusal → (fault : ScriptFault) × (outcome ≡ of_script fault) × IfSome source.before (λ script. IsScriptRefusedFor script fault)
-  pub can_refuse : (refusal : Refusal) → outcome ≡ Refused refusal → (script : List ℕ) × (fault : ScriptFault) × (outcome ≡ of_script fault) × IsScriptRefusedFor script fault
-  -- what its devices show
   pub shown : IsShownBy outcome source out
 
 -- What a run with some arguments gives: what their command does, or `usage` where they are of no command.

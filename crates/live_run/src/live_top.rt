@@ -56,7 +56,9 @@ fn outcome_of<R: Wait, S: Source, O: Sink>(
     source: &mut S,
     out: &mut O,
 ) -> Outcome
-    ensures { Gives (as_words arguments.now) result (reading S.left S.faults S.is_sound source.old source.new) (writing O.got O.faults O.capacity out.old out.new) }
+    ensures { let read = reading S.left S.faults S.is_sound source.old source.new in
+        let written = writing O.got O.faults O.capacity out.old out.new in
+        Gives (as_words arguments.now) result read written }
 {
     match parse_readers(arguments) {
         Some(readers) => carry_out(rt, alloc, readers, source, out),
@@ -73,7 +75,9 @@ fn carry_out<R: Wait, S: Source, O: Sink>(
     out: &mut O,
 ) -> Outcome
     requires { AreWorkers readers }
-    ensures { IsLiveEnd result (reading S.left S.faults S.is_sound source.old source.new) (writing O.got O.faults O.capacity out.old out.new) }
+    ensures { let read = reading S.left S.faults S.is_sound source.old source.new in
+        let written = writing O.got O.faults O.capacity out.old out.new in
+        IsLiveEnd result read written }
 {
     match answers_on_source(rt, alloc, readers, source) {
         Ok(text) => write_out(&text, out),
@@ -89,7 +93,8 @@ fn answers_on_source<R: Wait, S: Source>(
     source: &mut S,
 ) -> Result<Vec<u8>, LiveStop>
     requires { AreWorkers readers }
-    ensures answer { IfOk result (λ text. IsWorkedOut text.items (reading S.left S.faults S.is_sound source.old source.new)) }
+    ensures answer { let from = reading S.left S.faults S.is_sound source.old source.new in
+        IfOk result (λ text. IsWorkedOut text.items from) }
     ensures stopped { IfErr result (λ stop. IsStopped stop (reading S.left S.faults S.is_sound source.old source.new)) }
 {
     let script = read_up_to(alloc, source, SCRIPT_LIMIT + 1)?;

@@ -51,7 +51,10 @@ pub fn carry_out<R: Threads + Wait + Sync, S: Source, O: Sink, E: Sink>(
     out: &mut O,
     err: &mut E,
 ) -> u8
-    ensures { DoesAsAsked (as_words arguments.now) result (reading S.left S.faults S.is_sound source.old source.new) (writing O.got O.faults O.capacity out.old out.new) (writing E.got E.faults E.capacity err.old err.new) }
+    ensures { let read = reading S.left S.faults S.is_sound source.old source.new in
+        let written = writing O.got O.faults O.capacity out.old out.new in
+        let reported = writing E.got E.faults E.capacity err.old err.new in
+        DoesAsAsked (as_words arguments.now) result read written reported }
 {
     if asks_for_live(arguments) {
         run_live(rt, alloc, arguments, source, out, err)

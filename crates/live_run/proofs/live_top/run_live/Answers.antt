@@ -13,8 +13,7 @@ returns-clause-complete g c =
     let gives = c.outcome_of-outcome.ensures.of_command readers of_command in
     let out = writing g.O.Sink.got g.O.Sink.faults g.O.Sink.capacity c.args.out.now c.outcome_of-outcome.new.out in
     rw c.status.ensures
-    (complete c.outcome_of-outcome.result _ gives.not_usage
+    (complete c.outcome_of-outcome.result _ gives.ends
     (λ e. no_read_fault (rose_by_one _ _ (gives.shown.read_fault e)))
     (λ e. no_write_fault (rose_by_one _ _ (gives.shown.write_fault e)))
-    (λ e. IfSome-weaker _ (λ script. IsAnswered script out) (λ script. (text : List ℕ) × IsLiveText script text) (λ script. some_text script out) (gives.answered e))
-    gives.refused)
+    (λ e. IfSome-weaker _ (λ script. IsAnswered script out) (λ script. (text : List ℕ) × IsLiveText script text) (λ script. some_text script out) (gives.answered e)))
