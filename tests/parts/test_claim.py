@@ -1,4 +1,4 @@
-"""tests/claim against the repository, and docs/READING.md and docs/DEFINITIONS.md against what it lists."""
+"""tests/write/claim against the repository, and docs/READING.md and docs/DEFINITIONS.md against what it lists."""
 
 import re
 import subprocess
@@ -9,7 +9,7 @@ def check(report):
     status, output = run(report, "--strays")
     report.expect("files of specs/ that no public clause names", (0, ""), (status, output))
     status, output = run(report, "--unnamed")
-    report.expect("definitions in public clauses that neither DEFINITIONS nor tests/names_page has", (0, ""), (status, output))
+    report.expect("definitions in public clauses that neither DEFINITIONS nor tests/write/names_page has", (0, ""), (status, output))
     status, output = run(report)
     report.expect("the definitions of the claim are listed", 0, status)
     reading = (report.top / "docs/READING.md").read_text()

@@ -7,7 +7,7 @@ from gaffcurrant_plant.counting import TooMuch, edges_of
 from gaffcurrant_plant.reader import read_plant
 from gaffcurrant_plant.table import read_table, text_of_table
 
-from hostility import games
+from attacks import games
 
 DRAWN, CELLS, VECTORS = 40, 40, 6
 # Numbers past 64 bits, which Python's integers hold.

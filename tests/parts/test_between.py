@@ -21,7 +21,7 @@ def check(report):
         print("skipped: numpy isn't there, so ways between samples aren't enclosed")
         return
     python = sys.executable if subprocess.run([sys.executable, "-c", "import numpy"], capture_output=True, check=False).returncode == 0 else DEBIAN
-    done = subprocess.run([python, str(report.top / "tests/tooling/ways.py"), str(report.top / "tools")], capture_output=True, check=False)
+    done = subprocess.run([python, str(report.top / "tests/parts/ways.py"), str(report.top / "tools")], capture_output=True, check=False)
     report.expect("enclosures hold the ways", (0, b"", b""), (done.returncode, done.stdout[:300], done.stderr[-300:]))
     check_room(report)
     check_circle(report)

@@ -1,5 +1,5 @@
 """Stay texts and patrol texts: how the module reads, writes and drives by them, what tools/why, tools/sim and the readers of examples/device say of
-them, and what the program writes beside a few lines of brute force. The games' brute force is that of tests/hostility/oracle.py."""
+them, and what the program writes beside a few lines of brute force. The games' brute force is that of tests/attacks/oracle.py."""
 
 import os
 import random
@@ -11,7 +11,7 @@ from pathlib import Path
 from gaffcurrant_plant.reader import Refused
 from gaffcurrant_plant.solving import simulate
 from gaffcurrant_plant.table import read_text, text_of_patrol, text_of_stay
-from hostility import games, oracle
+from attacks import games, oracle
 
 from .check_readers import c_answers, python_answers
 

@@ -1,21 +1,12 @@
-#!/usr/bin/env python3
-"""Lists the definitions that public clauses rest on, by the names that stand in them.
-
-    tests/claim            the definitions on which the clauses of `run` rest, file by file, with their lines
-    tests/claim --strays   each file of specs/ outside of specs/inside/ that no public clause names, directly or through
-                           definitions; ends with status 1 where there is one
-    tests/claim --unnamed  each definition that a public clause names, and neither docs/DEFINITIONS.md nor the page that
-                           tests/names_page prints; ends with status 1 if there is one
+"""The definitions of specs/ that public clauses name, and those that these lead to.
 
 It reads text and knows no scopes: a name counts wherever it stands in a clause.
 """
-import pathlib
 import re
-import subprocess
-import sys
 from collections import defaultdict
+from pathlib import Path
 
-TOP = pathlib.Path(__file__).resolve().parent.parent
+TOP = Path(__file__).resolve().parents[2]
 CRATES = TOP / "crates"
 NAME = r"[^\s(){}.,;:=\"\\]+"
 WORD = re.compile(r"[^\s(){}.,;\"\\]+")
@@ -142,37 +133,6 @@ def named_in(path, only=None):
         yield from named(clause, imports)
 
 
-def show_claim(files):
-    top = next(CRATES.glob("synth_run/src/top.rt"))
-    found = reach(named_in(top, "pub fn run<"), files)
-    per_file = defaultdict(list)
-    for crate, module, name in found:
-        per_file[crate, module].append(name)
-    lines = 0
-    for crate, module in sorted(per_file):
-        file = files[crate, module]
-        count = sum(len(file.items[name]) for name in per_file[crate, module])
-        lines += count
-        print(f"{crate}/specs/{module.replace('.', '/')}.antt: {count} lines: {', '.join(sorted(per_file[crate, module]))}")
-    print(f"{len(found)} definitions in {len(per_file)} files, {lines} lines")
-    return 0
-
-
-def show_strays(files):
-    start = set()
-    for path in CRATES.glob("*/src/**/*.rt"):
-        start.update(named_in(path))
-    found = {(crate, module) for crate, module, _ in reach(start, files)}
-    strays = [
-        file.path.relative_to(CRATES)
-        for (crate, module), file in sorted(files.items())
-        if file.items and (crate, module) not in found and not module.startswith("inside")
-    ]
-    for path in strays:
-        print(f"no public clause names {path}")
-    return 1 if strays else 0
-
-
 def names_in_definitions():
     """The words in backticks of docs/DEFINITIONS.md."""
     return words_in_backticks((TOP / "docs/DEFINITIONS.md").read_text())
@@ -182,35 +142,7 @@ def words_in_backticks(text):
     return set(re.findall(r"[^\s`.,]+", " ".join(re.findall(r"`([^`\n]+)`", text))))
 
 
-def show_unnamed(files):
-    page = subprocess.run([sys.executable, str(TOP / "tests/names_page")], capture_output=True, check=True, text=True).stdout
-    told = names_in_definitions() | words_in_backticks(page)
-    unnamed = [
-        (crate, module, name)
-        for crate, module, name in sorted(of_public_clauses(files))
-        if name not in told and not module.startswith("inside")
-    ]
-    for crate, module, name in unnamed:
-        print(f"neither DEFINITIONS.md nor tests/names_page has {name} of {crate}/specs/{module.replace('.', '/')}.antt")
-    return 1 if unnamed else 0
-
-
 def of_public_clauses(files):
     """The definitions that public clauses name themselves."""
     found = {item for path in CRATES.glob("*/src/**/*.rt") for item in named_in(path)}
     return {(crate, module, name) for crate, module, name in found if (crate, module) in files and name in files[crate, module].items}
-
-
-WORDS = {"--strays": show_strays, "--unnamed": show_unnamed}
-
-
-def main():
-    if len(sys.argv) > 1 and sys.argv[1] not in WORDS:
-        print(__doc__.strip())
-        return 0 if sys.argv[1] == "--help" else 2
-    show = WORDS[sys.argv[1]] if len(sys.argv) > 1 else show_claim
-    return show(modules())
-
-
-if __name__ == "__main__":
-    sys.exit(main())
