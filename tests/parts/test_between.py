@@ -8,7 +8,7 @@ import sys
 
 from gaffcurrant_plant.command import DEBIAN
 
-from .check_doubles import has_numpy, text_of
+from .test_doubles import has_numpy, text_of
 
 # A carriage that steps by up to a metre and a half, and a wall a tenth of a metre thick with a gap; and the same between two stations in turn.
 ROOM = "state x 0 10 cells 20\nstate y 0 10 cells 20\ninput u 0.5 0 -1 1 -1.5 1.5\ninput v 0.5 0 -1 1 -1.5 1.5\nnoise w -0.05 0.05\nnext x = x + u + w\n" \

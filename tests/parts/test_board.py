@@ -1,72 +1,84 @@
-"""The program for ARM64 by an emulator: it writes what the program writes here, and passes the cases and the games of tests/hostile."""
+"""The program for ARM64 by an emulator: it writes what the program writes here, and passes the cases and the games of
+tests/hostile."""
 
-import os
 import shutil
 import subprocess
-import tempfile
-from pathlib import Path
+import unittest
+
+from .product import ran
+from .tool_case import TOP, ToolCase
 
 COMPILER, EMULATOR = "aarch64-linux-gnu-gcc", "qemu-aarch64"
+MISSING = [program for program in ("rt", COMPILER, EMULATOR) if shutil.which(program) is None]
+PACKAGES = "apt-get install gcc-aarch64-linux-gnu qemu-user"
 # How many of the random games are played.
 GAMES = 100
+# Words of the command line, which read nothing.
+WORDS = [(), ("solve",), ("synth",), ("synth", "0"), ("synth", "1", "2"), ("sim", "1"), ("demo", "20", "4")]
+WORDS += [("synth", "x" * 100000), ("", "1"), (b"\xff", "1")]
 
 
-def check(report):
-    missing = [program for program in ("rt", COMPILER, EMULATOR) if shutil.which(program) is None]
-    if missing:
-        print(f"skipped: the program isn't tried for ARM64, there is no {', '.join(missing)} (apt-get install gcc-aarch64-linux-gnu qemu-user)")
-        return
-    kept = ["--standing"] if (report.top / "crates/synth_run/out/rlib/synth_run.rlib").exists() else []
-    with tempfile.TemporaryDirectory() as name:
-        room = Path(name)
-        done = subprocess.run([report.top / "tools/program", *kept, "--target", "aarch64", room, "--jobs", "1"], capture_output=True, text=True, check=False)
-        report.expect("board: tools/program", (0, f"{room}/gaffcurrant\n"), (done.returncode, done.stdout or done.stderr[-300:]))
-        report.holds("board: the program is proved for ARM64", " target=aarch64-unknown-linux-gnu " in last_verdict(done.stderr), last_verdict(done.stderr))
-        if done.returncode == 0:
-            check_program(report, [EMULATOR, room / "gaffcurrant"])
-            check_tests(report, f"{EMULATOR} {room}/gaffcurrant")
+@unittest.skipIf(MISSING, f"the program isn't tried for ARM64, there is no {', '.join(MISSING)} ({PACKAGES})")
+class Board(ToolCase):
+    """The program that tools/program makes for ARM64."""
 
+    @classmethod
+    def setUpClass(cls):
+        super().setUpClass()
+        kept = ["--standing"] if (TOP / "crates/synth_run/out/rlib/synth_run.rlib").exists() else []
+        command = [TOP / "tools/program", *kept, "--target", "aarch64", cls.folder, "--jobs", "1"]
+        cls.made = ran(*command)
+        if cls.made[0]:
+            raise RuntimeError(f"tools/program: {cls.made[2][-300:]}")
+        cls.command = [EMULATOR, str(cls.folder / "gaffcurrant")]
 
-def last_verdict(said):
-    return next((f"{line} " for line in reversed(said.splitlines()) if line.startswith("logic=")), "")
+    def test_made(self):
+        status, output, error = self.made
+        self.equal("tools/program", (0, f"{self.folder}/gaffcurrant\n"), (status, output))
+        verdict = next((f"{line} " for line in reversed(error.splitlines()) if line.startswith("logic=")), "")
+        self.holds("the program is proved for ARM64", " target=aarch64-unknown-linux-gnu " in verdict, verdict)
 
+    def test_examples(self):
+        """Each example's texts by one worker and by four, `check` and `upgrade` of its table."""
+        for name in self.examples():
+            for word in ("synth", "stay", "patrol"):
+                for workers in ("1", "4"):
+                    self.same((word, workers), self.plant_text(name))
+            table = self.table_text(name)
+            if table is not None:
+                self.same(("check",), table)
+                self.same(("upgrade",), table)
 
-def check_program(report, program):
-    """Each example's texts by one worker and by four, `check` and `sim` of its table, and the words of the command line."""
-    for name in report.examples():
-        plant = report.plant_text(name)
-        for word in ("synth", "stay", "patrol"):
-            for workers in ("1", "4"):
-                same(report, program, (word, workers), plant)
-        table = report.table_text(name)
-        if table is not None:
-            same(report, program, ("check",), table)
-            same(report, program, ("upgrade",), table)
-    for words in ((), ("solve",), ("synth",), ("synth", "0"), ("synth", "1", "2"), ("sim", "1"), ("demo", "20", "4"), ("synth", "x" * 100000), ("", "1"), (b"\xff", "1")):
-        same(report, program, words, b"")
-    line = report.table_text("line")
-    same(report, program, ("sim", "10", "0", "1"), line)
-    same(report, program, ("check",), line[:-9])
-    for script in sorted(report.top.glob("examples/*/*.script")):
-        same(report, program, ("live", "4"), script.read_bytes())
+    def test_words(self):
+        for words in WORDS:
+            self.same(words, b"")
 
+    def test_line(self):
+        line = self.table_text("line")
+        self.same(("sim", "10", "0", "1"), line)
+        self.same(("check",), line[:-9])
 
-def same(report, program, words, data):
-    wanted = report.run(words, data)
-    done = subprocess.run([*program, *words], input=data, capture_output=True, check=False)
-    report.expect(f"board: {str(words)[:60]} of {data[:40]!r}", tuple(map(short, wanted)), tuple(map(short, (done.returncode, done.stdout, done.stderr))))
+    def test_live(self):
+        for script in sorted(TOP.glob("examples/*/*.script")):
+            self.same(("live", "4"), script.read_bytes())
 
+    def same(self, words, data):
+        done = subprocess.run([*self.command, *words], input=data, capture_output=True, check=False)
+        got = (done.returncode, done.stdout, done.stderr)
+        self.equal(f"{str(words)[:60]} of {data[:40]!r}", self.execute(words, data), got)
 
-def short(part):
-    """What is compared and can be printed: a long output by its length and its sum."""
-    return part if isinstance(part, int) or len(part) < 200 else (len(part), hash(part))
+    def test_cases(self):
+        self.passes("tests/run", skips=1)
 
+    def test_games(self):
+        self.passes("tests/hostile", "games", skips=0)
 
-def check_tests(report, tested):
-    """tests/run, and tests/hostile games."""
-    environment = os.environ | {"GAFFCURRANT_TESTED": tested, "GAFFCURRANT_GAMES": str(GAMES)}
-    for words in (["run"], ["hostile", "games"]):
-        done = subprocess.run([report.top / "tests" / words[0], *words[1:]], capture_output=True, text=True, check=False, env=environment)
-        report.expect(f"board: tests/{' '.join(words)}", (0, ""), (done.returncode, "".join(line for line in done.stdout.splitlines(True) if "failed" in line[:7])))
-        skipped = [line for line in done.stdout.splitlines() if line.startswith("skipped")]
-        report.expect(f"board: what tests/{' '.join(words)} skips", 1 if words == ["run"] else 0, len(skipped))
+    def passes(self, program, *words, skips):
+        """A program of tests/ passes, and skips so much."""
+        tested = self.environment(GAFFCURRANT_TESTED=" ".join(self.command), GAFFCURRANT_GAMES=str(GAMES))
+        status, output, _ = ran(TOP / program, *words, env=tested)
+        lines = output.splitlines()
+        failed = [line for line in lines if line.startswith("failed")]
+        self.equal(f"{program}", (0, []), (status, failed))
+        skipped = [line for line in lines if line.startswith("skipped")]
+        self.equal(f"what {program} skips", skips, len(skipped))

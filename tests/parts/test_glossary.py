@@ -2,14 +2,19 @@
 
 import importlib.machinery
 import importlib.util
-from pathlib import Path
+
+from .tool_case import TOP, ToolCase
 
 PLANTED = {
     "crates/reach_avoid/src/a.rt": "// An odometer.\nlet odometer = 1;\n",
     "crates/reach_avoid/specs/B.antt": "-- The extents are moved.\ndef Ruler : Type := 1;\n",
     "docs/C.md": "A row of cells.\n",
 }
-FOUND = [("crates/reach_avoid/src/a.rt", 1, "odometer"), ("crates/reach_avoid/specs/B.antt", 2, "Ruler"), ("docs/C.md", 1, "row of cells")]
+FOUND = [
+    ("crates/reach_avoid/src/a.rt", 1, "odometer"),
+    ("crates/reach_avoid/specs/B.antt", 2, "Ruler"),
+    ("docs/C.md", 1, "row of cells"),
+]
 
 
 def module_of(path):
@@ -20,15 +25,30 @@ def module_of(path):
     return module
 
 
-def check(report):
-    search = module_of(report.top / "tests/words")
-    words = search.words_of((report.top / search.LIST).read_text())
-    report.holds("the list has words", len(words) > 20)
-    report.expect("folders of the list that aren't there", set(), {folder for word in words for folder in word.folders if not (report.top / folder).exists()})
-    report.expect("words that the glossary replaces", [], [f"{path}:{number}: {said}" for path, number, said, _ in search.places(words, report.top)][:10])
-    for name, text in PLANTED.items():
-        path = Path(report.room) / "planted" / name
-        path.parent.mkdir(parents=True, exist_ok=True)
-        path.write_text(text)
-    found = [(str(path), number, said) for path, number, said, _ in search.places(words, Path(report.room) / "planted")]
-    report.expect("words that were planted", sorted(FOUND), sorted(found))
+class Glossary(ToolCase):
+    """tests/words and its list."""
+
+    @classmethod
+    def setUpClass(cls):
+        super().setUpClass()
+        cls.search = module_of(TOP / "tests/words")
+        cls.words = cls.search.words_of((TOP / cls.search.LIST).read_text())
+
+    def found_in(self, folder):
+        """Each word that is found in a folder: the file, the line and the word."""
+        return [(str(path), number, said) for path, number, said, _ in self.search.places(self.words, folder)]
+
+    def test_list(self):
+        self.holds("the list has words", len(self.words) > 20)
+        folders = {folder for word in self.words for folder in word.folders}
+        lacking = {folder for folder in folders if not (TOP / folder).exists()}
+        self.equal("folders of the list that aren't there", set(), lacking)
+
+    def test_repository(self):
+        found = [f"{path}:{number}: {said}" for path, number, said in self.found_in(TOP)]
+        self.equal("words that the glossary replaces", [], found[:10])
+
+    def test_planted_words_are_found(self):
+        for name, text in PLANTED.items():
+            self.placed(f"planted/{name}", text)
+        self.equal("words that were planted", sorted(FOUND), sorted(self.found_in(self.folder / "planted")))

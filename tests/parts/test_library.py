@@ -17,8 +17,8 @@ from gaffcurrant_plant.controller import APPLY, ARRIVED, NO_ROW, Controller
 from gaffcurrant_plant.reader import Refused
 from gaffcurrant_plant.table import NoRow, read_table, read_text, text_of_table
 
-from .check_readers import c_answers, expected, random_states
-from .check_temporal import DAMAGED, PATROL, STAY
+from .test_readers import c_answers, expected, random_states
+from .test_temporal import DAMAGED, PATROL, STAY
 
 # The calls of the library, which alone the shared object shows.
 CALLS = ["begin_turn", "close", "control", "control_each", "follows", "open", "rank", "sizes", "version", "visit"]

@@ -1,15 +1,32 @@
-"""Each public call that takes memory is reached by the program, by a crate of tests, or by the C programs of tests/library.
+"""Each public call that takes memory is reached by the program, by a crate of tests, or by the C programs of
+tests/library.
 
-It reads names and no types: a method is taken for reached where any method of its name is called, a function of a type where the
-type's name stands before it. So it finds calls that nobody makes, and not each of them."""
+It reads names and no types: a method is taken for reached where any method of its name is called, a function of a type
+where the type's name stands before it. So it finds calls that nobody makes, and not each of them."""
 
 import re
 from collections import defaultdict
+
+from .tool_case import TOP, ToolCase
 
 FN = re.compile(r'^( *)(pub |pub\([^)]*\) )?(?:const |unsafe |extern "C" )*fn (\w+)', re.M)
 IMPL = re.compile(r"^impl(?:<[^{]*?>)? (?:[\w:<>', ]+ for )?(?:&\w* )?(\w+)[^{]*\{", re.M)
 COMMENT = re.compile(r"//.*")
 NAMED = re.compile(r"(?:(\w+)(?:::<[^;(]*?>)?::|(\.)\s*)?\b([a-z_]\w*)\b")
+
+
+class Memory(ToolCase):
+    """Public calls that take memory."""
+
+    def test_calls_are_reached(self):
+        found = all_functions(TOP)
+        found["Board", "spare"].append(("cell_counters", True, "pub fn spare(alloc: Global)", ""))
+        seen = reached(found, exports(TOP))
+        calls = takers(found)
+        self.holds("the calls that take memory are found", len(calls) > 40, len(calls))
+        for crate, owner, name in calls:
+            what = f"{crate} {owner + '::' if owner else ''}{name} is reached by the program or a test"
+            self.equal(what, name != "spare", (owner, name) in seen)
 
 
 def owners(text):
@@ -54,35 +71,39 @@ def reached(found, called_by_c):
     by_name = defaultdict(list)
     for owner, name in found:
         by_name[name].append((owner, name))
-    todo = [item for item, places in found.items() for place in places if place[0] == "synth_cli" or place[0].endswith("_tests")]
-    todo += [("", name) for name in called_by_c]
+    todo = [("", name) for name in called_by_c]
+    todo += [item for item, entries in found.items() if any(begins(crate) for crate, *_ in entries)]
     seen = set()
     while todo:
         item = todo.pop()
-        if item in seen:
-            continue
-        seen.add(item)
-        for _crate, _public, _head, body in found[item]:
-            for owner, dot, name in NAMED.findall(body):
-                for other in by_name.get(name, ()):
-                    of_type = other[0] != ""
-                    if dot and of_type or not dot and owner in (other[0], "Self") or not dot and not of_type or len(owner) == 1:
-                        todo.append(other)
+        if item not in seen:
+            seen.add(item)
+            for *_, body in found[item]:
+                todo += called_in(body, by_name)
     return seen
 
 
+def begins(crate):
+    """Whether what a crate has is reached by itself."""
+    return crate == "synth_cli" or crate.endswith("_tests")
+
+
+def called_in(body, by_name):
+    """What the names in a body may call."""
+    for owner, dot, name in NAMED.findall(body):
+        for other in by_name.get(name, ()):
+            of_type = other[0] != ""
+            is_method = dot and of_type
+            is_function = not dot and (owner in (other[0], "Self") or not of_type or len(owner) == 1)
+            if is_method or is_function:
+                yield other
+
+
 def takers(found):
-    """The public calls with an allocator, outside the crates of tests."""
-    return [(places[0][0], *item) for item, places in found.items()
-            if any(public and re.search(r"\balloc: ", head) and not crate.endswith("_tests") for crate, public, head, _body in places)]
+    """The public calls with an allocator, outside the crates of tests, as (crate, owner, name)."""
+    return [(entries[0][0], *item) for item, entries in found.items() if any(map(takes_memory, entries))]
 
 
-def check(report):
-    found = all_functions(report.top)
-    found["Board", "spare"].append(("cell_counters", True, "pub fn spare(alloc: Global)", ""))
-    seen = reached(found, exports(report.top))
-    calls = takers(found)
-    report.holds("memory: the calls that take memory are found", len(calls) > 40, len(calls))
-    for crate, owner, name in calls:
-        wanted = name != "spare"
-        report.expect(f"memory: {crate} {owner + '::' if owner else ''}{name} is reached by the program or a test", wanted, (owner, name) in seen)
+def takes_memory(entry):
+    crate, is_public, head, _ = entry
+    return is_public and re.search(r"\balloc: ", head) and not crate.endswith("_tests")

@@ -5,7 +5,7 @@ import re
 
 from gaffcurrant_plant.reader import read_plant
 
-from .check_real import GOAL, check_complaints, check_points
+from .test_real import GOAL, check_complaints, check_points
 
 BOAT = "version 2\nsample 0.25\n{}state v -4 4 cells 32\ninput u 0.1 -1 0 1\nd v = u - 0.4*v*abs(v)\n" + GOAL
 # With how many steps of a sample.

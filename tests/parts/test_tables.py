@@ -1,8 +1,45 @@
-"""`check` beside a few lines of brute force that know the line's plant: each digit of each row changed in turn; and each
-example's table with one row changed."""
+"""`check` beside a few lines of brute force that know the line's plant: each digit of each row changed in turn; and
+each example's table with one row changed."""
+
+from .tool_case import TOP, ToolCase
 
 FRONT = ["table 1", "plant 1", "state x 0 14 3", "input u -3 3", "next x = x + u", "target 12 14", "goal reach", "end"]
-ROWS = [(0, 4, 1), (1, 3, 1), (2, 2, 1), (3, 1, 1), (4, 0, None)]
+ROWS = ["0 4 1", "1 3 1", "2 2 1", "3 1 1", "4 0 -"]
+
+
+class Tables(ToolCase):
+    """Tables of which something was changed."""
+
+    def check(self, text):
+        """What the program says of a table."""
+        _, output, error = self.execute(("check",), text)
+        return (output or error).decode().strip()
+
+    def test_line(self):
+        for number, column, other in changes():
+            changed = list(ROWS)
+            changed[number] = ROWS[number][:column] + other + ROWS[number][column + 1 :]
+            text = "\n".join(FRONT + ["rows 5"] + changed + ["end", ""]).encode()
+            cell, rank = changed[number].split(" ")[:2]
+            is_dash = "-" in cell or rank == "-"
+            wanted = f"malformed: line {10 + number}" if is_dash else answer(changed)
+            self.equal(f"check of the row `{changed[number]}`", wanted, self.check(text))
+
+    def test_examples(self):
+        for path in sorted((TOP / "examples").glob("*/*.table")):
+            text = path.read_bytes()
+            self.equal(f"check of {path.name}", "valid", self.check(text))
+            if path.stem != "line":
+                cell, changed = with_a_rank_more(text)
+                self.equal(f"check of {path.name} with a rank more", f"invalid: cell {cell}", self.check(changed))
+
+
+def changes():
+    """Each digit or dash of each row, with each that may stand in its place."""
+    for number, line in enumerate(ROWS):
+        for column, digit in enumerate(line):
+            for other in "0123456789-" if digit != " " else "":
+                yield number, column, other
 
 
 def successor(cell, number):
@@ -29,50 +66,28 @@ def answer(lines):
     """What `check` has to say of the row lines, by their words."""
     last, rows = -1, {}
     for number, line in enumerate(lines, 10):
-        words = line.split(" ")
-        numbers = [None if word == "-" else int(word) for word in words]
-        canonical = all(word == "-" or word == str(int(word)) for word in words)
-        cell, rank, chosen = numbers
-        fits = canonical and None not in (cell, rank) and last < cell < 5 and rank < 5 and (chosen is None) == (rank == 0)
-        if not fits or (chosen is not None and chosen > 1):
+        row = row_of(line, last)
+        if row is None:
             return f"malformed: line {number}"
-        last, rows[cell] = cell, (rank, chosen)
+        last, *rest = row
+        rows[last] = tuple(rest)
     wrong = [cell for cell in range(5) if not is_right(cell, rows)]
     return f"invalid: cell {wrong[0]}" if wrong else "valid"
 
 
-def said(report, text):
-    status, output, error = report.run(("check",), text)
-    return (output or error).decode().strip()
-
-
-def check(report):
-    if said(report, b"") == "usage":
-        print("skipped: the program doesn't have `check` yet")
-        return
-    lines = [" ".join("-" if number is None else str(number) for number in row) for row in ROWS]
-    for k, line in enumerate(lines):
-        for at, digit in enumerate(line):
-            for other in "0123456789-" if digit != " " else "":
-                changed = lines[:k] + [line[:at] + other + line[at + 1:]] + lines[k + 1:]
-                if "-" in changed[k].split(" ")[0] or changed[k].split(" ")[1] == "-":
-                    want = f"malformed: line {10 + k}"
-                else:
-                    want = answer(changed)
-                text = "\n".join(FRONT + ["rows 5"] + changed + ["end", ""]).encode()
-                report.expect(f"check of the row `{changed[k]}`", want, said(report, text))
-    for path in sorted((report.top / "examples").glob("*/*.table")):
-        text = path.read_bytes()
-        report.expect(f"check of {path.name}", "valid", said(report, text))
-        if path.stem == "line":
-            continue
-        cell, changed = with_a_rank_more(text)
-        report.expect(f"check of {path.name} with a rank more", f"invalid: cell {cell}", said(report, changed))
+def row_of(line, last):
+    """The cell, the rank and the input of a row line behind the line of a cell, or None where it is none."""
+    words = line.split(" ")
+    numbers = cell, rank, chosen = [None if word == "-" else int(word) for word in words]
+    if None in (cell, rank) or words != ["-" if number is None else str(number) for number in numbers]:
+        return None
+    fits = last < cell < 5 and rank < 5 and (chosen is None) == (rank == 0) and chosen in (None, 0, 1)
+    return numbers if fits else None
 
 
 def with_a_rank_more(text):
-    """The table, of either version, with the greatest rank raised by one in one line, and the first cell of the line, which is the least that
-    is wrong then: no other rank counts on it."""
+    """The table, of either version, with the greatest rank raised by one in one line, and the first cell of the line,
+    which is the least that is wrong then: no other rank counts on it."""
     lines = text.decode().split("\n")
     rows = next(k for k, line in enumerate(lines) if line.startswith("rows "))
     at = max(range(rows + 1, len(lines) - 2), key=lambda k: int(lines[k].split()[-2]))

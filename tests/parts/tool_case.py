@@ -1,80 +1,159 @@
-"""Counts what passed and prints what failed; runs programs."""
+"""A test case whose checks go on behind one that failed, and the count of them."""
 
-import importlib.util
-import os
-import re
-import subprocess
-import sys
 import tempfile
-from functools import lru_cache
+import traceback
+import unittest
 from pathlib import Path
 
+from .product import TOP, Product, has
 
-# A command of a README: the version and the model, or no model; the word, the plant and the file that it makes.
-COMMAND = re.compile(r"^(?:tools/scale --version ([12]) (\S+) \| )?\./gaffcurrant (\w+) 1(?: < (\S+))? > (\S+)$", re.M)
+# How much is shown of a value, and how many elements that differ.
+SHOWN, FEW = 150, 6
+NUMPY = "numpy isn't there (apt-get install python3-numpy)"
+MPMATH = "mpmath isn't there (apt-get install python3-mpmath)"
+MATPLOTLIB = "matplotlib isn't there (apt-get install python3-matplotlib)"
+
+__all__ = ["TOP", "ToolCase", "Tally", "has", "needs_matplotlib", "needs_mpmath", "needs_numpy"]
+
+needs_numpy = unittest.skipUnless(has("numpy"), NUMPY)
+needs_mpmath = unittest.skipUnless(has("mpmath"), MPMATH)
+needs_matplotlib = unittest.skipUnless(has("matplotlib"), MATPLOTLIB)
 
 
-class Report:
-    def __init__(self, top, program):
-        self.top, self.program = top, program
-        self.passed = self.failed = 0
-        self._room = tempfile.TemporaryDirectory()
-        self.room = Path(self._room.name)
+class ToolCase(Product, unittest.TestCase):
+    """Tests of one subject. `folder` is theirs alone, and goes with them."""
 
-    def expect(self, what, wanted, got):
-        """Counts a comparison, and prints it where it failed."""
-        if wanted == got:
+    @classmethod
+    def setUpClass(cls):
+        room = tempfile.TemporaryDirectory()
+        cls.addClassCleanup(room.cleanup)
+        cls.folder = Path(room.name)
+
+    @classmethod
+    def placed(cls, name, content):
+        """The path of a new file in the folder."""
+        path = cls.folder / name
+        path.parent.mkdir(parents=True, exist_ok=True)
+        path.write_bytes(content.encode() if isinstance(content, str) else content)
+        return path
+
+    def equal(self, what, wanted, got):
+        """Checks that both are the same."""
+        with self.subTest(what):
+            if not wanted == got:
+                raise self.failureException(told(what, *difference(wanted, got)))
+
+    def holds(self, what, fact, got=""):
+        """Checks a fact, beside what is shown where it doesn't hold."""
+        with self.subTest(what):
+            if not fact:
+                raise self.failureException(told(what, "that this holds", shortened(got) if got else fact))
+
+    def refused(self, what, answer, said, status=1):
+        """Checks a refusal: the status, nothing on the output, and on the error stream one line that says a part."""
+        got, output, error = answer
+        self.equal(what, (status, "", 1), (got, output, 1 if error.count("\n") == 1 else error[-SHOWN:]))
+        self.holds(f"{what} says `{said}`", said in error, error)
+
+    def left_out(self, reason):
+        """Tells what isn't tried, and goes on."""
+        with self.subTest(reason):
+            self.skipTest(reason)
+
+
+def told(what, wanted, got):
+    return f"{what}\n    wanted: {wanted}\n    got:    {got}"
+
+
+def shortened(value):
+    """A value as it is shown: its end, if it is long, since a tool says last what went wrong."""
+    said = repr(value)
+    return said if len(said) <= 2 * SHOWN else f"{said[:SHOWN]} .. {said[-SHOWN:]}"
+
+
+def difference(wanted, got, at=""):
+    """Where two values differ, as two texts: elements of lists, a line of texts, keys of dictionaries."""
+    kinds = {type(wanted), type(got)}
+    if kinds == {tuple} and len(wanted) == len(got):
+        pairs = [(k, pair) for k, pair in enumerate(zip(wanted, got)) if not pair[0] == pair[1]][:FEW]
+        parts = [difference(*pair, f"{at}[{k}]") for k, pair in pairs]
+        return [", ".join(part) for part in zip(*parts)]
+    if kinds == {list} and max(len(wanted), len(got)) > FEW:
+        return element_difference(wanted, got, at)
+    if kinds in ({str}, {bytes}) and max(len(wanted), len(got)) > SHOWN:
+        return line_difference(wanted, got, at)
+    if kinds == {dict}:
+        differ = sorted({key for key in wanted.keys() | got.keys() if not wanted.get(key) == got.get(key)}, key=str)
+        return [f"{at} {shortened({key: one[key] for key in differ if key in one})}".strip() for one in (wanted, got)]
+    return [f"{at} {shortened(one)}".strip() for one in (wanted, got)]
+
+
+def element_difference(wanted, got, at):
+    """The first element in which two lists differ; of lists that end there, what follows in the other."""
+    number = next((k for k, pair in enumerate(zip(wanted, got)) if not pair[0] == pair[1]), None)
+    if number is not None:
+        return difference(wanted[number], got[number], f"{at}[{number}]")
+    ends = min(len(wanted), len(got))
+    return [f"{at} {len(one)} elements, from [{ends}] on {shortened(one[ends:])}".strip() for one in (wanted, got)]
+
+
+def line_difference(wanted, got, at):
+    """The first line in which two texts differ."""
+    lines = [one.splitlines() for one in (wanted, got)]
+    number = next((k for k, pair in enumerate(zip(*lines)) if pair[0] != pair[1]), min(map(len, lines)))
+    shown = [shortened(one[number]) if number < len(one) else "the text has ended" for one in lines]
+    return [f"{at} line {number + 1}: {one}".strip() for one in shown]
+
+
+class Tally(unittest.TestResult):
+    """Counts checks that passed and failed, and prints those that failed. A test that made no check has failed."""
+
+    def __init__(self, part):
+        super().__init__()
+        self.part, self.passed, self.failed = part, 0, 0
+        self.at_start, self.skips = 0, set()
+
+    def name_of(self, test):
+        """PART.CASE.TEST, or PART.CASE of what its class prepares."""
+        *_, case, name = test.id().rstrip(")").split(".")
+        return f"{self.part}.{name}" if "(" in test.id() else f"{self.part}.{case}.{name}"
+
+    def fail(self, test, said):
+        self.failed += 1
+        print(f"failed {self.name_of(test)}: {said}", flush=True)
+
+    def startTest(self, test):
+        super().startTest(test)
+        self.at_start = self.passed + self.failed
+
+    def addSubTest(self, test, subtest, err):
+        if err is None:
             self.passed += 1
         else:
-            self.failed += 1
-            print(f"failed {what}: wanted {wanted!r}, got {got!r}"[:400], flush=True)
+            self.addError(test, err)
 
-    def holds(self, what, fact, else_said=""):
-        self.expect(what, True, bool(fact) or else_said or False)
+    def addError(self, test, err):
+        is_check = isinstance(err[1], AssertionError) and str(err[1])
+        self.fail(test, str(err[1]) if is_check else broken_off(err))
 
-    def tool(self, name, *words, data=b"", **more):
-        """Runs a program of tools/; answers its status, output and error as text."""
-        done = subprocess.run([sys.executable, str(self.top / "tools" / name), *map(str, words)], input=data,
-                              capture_output=True, check=False, **more)
-        return done.returncode, done.stdout.decode("utf-8", "replace"), done.stderr.decode("utf-8", "replace")
+    addFailure = addError
 
-    def scaled(self, *words):
-        """The plant text of a model by tools/scale, which solves by the program where the model has a line `between`."""
-        return self.tool("scale", *words, env=os.environ | {"GAFFCURRANT": str(self.program)})[1]
+    def addSuccess(self, test):
+        if self.passed + self.failed == self.at_start:
+            self.fail(test, "it made no check")
 
-    @lru_cache(maxsize=None)
-    def run(self, words, data):
-        """Runs the program; answers its status, output and error as bytes."""
-        done = subprocess.run([str(self.program), *words], input=data, capture_output=True, check=False)
-        return done.returncode, done.stdout, done.stderr
+    def addSkip(self, test, reason):
+        name = self.name_of(test)
+        if (name.rpartition(".")[0], reason) not in self.skips:
+            self.skips.add((name.rpartition(".")[0], reason))
+            print(f"skipped {name}: {reason}", flush=True)
 
-    @staticmethod
-    def has_mpmath():
-        """Whether mpmath is there, on which functions and differential equations of models stand."""
-        return importlib.util.find_spec("mpmath") is not None
 
-    def reads_version_2(self):
-        """Whether the program reads plants of version 2."""
-        return self.run(("synth", "1"), self.plant_text("line").replace(b"plant 1", b"plant 2"))[0] == 0
-
-    def examples(self):
-        """The names of the examples that are plants."""
-        return sorted(path.stem for path in self.top.glob("examples/*/*.plant"))
-
-    def plant_text(self, name):
-        return (self.top / "examples" / name / f"{name}.plant").read_bytes()
-
-    def texts(self, name):
-        """What the commands of an example's README make by the program, by the file's name, the example's own first: None where the program
-        doesn't have the word."""
-        made = {}
-        for version, model, word, plant, path in COMMAND.findall((self.top / "examples" / name / "README.md").read_text()):
-            text = self.scaled("--version", version, self.top / model).encode() if model else (self.top / plant).read_bytes()
-            status, output, _ = self.run((word, "1"), text)
-            made[path] = output if status == 0 else None
-        return made
-
-    def table_text(self, name):
-        """The table of an example by the program, or None where it isn't solved."""
-        status, output, _ = self.run(("synth", "1"), self.plant_text(name))
-        return output if status == 0 else None
+def broken_off(err):
+    """What an exception says, and where it came from: the last line of the tests, and the line that raised it."""
+    kind, fault, trace = err
+    frames = [frame for frame in traceback.extract_tb(trace) if "/unittest/" not in frame.filename]
+    own = [frame for frame in frames if "/tests/" in frame.filename] or frames
+    places = dict.fromkeys(f"{Path(one.filename).name}:{one.lineno} `{one.line}`" for one in (own[-1:] + frames[-1:]))
+    said = " ".join(str(fault).split())
+    return f"it was broken off\n    by:     {kind.__name__}: {said[:2 * SHOWN]}\n    at:     {', '.join(places)}"
