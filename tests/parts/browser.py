@@ -10,20 +10,23 @@ import shutil
 import subprocess
 import tempfile
 import time
-from pathlib import Path
 
 NAMES = ("chromium", "chromium-browser", "google-chrome")
-FLAGS = ("--headless=new", "--no-sandbox", "--disable-gpu", "--no-first-run", "--disable-extensions",
-         "--disable-background-networking", "--hide-scrollbars", "--remote-debugging-pipe")
+FLAGS = (
+    "--headless=new",
+    "--no-sandbox",
+    "--disable-gpu",
+    "--no-first-run",
+    "--disable-extensions",
+    "--disable-background-networking",
+    "--hide-scrollbars",
+    "--remote-debugging-pipe",
+)
 
 
 def browser_there():
     """The path of a browser, or None."""
     return next(filter(None, map(shutil.which, NAMES)), None)
-
-
-# What the tests ask of a page.
-PROBE = Path(__file__).with_name("page_probe.js")
 
 
 class Failed(Exception):
@@ -87,7 +90,7 @@ class Browser:
         request |= {"sessionId": self.session} if self.session else {}
         data = json.dumps(request).encode() + b"\0"
         while data:
-            data = data[os.write(self.to, data):]
+            data = data[os.write(self.to, data) :]
         while True:
             message = self.message(limit)
             self.note(message)
@@ -151,13 +154,3 @@ class Browser:
         data = self.call("Page.captureScreenshot", format="png")["data"]
         with open(path, "wb") as file:
             file.write(base64.b64decode(data))
-
-
-def open_page(report, browser, words, link="", name="page"):
-    """Makes a page by tools/page and opens it with what stands behind `#`; answers its size in bytes."""
-    path = report.room / f"{name}.html"
-    status, _, error = report.tool("page", *words, "-o", path)
-    report.expect(f"page of {[str(word)[-24:] for word in words]}", (0, ""), (status, error))
-    browser.open(f"file://{path}{link}", "window.gaffcurrant && gaffcurrant.desk.maps && location.hash.length > 1")
-    browser.evaluate(PROBE.read_text(encoding="utf-8") + "window.probe = probe; 0")
-    return path.stat().st_size
