@@ -45,7 +45,7 @@ MESSAGES = [
     ),
     (
         CELL + "state y 0 1 0.1 0.1\nnext x = x\ngoal reach\n",
-        "there are 2 states and 1 equations: `next y = ..` is missing",
+        "the model has 2 states and 1 equations: `next y = ..` is missing",
     ),
 ]
 MESSAGES_OF_FUNCTIONS = [

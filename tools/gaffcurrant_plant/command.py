@@ -65,6 +65,11 @@ PACKAGES = {"numpy": "python3-numpy", "mpmath": "python3-mpmath", "matplotlib": 
 def need(what, *modules):
     """Goes over to a Python that has some modules, or raises Trouble with the names of all that are missing."""
     prefer(*modules)
+    check_there(what, *modules)
+
+
+def check_there(what, *modules):
+    """Raises Trouble with the names of all modules that are missing."""
     if missing := [module for module in modules if not is_there(module)]:
         packages = " ".join(PACKAGES[module] for module in missing)
         raise Trouble(f"{what} needs {', '.join(missing[:-1])}{' and ' * (len(missing) > 1)}{missing[-1]}; on Debian: apt-get install {packages}")
@@ -106,6 +111,12 @@ class Progress:
         elif self.has_lines and now - max(self.begun, self.told) > EVERY:
             self.told = now
             print(f"{self.name}: {said}, {now - self.begun:.0f} s so far", file=sys.stderr, flush=True)
+
+    def tell(self, said):
+        """Says a line that stays."""
+        if self.is_on or self.has_lines:
+            self.end()
+            print(f"{self.name}: {said}", file=sys.stderr, flush=True)
 
     def put(self, said, now):
         self.told, self.is_shown = now, True

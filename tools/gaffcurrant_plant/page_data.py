@@ -6,6 +6,7 @@ from . import formula
 from .bounds import deviation_of_parts, span_of_parts
 from .command import Trouble
 from .expression import parts_of
+from .matching import check_steps
 from .model import read_model
 from .reader import Refused, lines_of, read_lines
 from .units import decimal, read_units
@@ -98,6 +99,7 @@ def model_data(path, data, plant):
     else:
         model = read_model(data)
         check_model(path, model, plant)
+        check_steps(path, model, plant)
         flow = flow_data(model)
     sizes = {name: float(size) for name, size in units.sizes.items()}
     return {"units": {"sizes": sizes, "words": units.words, "exact": sorted(units.exact)}, "flow": flow}
