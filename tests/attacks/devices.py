@@ -15,16 +15,24 @@ from .program import CHECK, DEMO, FORMS, LIVE, PATROL, PLANT, SECONDS, SIM, STAY
 
 MALFORMED = Form("synth 1", PLANT[:-4], oracle.synth)
 USAGE = Form("synth", PLANT, lambda _: oracle.ended(2, line=b"usage\n"))
-# A plant whose table has more bytes than a pipe holds: 20,000 cells are kept, by the inputs 1 and 0 in turn, so no two neighbours make a run.
-LONG = Form("synth 1", b"plant 1\nstate x 1 20000 1\ninput u 0 1\nnext x = x + 100000 * (x - 2 * (x / 2)) * (1 - u)\ngoal keep\nend\n", oracle.synth)
+# A plant whose table has more bytes than a pipe holds: 20,000 cells are kept, by the inputs 1 and 0 in turn, so no two
+# neighbours make a run.
+LONG = Form(
+    "synth 1",
+    b"plant 1\nstate x 1 20000 1\ninput u 0 1\nnext x = x + 100000 * (x - 2 * (x / 2)) * (1 - u)\n" b"goal keep\nend\n",
+    oracle.synth,
+)
 READ_FAULT = oracle.ended(6, line=b"read fault\n")
 PAGE = 4096
 
 
 def cases(program):
     for form in FORMS:
-        for name, judge in (("to a full device", full), ("with its reader gone", gone),
-                            ("to a file opened for reading", unwritable)):
+        for name, judge in (
+            ("to a full device", full),
+            ("with its reader gone", gone),
+            ("to a file opened for reading", unwritable),
+        ):
             yield f"{form.name} {name}", judge(program, form)
         yield f"{form.name} one byte at a time", slowly(program, form)
     for form in SYNTH + WORKERS + CHECK + UPGRADE + SIM + STAY[:1] + PATROL[:1] + LIVE:
@@ -91,8 +99,9 @@ def slowly(program, form):
     """The text comes byte by byte, as a terminal or a network may hand it on."""
 
     def judge():
-        with subprocess.Popen([*program.command, *form.words], stdin=subprocess.PIPE, stdout=subprocess.PIPE,
-                              stderr=subprocess.PIPE) as process:
+        with subprocess.Popen(
+            [*program.command, *form.words], stdin=subprocess.PIPE, stdout=subprocess.PIPE, stderr=subprocess.PIPE
+        ) as process:
             for byte in form.text:
                 os.write(process.stdin.fileno(), bytes([byte]))
                 time.sleep(0.0002)
@@ -163,8 +172,9 @@ def leaves(program, taken):
 
     def judge():
         want = LONG.want()[1]
-        with subprocess.Popen([*program.command, *LONG.words], stdin=subprocess.PIPE, stdout=subprocess.PIPE,
-                              stderr=subprocess.PIPE) as process:
+        with subprocess.Popen(
+            [*program.command, *LONG.words], stdin=subprocess.PIPE, stdout=subprocess.PIPE, stderr=subprocess.PIPE
+        ) as process:
             process.stdin.write(LONG.text)
             process.stdin.close()
             got = process.stdout.read(taken)
@@ -198,7 +208,8 @@ def small(program):
 
 
 def endless(program, form, byte):
-    """Ten gigabytes are offered; what is taken is one byte past the limit of the text, and nothing where none is read."""
+    """Ten gigabytes are offered; what is taken is one byte past the limit of the text, and nothing where none is
+    read."""
 
     def judge():
         if form.words[0] == "demo" or form is USAGE:
@@ -211,9 +222,10 @@ def endless(program, form, byte):
             want, most = oracle.ended(5, line=b"limit: table text\n"), oracle.TABLE_LIMIT + 1
         reader, writer = os.pipe()
         try:
-            with subprocess.Popen([*program.command, *form.words], stdin=reader, stdout=subprocess.PIPE,
-                                  stderr=subprocess.PIPE) as process:
-                offered = offer(process, writer, byte, 10 ** 10)
+            with subprocess.Popen(
+                [*program.command, *form.words], stdin=reader, stdout=subprocess.PIPE, stderr=subprocess.PIPE
+            ) as process:
+                offered = offer(process, writer, byte, 10**10)
                 output, error = process.communicate(timeout=SECONDS)
             taken = offered - left_in(reader)
         finally:
@@ -228,10 +240,10 @@ def endless(program, form, byte):
 def offer(process, writer, byte, most):
     """Writes the byte again and again as long as the process runs; answers how often."""
     os.set_blocking(writer, False)
-    block, offered = byte * 2 ** 16, 0
+    block, offered = byte * 2**16, 0
     while offered < most and process.poll() is None:
         if select.select([], [writer], [], 0.01)[1]:
-            offered += os.write(writer, block[:most - offered])
+            offered += os.write(writer, block[: most - offered])
     return offered
 
 

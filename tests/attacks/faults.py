@@ -51,10 +51,22 @@ def is_allowed(kind, want, got):
 
 
 # The calls that fail one by one, what else befalls each such run, and the kind that says how it may end.
-SINGLY = [("alloc", "", ""), ("alloc", "+", ""), ("thread", "", ""), ("thread", "+", ""), ("short_read", "", ""),
-          ("short_write", "", ""), ("read", "", ""), ("read", "+", ""), ("write", "", ""), ("write", "+", ""),
-          ("read", "", "short_read:1+,"), ("write", "", "short_write:1+,"), ("alloc", "", "thread:1+,"),
-          ("alloc", "", "short_read:1+,short_write:1+,")]
+SINGLY = [
+    ("alloc", "", ""),
+    ("alloc", "+", ""),
+    ("thread", "", ""),
+    ("thread", "+", ""),
+    ("short_read", "", ""),
+    ("short_write", "", ""),
+    ("read", "", ""),
+    ("read", "+", ""),
+    ("write", "", ""),
+    ("write", "+", ""),
+    ("read", "", "short_read:1+,"),
+    ("write", "", "short_write:1+,"),
+    ("alloc", "", "thread:1+,"),
+    ("alloc", "", "short_read:1+,short_write:1+,"),
+]
 ALL = ["short_read:1+", "short_write:1+", "short_read:1+,short_write:1+,thread:1+"]
 
 

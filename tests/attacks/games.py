@@ -1,4 +1,5 @@
-"""Random small plants of both versions, solved by the program and by the oracle: to reach, to keep, to reach and stay, to patrol."""
+"""Random small plants of both versions, solved by the program and by the oracle: to reach, to keep, to reach and stay,
+to patrol."""
 
 import os
 import random
@@ -27,8 +28,18 @@ class Draws(random.Random):
     def term(self, names):
         """A small term over some names."""
         name, other = self.choice(names), self.choice(names)
-        return self.choice((name, f"{name} / {self.randint(2, 4)}", f"-{name}", f"abs({name})", f"min({name}, {other})", f"max({name}, {self.randint(-3, 3)})",
-                            f"{name} * {other} / {self.randint(3, 9)}", str(self.randint(0, 4))))
+        return self.choice(
+            (
+                name,
+                f"{name} / {self.randint(2, 4)}",
+                f"-{name}",
+                f"abs({name})",
+                f"min({name}, {other})",
+                f"max({name}, {self.randint(-3, 3)})",
+                f"{name} * {other} / {self.randint(3, 9)}",
+                str(self.randint(0, 4)),
+            )
+        )
 
     def curve(self, name, low, high):
         """A table of points over a range, that mostly follows the name."""
@@ -66,9 +77,9 @@ class Draws(random.Random):
 
     def plant(self):
         version, goal = self.choice((1, 2)), "keep" if self.chance(0.15) else "reach"
-        names = ["x", "y", "z"][:self.choice((1, 1, 1, 2, 2, 3))]
+        names = ["x", "y", "z"][: self.choice((1, 1, 1, 2, 2, 3))]
         states = [self.axis(name, int(MOST_CELLS ** (1 / len(names)))) for name in names]
-        inputs, noises = ["u", "v"][:self.choice((0, 1, 1, 2, len(names)))], ["w"][:self.choice((0, 0, 1))]
+        inputs, noises = ["u", "v"][: self.choice((0, 1, 1, 2, len(names)))], ["w"][: self.choice((0, 0, 1))]
         lines = [f"plant {version}"] + [" ".join(map(str, ["state", *state])) for state in states]
         lines += [" ".join(map(str, ["input", name, *self.values()])) for name in inputs]
         lines += [f"noise {name} {self.randint(-2, 0)} {self.randint(0, 1)}" for name in noises]

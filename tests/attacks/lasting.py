@@ -1,5 +1,6 @@
-"""The examples that stay and that patrol, driven for long: a stay text from each cell at the border of what is won, a patrol text in each turn from
-some cells, under random disturbances and under extreme ones. The runs know nothing of the tools' simulator."""
+"""The examples that stay and that patrol, driven for long: a stay text from each cell at the border of what is won, a
+patrol text in each turn from some cells, under random disturbances and under extreme ones. The runs know nothing of the
+tools' simulator."""
 
 import os
 import random
@@ -55,7 +56,7 @@ def python_of(node, names):
     if node[0] == "var":
         return names[node[1]]
     parts = [python_of(part, names) for part in parts_of(node)]
-    return "(" + SHAPES[node[0]].format(node[0], *parts, *node[1 + len(parts):]) + ")"
+    return "(" + SHAPES[node[0]].format(node[0], *parts, *node[1 + len(parts) :]) + ")"
 
 
 def box_said(plant, box):
@@ -63,39 +64,59 @@ def box_said(plant, box):
 
 
 def driver(plant, rows):
-    """A function that drives the plant from a state in a turn, and tells what is wrong, or None. rows: for each turn the rows of its cells."""
+    """A function that drives the plant from a state in a turn, and tells what is wrong, or None. rows: for each turn
+    the rows of its cells."""
     names, is_patrol = plant.names(), len(rows) > 1 or rows[0] and min(rank for rank, _ in rows[0].values()) > 0
     cell = "0"
     for (name, low, _, width), count in zip(plant.states, plant.counts):
         cell = f"({cell}) * {count} + ({name} - {low}) // {width}"
-    said = {"states": ", ".join(name for name, *_ in plant.states), "cell": cell, "turns": len(rows),
-            "noises": "".join(f"{name}, " for name, *_ in plant.noises), "inputs": ", ".join(name for name, _ in plant.inputs) or "_",
-            "equations": ", ".join(python_of(node, names) for node in plant.equations),
-            "inside": box_said(plant, [state[1:3] for state in plant.states]),
-            "blocked": " or ".join(f"({box_said(plant, box)})" for box in plant.obstacles) or "False",
-            "targets": " or ".join(f"({box_said(plant, box)})" for box in plant.targets)}
+    said = {
+        "states": ", ".join(name for name, *_ in plant.states),
+        "cell": cell,
+        "turns": len(rows),
+        "noises": "".join(f"{name}, " for name, *_ in plant.noises),
+        "inputs": ", ".join(name for name, _ in plant.inputs) or "_",
+        "equations": ", ".join(python_of(node, names) for node in plant.equations),
+        "inside": box_said(plant, [state[1:3] for state in plant.states]),
+        "blocked": " or ".join(f"({box_said(plant, box)})" for box in plant.obstacles) or "False",
+        "targets": " or ".join(f"({box_said(plant, box)})" for box in plant.targets),
+    }
     said["judge"] = (PATROL if is_patrol else STAY).format(**said)
     inside = [set(cells_in(plant, box)) for box in plant.targets]
-    room = {"rows": rows, "vectors": [tuple(plant.vector(number)) or (None,) for number in range(plant.vectors)], "value_at": value_at,
-            "arrivals": [inside[turn] & rows[(turn + 1) % len(rows)].keys() for turn in range(len(rows))] if is_patrol else [],
-            "in_target": lambda *ends: all(low <= value <= high for value, (low, high) in zip(ends, plant.targets[ends[-1]]))}
+    room = {
+        "rows": rows,
+        "vectors": [tuple(plant.vector(number)) or (None,) for number in range(plant.vectors)],
+        "value_at": value_at,
+        "arrivals": [inside[turn] & rows[(turn + 1) % len(rows)].keys() for turn in range(len(rows))]
+        if is_patrol
+        else [],
+        "in_target": lambda *ends: all(
+            low <= value <= high for value, (low, high) in zip(ends, plant.targets[ends[-1]])
+        ),
+    }
     exec(STEP.format(**said), room)
     return room["driven"]
 
 
 def cells_in(plant, box):
     """The cells that lie in a box whole."""
-    return (cell for cell in range(plant.cells)
-            if all(low <= first and last <= high for (low, high), first, last in zip(box, plant.low(cell), plant.high(cell))))
+    return (
+        cell
+        for cell in range(plant.cells)
+        if all(
+            low <= first and last <= high for (low, high), first, last in zip(box, plant.low(cell), plant.high(cell))
+        )
+    )
 
 
 def border(plant, rows):
     """The cells with a row beside which, along some state, there is none."""
     for cell in rows:
         places = plant.places_of(cell)
-        beside = [places[:i] + [places[i] + side] + places[i + 1:] for i in range(len(places)) for side in (-1, 1)]
-        if not all(0 <= place < count for other in beside for place, count in zip(other, plant.counts)) \
-                or any(plant.cell_at(other) not in rows for other in beside):
+        beside = [places[:i] + [places[i] + side] + places[i + 1 :] for i in range(len(places)) for side in (-1, 1)]
+        if not all(0 <= place < count for other in beside for place, count in zip(other, plant.counts)) or any(
+            plant.cell_at(other) not in rows for other in beside
+        ):
             yield cell
 
 
@@ -113,7 +134,10 @@ def rows_of(text, word):
 
 
 def noises(plant, draws, extreme):
-    return [tuple(draws.choice(ends) if extreme else draws.randint(*ends) for _, *ends in plant.noises) for _ in range(SAMPLES)]
+    return [
+        tuple(draws.choice(ends) if extreme else draws.randint(*ends) for _, *ends in plant.noises)
+        for _ in range(SAMPLES)
+    ]
 
 
 def cases(program):

@@ -25,7 +25,11 @@ def cases(program):
                 want = malformed if length <= TABLE_LIMIT else TOO_LONG
                 what = f"{form.name} of {len(front)} bytes of a table, then {byte[0]:02x} up to {length}"
                 yield what, long_text(program, form, (front, byte, length), want)
-    for front, byte, line in ((b"", b" ", 1), (SCRIPT, b"\n", SCRIPT.count(b"\n") + 1), (SCRIPT, b"0", SCRIPT.count(b"\n") + 1)):
+    for front, byte, line in (
+        (b"", b" ", 1),
+        (SCRIPT, b"\n", SCRIPT.count(b"\n") + 1),
+        (SCRIPT, b"0", SCRIPT.count(b"\n") + 1),
+    ):
         malformed = ended(3, line=f"malformed: line {line}\n".encode())
         for length in (SCRIPT_LIMIT - 1, SCRIPT_LIMIT, SCRIPT_LIMIT + 1):
             want = malformed if length <= SCRIPT_LIMIT else LONG_SCRIPT

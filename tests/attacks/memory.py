@@ -3,7 +3,7 @@
 from .program import FORMS, differs, refusal
 
 # Above the least so many steps of one page, then steps of 2 percent up to 1 GiB.
-PAGES, GROWTH, MOST = 128, 1.02, 2 ** 20
+PAGES, GROWTH, MOST = 128, 1.02, 2**20
 
 
 def cases(program):
@@ -23,7 +23,7 @@ def has_started(end):
 
 def least(program, form):
     """The least number of KiB, in whole pages, with which the program starts."""
-    none, some = 0, 4 * 2 ** 20
+    none, some = 0, 4 * 2**20
     while some - none > 4:
         middle = (none + some) // 8 * 4
         if has_started(limited(program, form, middle)):

@@ -1,7 +1,9 @@
-"""Models made at random, half of them damaged: each is scaled to a text, or refused in one line. GAFFCURRANT_MODELS says how many are made (5000).
+"""Models made at random, half of them damaged: each is scaled to a text, or refused in one line. GAFFCURRANT_MODELS
+says how many are made (5000).
 
-Run as a program, `tests/hostility/models.py FIRST COUNT`, it tries so many models from this number on, prints a line for each that ends in neither as it
-comes, and at the end how many there were of each kind; `--tell` prints a line for every model, with its seconds."""
+Run as a program, `tests/hostility/models.py FIRST COUNT`, it tries so many models from this number on, prints a line
+for each that ends in neither as it comes, and at the end how many there were of each kind; `--tell` prints a line for
+every model, with its seconds."""
 
 import os
 import random
@@ -18,15 +20,52 @@ TOP = Path(__file__).resolve().parents[2]
 COUNT, BLOCK = int(os.environ.get("GAFFCURRANT_MODELS", 5000)), 25
 # Seconds of the processor after which a model is said never to end.
 ENDLESS = 300
-# How a line begins that is said of a model: with the model's line, with what the model lacks, or with a limit of the whole text.
+# How a line begins that is said of a model: with the model's line, with what the model lacks, or with a limit of the
+# whole text.
 LINED = re.compile(r"line [0-9]+: |the model has |the plant would be refused, limit: ")
 
 
 class Endless(Exception):
     """A model takes as long as if it never ended."""
+
+
 FUNCTIONS = ("sin", "cos", "tan", "asin", "acos", "atan", "sinh", "cosh", "tanh", "sqrt", "exp", "log", "abs")
-PIECES_OF_DAMAGE = ("1e30", "-1e30", "1e-30", "0", "-1", "nan", "1e400", "99999999999999999999", "*", "x", "(", ")", ",", "=", "lut(", "sin(", "\u2212", "1/0", "^",
-                    "^-1", "^0.5", "#", "\x00", "\ufeff", "cells", "state", "next", "d", "wrap", "exact", "sample", "steps 4", "order 4", "0.1:0.1:9")
+PIECES_OF_DAMAGE = (
+    "1e30",
+    "-1e30",
+    "1e-30",
+    "0",
+    "-1",
+    "nan",
+    "1e400",
+    "99999999999999999999",
+    "*",
+    "x",
+    "(",
+    ")",
+    ",",
+    "=",
+    "lut(",
+    "sin(",
+    "\u2212",
+    "1/0",
+    "^",
+    "^-1",
+    "^0.5",
+    "#",
+    "\x00",
+    "\ufeff",
+    "cells",
+    "state",
+    "next",
+    "d",
+    "wrap",
+    "exact",
+    "sample",
+    "steps 4",
+    "order 4",
+    "0.1:0.1:9",
+)
 
 
 def cases(_):
@@ -38,7 +77,9 @@ def cases(_):
 def wrong_in(first):
     """The models of a block that end in neither a text nor a line, or None."""
     count = min(BLOCK, COUNT - first)
-    done = subprocess.run([sys.executable, __file__, str(first), str(count)], capture_output=True, check=False, text=True)
+    done = subprocess.run(
+        [sys.executable, __file__, str(first), str(count)], capture_output=True, check=False, text=True
+    )
     wrongs = done.stdout.splitlines()[:-1]
     if done.returncode or wrongs or not done.stdout.startswith(f"{count} models: "):
         return "; ".join(wrongs) or f"status {done.returncode}, {(done.stdout + done.stderr)[-200:]!r}"
@@ -55,11 +96,25 @@ class Maker:
 
     def number(self):
         draws = self.draws
-        return draws.choice([str(draws.randint(-3, 5)), f"{draws.uniform(-2, 2):.3f}", f"{draws.uniform(0, 9):.1f}", f"{10 ** draws.uniform(-4, 4):.5g}", "pi", "k"])
+        return draws.choice(
+            [
+                str(draws.randint(-3, 5)),
+                f"{draws.uniform(-2, 2):.3f}",
+                f"{draws.uniform(0, 9):.1f}",
+                f"{10 ** draws.uniform(-4, 4):.5g}",
+                "pi",
+                "k",
+            ]
+        )
 
     def text(self):
         draws = self.draws
-        for keyword, low, high, share in (("version", 1, 2, 0.3), ("order", 1, 4, 0.2), ("steps", 1, 8, 0.2), ("pieces", 2, 31, 0.2)):
+        for keyword, low, high, share in (
+            ("version", 1, 2, 0.3),
+            ("order", 1, 4, 0.2),
+            ("steps", 1, 8, 0.2),
+            ("pieces", 2, 31, 0.2),
+        ):
             if draws.random() < share:
                 self.lines.append(f"{keyword} {draws.randint(low, high)}")
         if draws.random() < 0.1:
@@ -67,12 +122,12 @@ class Maker:
         if self.kind == "d" or self.kind == "A" and draws.random() < 0.7:
             self.lines.append(f"sample {10 ** draws.uniform(-2.5, 1.5):.3g}")
         self.lines.append(f"param k {draws.choice(['0.5', '2*pi/7', '-3', '1e3', '1/3'])}")
-        for name in "xyzh"[:draws.choice([1, 1, 2, 2, 2, 3, 4])]:
+        for name in "xyzh"[: draws.choice([1, 1, 2, 2, 2, 3, 4])]:
             self.state(name)
-        for name in "uv"[:draws.choice([0, 1, 1, 2])]:
+        for name in "uv"[: draws.choice([0, 1, 1, 2])]:
             self.input(name)
         if self.kind != "A":
-            for name in "ab"[:draws.choice([0, 0, 1, 2])]:
+            for name in "ab"[: draws.choice([0, 0, 1, 2])]:
                 low = draws.uniform(-0.5, 0.1)
                 self.lines.append(f"noise {name} {low:.3f} {low + draws.uniform(0, 0.5):.3f}")
                 self.names.append(name)
@@ -88,7 +143,10 @@ class Maker:
             self.lines.append(f"state {name} {low} {high} cells {cells}")
         else:
             width = draws.choice([0.25, 0.5, 1]) if high - low < 100 else 9
-            self.lines.append(f"state {name} {low} {high} {width} {draws.choice([0.25, 0.05, 0.005, 0.0005]) if high - low < 100 else 0.1}")
+            self.lines.append(
+                f"state {name} {low} {high} {width} "
+                f"{draws.choice([0.25, 0.05, 0.005, 0.0005]) if high - low < 100 else 0.1}"
+            )
         if draws.random() < 0.04:
             self.lines.append(f"exact {name}")
         if draws.random() < (0.5 if low == -180 else 0.03):
@@ -99,7 +157,9 @@ class Maker:
     def input(self, name):
         draws = self.draws
         values = draws.choice(["-1 0 1", "0", "-1:0.5:1", "0 1", "-20 0 20", "5", "-2:0.1:2"])
-        self.lines.append(f"input {name} {draws.choice([0.1, 0.1, 0.05, 0.5 if ':0.1' not in values else 0.1])} {values}")
+        self.lines.append(
+            f"input {name} {draws.choice([0.1, 0.1, 0.05, 0.5 if ':0.1' not in values else 0.1])} " f"{values}"
+        )
         self.names.append(name)
 
     def node(self, depth):
@@ -118,7 +178,9 @@ class Maker:
             return f"{draws.choice(['min', 'max', 'atan2'])}({self.node(depth - 1)}, {self.node(depth - 1)})"
         if kind < 0.9:
             xs = sorted(draws.sample(range(-20, 40), draws.randint(2, 6)))
-            return f"lut({self.node(depth - 1)}, " + ", ".join(f"{x}, {self.draws.uniform(-2, 2):.2f}" for x in xs) + ")"
+            return (
+                f"lut({self.node(depth - 1)}, " + ", ".join(f"{x}, {self.draws.uniform(-2, 2):.2f}" for x in xs) + ")"
+            )
         return f"({self.node(depth - 1)}){draws.choice(['^2', '^2', '^2', '^3', '^3', '^0.5', '^-1', '^1.5', '^6'])}"
 
     def call(self, function, depth):
@@ -132,9 +194,18 @@ class Maker:
     def equations(self):
         draws = self.draws
         if self.kind == "A":
-            for keyword, wide in (("A", len(self.states)), ("B", len(self.names) - len(self.states)), ("c", 1), ("w", 2)):
+            for keyword, wide in (
+                ("A", len(self.states)),
+                ("B", len(self.names) - len(self.states)),
+                ("c", 1),
+                ("w", 2),
+            ):
                 if wide and (keyword in "AB" or draws.random() < 0.4):
-                    self.lines += [f"{keyword} " + " ".join(sorted((f"{draws.uniform(-1, 1):.2f}" for _ in range(wide)), key=float)) for _ in self.states]
+                    self.lines += [
+                        f"{keyword} "
+                        + " ".join(sorted((f"{draws.uniform(-1, 1):.2f}" for _ in range(wide)), key=float))
+                        for _ in self.states
+                    ]
             return
         for name, *_ in self.states:
             linear = " + ".join(f"{self.number()}*{one}" for one in draws.sample(self.names, min(2, len(self.names))))
@@ -173,7 +244,7 @@ def damaged(text, draws):
             lines[at] = " ".join(words)
         elif change < 0.9:
             letter = draws.randrange(len(lines[at]) + 1)
-            lines[at] = lines[at][:letter] + draws.choice(["", "9", "(", "-", " ", "e"]) + lines[at][letter + 1:]
+            lines[at] = lines[at][:letter] + draws.choice(["", "9", "(", "-", " ", "e"]) + lines[at][letter + 1 :]
         else:
             words.insert(place, draws.choice(PIECES_OF_DAMAGE))
             lines[at] = " ".join(words)
@@ -192,6 +263,7 @@ def outcome(text):
     from gaffcurrant_plant.choosing import planted
     from gaffcurrant_plant.command import Trouble
     from gaffcurrant_plant.model import read_model
+
     try:
         planting = planted(read_model(text.encode("utf-8", "surrogateescape")))
     except Trouble as trouble:
@@ -229,7 +301,9 @@ def main(words):
         said, is_right = tried(seed)
         kinds["texts" if said == "text" else "lines" if is_right else "failed"] += 1
         if not is_right or "--tell" in words:
-            print(f"{'' if is_right else 'failed '}model {seed}, {time.process_time() - before:.1f} s: {said}", flush=True)
+            print(
+                f"{'' if is_right else 'failed '}model {seed}, {time.process_time() - before:.1f} s: {said}", flush=True
+            )
     print(f"{count} models: {kinds['texts']} texts, {kinds['lines']} lines, {kinds['failed']} failed", flush=True)
     return 1 if kinds["failed"] else 0
 

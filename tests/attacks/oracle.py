@@ -11,7 +11,7 @@ from gaffcurrant_plant.reader import Draft, Refused, Wrong, read_plant, words_of
 TABLE_LIMIT = 67108864
 SCRIPT_LIMIT = 67108864
 TABLES = 8
-TURNS = 2 ** 22
+TURNS = 2**22
 STATUS = {"malformed": 3, "overflow": 4, "limit": 5}
 DECIMAL = re.compile(rb"(0|[1-9][0-9]*)\Z")
 LITERAL = re.compile(rb"(0|-?[1-9][0-9]{0,17})\Z")
@@ -54,8 +54,11 @@ class Game:
         rank = 0
         while True:
             rank += 1
-            found = {cell: self.first_into(cell, rows) for cell in range(self.plant.cells)
-                     if cell not in rows and cell not in self.obstacles}
+            found = {
+                cell: self.first_into(cell, rows)
+                for cell in range(self.plant.cells)
+                if cell not in rows and cell not in self.obstacles
+            }
             found = {cell: (rank, vector) for cell, vector in found.items() if vector is not None}
             if not found:
                 return rows
@@ -86,14 +89,17 @@ class Game:
     def depths(self, ends):
         """For each cell the least depth of a strategy that ends in some cells and passes no obstacle, 0 at these."""
         depths = dict.fromkeys(ends, 0)
-        while found := [cell for cell in range(self.plant.cells) if cell not in depths and cell not in self.obstacles
-                        and self.first_into(cell, depths) is not None]:
+        while found := [
+            cell
+            for cell in range(self.plant.cells)
+            if cell not in depths and cell not in self.obstacles and self.first_into(cell, depths) is not None
+        ]:
             depths.update(dict.fromkeys(found, max(depths.values(), default=0) + 1))
         return depths
 
     def stayed(self):
-        """For each cell from which some strategy comes to held cells its rank, and the least input that leads to lower ranks alone, at rank 0
-        to rank 0."""
+        """For each cell from which some strategy comes to held cells its rank, and the least input that leads to lower
+        ranks alone, at rank 0 to rank 0."""
         depths = self.depths(self.held())
         upto = {rank: {cell for cell, depth in depths.items() if depth <= rank} for rank in set(depths.values())}
         return {cell: (rank, self.first_into(cell, upto[max(rank - 1, 0)])) for cell, rank in depths.items()}
@@ -101,26 +107,36 @@ class Game:
     def inside(self, target):
         """The cells that are no obstacles and lie in a target."""
         ends = {cell: zip(target, self.plant.low(cell), self.plant.high(cell)) for cell in range(self.plant.cells)}
-        return {cell for cell in ends if cell not in self.obstacles and all(a <= low and high <= b for (a, b), low, high in ends[cell])}
+        return {
+            cell
+            for cell in ends
+            if cell not in self.obstacles and all(a <= low and high <= b for (a, b), low, high in ends[cell])
+        }
 
     def travels(self, ends):
-        """For each cell from which a strategy that begins with an input ends in some cells the least depth of one, and the least input with
-        which one of that depth begins."""
+        """For each cell from which a strategy that begins with an input ends in some cells the least depth of one, and
+        the least input with which one of that depth begins."""
         depths, found = self.depths(ends), {}
         for cell in set(range(self.plant.cells)) - self.obstacles:
-            offers = [(1 + max(depths[successor] for successor in fan), vector) for vector, fan in enumerate(self.fans[cell])
-                      if fan and depths.keys() >= set(fan)]
+            offers = [
+                (1 + max(depths[successor] for successor in fan), vector)
+                for vector, fan in enumerate(self.fans[cell])
+                if fan and depths.keys() >= set(fan)
+            ]
             if offers:
                 found[cell] = min(offers)
         return found
 
     def patrolled(self):
-        """The rows of each turn. The cells from which d targets can be visited, this turn's first, for d from 0 on until they stay."""
+        """The rows of each turn. The cells from which d targets can be visited, this turn's first, for d from 0 on
+        until they stay."""
         targets = [self.inside(target) for target in self.plant.targets]
         visits, before = [set(range(self.plant.cells)) - self.obstacles for _ in targets], None
         while visits != before:
             before = visits
-            visits = [set(self.travels(target & before[(turn + 1) % len(targets)])) for turn, target in enumerate(targets)]
+            visits = [
+                set(self.travels(target & before[(turn + 1) % len(targets)])) for turn, target in enumerate(targets)
+            ]
         return [self.travels(target & visits[(turn + 1) % len(targets)]) for turn, target in enumerate(targets)]
 
     def is_right(self, cell, rows):
@@ -130,8 +146,11 @@ class Game:
             return row is None
         if cell in self.goals:
             return row == (0, None)
-        offers = [(max(rows[successor][0] for successor in fan) + 1, vector) for vector, fan in enumerate(self.fans[cell])
-                  if fan and all(successor in rows for successor in fan)]
+        offers = [
+            (max(rows[successor][0] for successor in fan) + 1, vector)
+            for vector, fan in enumerate(self.fans[cell])
+            if fan and all(successor in rows for successor in fan)
+        ]
         return row == (min(offers) if offers else None)
 
     def first_wrong(self, rows):
@@ -295,7 +314,12 @@ class ScriptReader:
         while self.rest or not self.tables:
             line, feed, self.rest = self.rest.partition(b"\n")
             word, *numbers = line.split(b" ") if feed else [b""]
-            if word == b"publish" and len(numbers) == 1 and DECIMAL.match(numbers[0]) and 1 <= int(numbers[0]) <= TABLE_LIMIT:
+            if (
+                word == b"publish"
+                and len(numbers) == 1
+                and DECIMAL.match(numbers[0])
+                and 1 <= int(numbers[0]) <= TABLE_LIMIT
+            ):
                 self.publish(int(numbers[0]))
             elif word == b"ask" and self.tables and 1 <= len(numbers) <= 6 and all(map(LITERAL.match, numbers)):
                 yield f"{len(self.tables)} {number_word(self.choice([int(number) for number in numbers]))}"

@@ -20,7 +20,10 @@ KEEP_TABLE = b"table 2\n" + KEEP_PLANT + b"rows 2\n0 0 - 1\n1 4 - 0\nend\n"
 OLD_KEEP_TABLE = b"table 1\n" + KEEP_PLANT + b"rows 5\n0 - 1\n1 - 0\n2 - 0\n3 - 0\n4 - 0\nend\n"
 STAY_PLANT = PLANT.replace(b"-3 3", b"-3 0 3")
 PATROL_PLANT = PLANT.replace(b"target 12 14", b"target 0 2\ntarget 12 14")
-SCRIPT = b"".join(b"publish %d\n%sask 1\nask 13\n" % (len(table), table) for table in (OLD_TABLE, KEEP_TABLE, TABLE)) + b"ask -2 3\n"
+SCRIPT = (
+    b"".join(b"publish %d\n%sask 1\nask 13\n" % (len(table), table) for table in (OLD_TABLE, KEEP_TABLE, TABLE))
+    + b"ask -2 3\n"
+)
 CART = b"""plant 1
 state p 0 599 10
 state v -100 99 10
@@ -47,7 +50,9 @@ class Form:
 
     def __init__(self, words, text, oracle_of):
         self.words, self.text, self.answer = words.split(), text, oracle_of
-        self.name = words + (" on a keep plant" if b"keep" in text else "") + (", version 1" if b"table 1" in text else "")
+        self.name = (
+            words + (" on a keep plant" if b"keep" in text else "") + (", version 1" if b"table 1" in text else "")
+        )
 
     @functools.cache
     def want(self):
@@ -61,8 +66,11 @@ def demo(_):
     rows = game.solution()
     edges = sum(len(fan) for fans in game.fans for fan in fans)
     plant = game.plant
-    return oracle.ended(0, f"demo 1 cells {plant.cells} pairs {plant.pairs} edges {edges} won {len(rows)} "
-                           f"rank {max(rank for rank, _ in rows.values())}\n".encode())
+    return oracle.ended(
+        0,
+        f"demo 1 cells {plant.cells} pairs {plant.pairs} edges {edges} won {len(rows)} "
+        f"rank {max(rank for rank, _ in rows.values())}\n".encode(),
+    )
 
 
 SYNTH = [Form("synth 1", PLANT, oracle.synth), Form("synth 1", KEEP_PLANT, oracle.synth)]
@@ -96,15 +104,16 @@ class Program:
         self.folder.cleanup()
 
     def end(self, words, data=b"", before=(), **more):
-        """How a run ends: its status, output and error. `before` are the words of a command that becomes the program."""
+        """How a run ends: its status, output and error. `before` are the words of a command that becomes the
+        program."""
         next(self.runs)
         try:
-            done = subprocess.run([*before, *self.command, *words], input=data, capture_output=True, timeout=SECONDS,
-                                  check=False, **more)
+            done = subprocess.run(
+                [*before, *self.command, *words], input=data, capture_output=True, timeout=SECONDS, check=False, **more
+            )
         except subprocess.TimeoutExpired:
             return None, b"", f"no end within {SECONDS} seconds".encode()
         return done.returncode, done.stdout, done.stderr
-
 
 
 def differs(want, got):

@@ -11,7 +11,7 @@ def damaged(program):
     for form in SYNTH + CHECK + UPGRADE + SIM + STAY[:1] + PATROL[:1] + LIVE[:1]:
         text = form.text
         for at in range(len(text)):
-            front, byte, behind = text[:at], text[at:at + 1], text[at + 1:]
+            front, byte, behind = text[:at], text[at : at + 1], text[at + 1 :]
             yield case(program, form, f"byte {at} deleted", front + behind)
             yield case(program, form, f"byte {at} doubled", front + byte + byte + behind)
             for other in BYTES:

@@ -58,8 +58,11 @@ class Table:
             if not self.ordinary:
                 return "took no time that could be told from an empty run's"
             ratio = each / self.ordinary
-            print(f"    {name:56} {line or 'answered':22} {units:10} {self.what} {time:8.3f} s {each * 1e9:8.1f} ns {ratio:6.2f}",
-                  flush=True)
+            print(
+                f"    {name:56} {line or 'answered':22} {units:10} {self.what} {time:8.3f} s {each * 1e9:8.1f} ns "
+                f"{ratio:6.2f}",
+                flush=True,
+            )
             return f"{ratio:.1f} times as dear as an ordinary one" if ratio > most else None
 
         return f"{self.form.name}: {name}", judge
@@ -88,8 +91,13 @@ def boxes(keyword, states, number):
 def ordinary_plant():
     """Six states, equations as they are, boxes of short numbers, comments now and then."""
     state = [b"x", b"y", b"angle", b"speed", b"turn", b"load"]
-    text = lines(b"# a vehicle", b"plant 1", *[b"state %s -500 499 10" % name for name in state],
-                 b"input a -20 -10 0 10 20", b"noise w -2 2")
+    text = lines(
+        b"# a vehicle",
+        b"plant 1",
+        *[b"state %s -500 499 10" % name for name in state],
+        b"input a -20 -10 0 10 20",
+        b"noise w -2 2",
+    )
     text += lines(*[b"next %s = %s + (a * %s + %s) / 100 + w" % (name, name, state[0], state[3]) for name in state])
     box = b" -100 -51 0 99 -500 499 -20 19 0 49 -500 499"
     for _ in range(64):
@@ -103,8 +111,10 @@ def nested(open_, inner, close, depth):
 
 def long_sum():
     """128 leaves and 127 sums, each leaf in as many brackets as there is room for."""
+
     def sum_of(count):
         return b"x" if count == 1 else b"(" + sum_of(count // 2) + b"+" + sum_of(count - count // 2) + b")"
+
     leaf = nested(b"(", b"x", b")", 55)
     return sum_of(128).replace(b"x", leaf)
 
@@ -123,9 +133,13 @@ def plant_texts():
     yield "one number", filled(HEAD + b"input v ", b"9", b"\n")
     yield "one name", filled(HEAD + b"input ", b"n", b" 1\n")
     yield "64 targets and 64 obstacles of numbers of 18 digits", (
-        lines(b"plant 1", *[b"state %s 0 9 1" % name for name in names(6)],
-              *[b"next %s = 0" % name for name in names(6)])
-        + boxes(b"target", 6, b"9" * 18) + boxes(b"obstacle", 6, b"9" * 18) + b"goal reach\nen")
+        lines(
+            b"plant 1", *[b"state %s 0 9 1" % name for name in names(6)], *[b"next %s = 0" % name for name in names(6)]
+        )
+        + boxes(b"target", 6, b"9" * 18)
+        + boxes(b"obstacle", 6, b"9" * 18)
+        + b"goal reach\nen"
+    )
     yield "open brackets alone", filled(HEAD + b"next x = ", b"(", b"\n")
     yield "open brackets set apart", filled(HEAD + b"next x = ", b"( ", b"\n")
     yield "minuses alone", filled(HEAD + b"next x = ", b"-", b"x\n")
@@ -136,9 +150,16 @@ def plant_texts():
     yield "128 leaves in 55 brackets each", HEAD + b"next x = " + long_sum() + b"\n" + TAIL[15:]
     yield "64 minimums one in another", HEAD + b"next x = " + nested(b"min(", b"x", b", u)", 63) + b"\n" + TAIL[15:]
     yield "six equations of 256 nodes with names of 32 bytes", (
-        lines(b"plant 1", *[b"state %s 0 9 1" % name for name in names(6)],
-              *[b"next %s = " % name + long_sum().replace(b"(" * 55 + b"x" + b")" * 55, names(6)[5]) for name in names(6)])
-        + b"goal reach\nen")
+        lines(
+            b"plant 1",
+            *[b"state %s 0 9 1" % name for name in names(6)],
+            *[
+                b"next %s = " % name + long_sum().replace(b"(" * 55 + b"x" + b")" * 55, names(6)[5])
+                for name in names(6)
+            ],
+        )
+        + b"goal reach\nen"
+    )
 
 
 # ---- texts of tables, refused at their end
@@ -152,16 +173,16 @@ def table(cells, rows, last, front=b""):
 
 
 def table_texts():
-    million = 2 ** 20
+    million = 2**20
     yield "1 MB of rows, cut at the end", FEW, lambda: table(72000, 72000, b"en")
     yield "1 MB of rows of 2^20 cells", FEW, lambda: table(million, 60000, b"en")
     yield "18 MB of rows, cut at the end", EVEN, lambda: table(million, million, b"en")
     yield "18 MB of rows, then lines up to 60 MB", EVEN, lambda: table(million, million, b"0 1 0\n" * 7000000)
     yield "60 MB that are no table", EVEN, lambda: b"table 2\n" + b"0 1 0\n" * 10000000
-    yield "1 MB in one line", FEW, lambda: b"table 1\n" + b"9" * 10 ** 6
-    yield "60 MB in one line", FEW, lambda: b"table 1\n" + b"9" * (6 * 10 ** 7)
-    yield "60 MB of empty lines", FEW, lambda: b"table 1\n" + b"\n" * (6 * 10 ** 7)
-    yield "60 MB in one row", FEW, lambda: table(million, 1, b"")[:-4] + b"9" * (6 * 10 ** 7)
+    yield "1 MB in one line", FEW, lambda: b"table 1\n" + b"9" * 10**6
+    yield "60 MB in one line", FEW, lambda: b"table 1\n" + b"9" * (6 * 10**7)
+    yield "60 MB of empty lines", FEW, lambda: b"table 1\n" + b"\n" * (6 * 10**7)
+    yield "60 MB in one row", FEW, lambda: table(million, 1, b"")[:-4] + b"9" * (6 * 10**7)
 
 
 # ---- live scripts, which are answered
@@ -173,28 +194,42 @@ def published(text):
 
 def script_texts():
     yield "a table of 1 MB", FEW, lambda: published(table(72000, 72000, b"end\n"))
-    yield "8 tables of 7 MB", FEW, lambda: published(table(2 ** 20, 420000, b"end\n")) * 8
-    for name, question in (("one number", b"ask 1\n"), ("one number outside the ranges", b"ask 999999999999999999\n"),
-                           ("six numbers", b"ask 1 1 1 1 1 1\n")):
-        for size in (10 ** 6, 6 * 10 ** 7):
-            yield f"{size // 10 ** 6} MB of questions of {name}", FEW, lambda q=question, s=size: published(TABLE) + q * (s // len(q))
+    yield "8 tables of 7 MB", FEW, lambda: published(table(2**20, 420000, b"end\n")) * 8
+    for name, question in (
+        ("one number", b"ask 1\n"),
+        ("one number outside the ranges", b"ask 999999999999999999\n"),
+        ("six numbers", b"ask 1 1 1 1 1 1\n"),
+    ):
+        for size in (10**6, 6 * 10**7):
+            yield f"{size // 10 ** 6} MB of questions of {name}", FEW, lambda q=question, s=size: published(
+                TABLE
+            ) + q * (s // len(q))
 
 
 # ---- plants that are solved
 
 
 def plant(states, inputs, equations, rest=(), noises=()):
-    return lines(b"plant 1", *[b"state %s %s" % state for state in states], *[b"input " + one for one in inputs],
-                 *[b"noise " + one for one in noises],
-                 *[b"next %s = %s" % (state[0], equation) for state, equation in zip(states, equations)], *rest,
-                 b"goal reach", b"end")
+    return lines(
+        b"plant 1",
+        *[b"state %s %s" % state for state in states],
+        *[b"input " + one for one in inputs],
+        *[b"noise " + one for one in noises],
+        *[b"next %s = %s" % (state[0], equation) for state, equation in zip(states, equations)],
+        *rest,
+        b"goal reach",
+        b"end",
+    )
 
 
 def cart(number):
     """The demo plant of so many parts."""
-    return (CART.replace(b"599", b"%d" % (600 * number - 1)).replace(b"400 559", b"%d %d" % (400 * number, 560 * number - 1))
-            .replace(b"200 219", b"%d %d" % (200 * number, 200 * number + 19))
-            .replace(b"300 309", b"%d %d" % (300 * number, 300 * number + 9)))
+    return (
+        CART.replace(b"599", b"%d" % (600 * number - 1))
+        .replace(b"400 559", b"%d %d" % (400 * number, 560 * number - 1))
+        .replace(b"200 219", b"%d %d" % (200 * number, 200 * number + 19))
+        .replace(b"300 309", b"%d %d" % (300 * number, 300 * number + 9))
+    )
 
 
 def tree(leaf, join, nodes):
@@ -234,7 +269,7 @@ def quotients():
 def plants():
     """A name, the plant, and how many edges it has."""
     boxes_64 = [b"target" + b" 0 15" * 5 + b" 1 1"] * 64 + [b"obstacle" + b" 0 15" * 5 + b" 1 1"] * 64
-    million = 2 ** 20
+    million = 2**20
     line = [(b"x", b"0 1048575 1")]
     last = [b"target 1048575 1048575"]
     ones = [b"u " + b" ".join(b"%d" % k for k in range(64)), b"v " + b" ".join(b"%d" % (64 * k) for k in range(64))]
@@ -245,8 +280,10 @@ def plants():
     yield "2^20 cells, all goals", plant(line, [], [b"x"], [b"target 0 1048575"]), million
     yield "2^22 pairs, one successor each", plant(line, [b"u 0 1 2 3"], [b"x + u"], last), 4 * million
     yield "4,096 vectors, 1,024 cells", plant([(b"x", b"0 1023 1")], ones, [b"x - x + (u + v) / 4"]), 4 * million
-    yield "widest boxes: 2^25 edges of 5,793 cells", plant([(b"x", b"0 5792 1")], [], [b"w"], (), [b"w 0 5790"]), 5793 * 5791
-    yield "19 million edges of 2^20 cells in six states", plant(six(16), [], noisy, (), [b"w 0 1"]), 42 ** 3 * 256
+    yield "widest boxes: 2^25 edges of 5,793 cells", plant(
+        [(b"x", b"0 5792 1")], [], [b"w"], (), [b"w 0 5790"]
+    ), 5793 * 5791
+    yield "19 million edges of 2^20 cells in six states", plant(six(16), [], noisy, (), [b"w 0 1"]), 42**3 * 256
     yield "2^20 cells in six states", plant(six(16), [], STAY), million
     yield "64 targets and 64 obstacles over them", plant(six(16), [], STAY, boxes_64), million
     yield "2^22 pairs in six states", plant(six(16), [b"u 0 0 0 0"], STAY), 4 * million
@@ -254,12 +291,16 @@ def plants():
 
 def dear_plants():
     """Plants of 131,072 pairs, each of which six equations tell apart."""
+
     def of(equations):
         return plant(six(8), [b"u 0 0 0 0"], equations)
 
     yield "short equations", FEW, of([b"min(%s, %s + u)" % (one, one) for one in STAY])
-    for name, join in (("sums", lambda a, b: b"(%s + %s)" % (a, b)), ("minimums", lambda a, b: b"min(%s, %s)" % (a, b)),
-                       ("products", lambda a, b: b"(%s * %s)" % (a, b) if len(a) < 20 else b"min(%s, %s)" % (a, b))):
+    for name, join in (
+        ("sums", lambda a, b: b"(%s + %s)" % (a, b)),
+        ("minimums", lambda a, b: b"min(%s, %s)" % (a, b)),
+        ("products", lambda a, b: b"(%s * %s)" % (a, b) if len(a) < 20 else b"min(%s, %s)" % (a, b)),
+    ):
         yield f"equations of 255 nodes, {name}", FEW, of([b"min(0, %s)" % mixed(join)] * 6)
     yield "equations of 220 nodes, quotients past 64 bits", WIDE, of([b"min(0, %s)" % quotients()] * 6)
 

@@ -77,7 +77,8 @@ def python_answers(text):
 
 
 def c_answers(text, folder, *words):
-    """A function that answers states by the C of examples/device, compiled in a new folder with the header of a text."""
+    """A function that answers states by the C of examples/device, compiled in a new folder with the header of a
+    text."""
     folder.mkdir()
     for name in ("control.c", "main.c"):
         shutil.copy(DEVICE / name, folder)

@@ -6,8 +6,8 @@ SAMPLES = 120
 
 
 def runs_of(table, draws, starts=6):
-    """What is wrong with runs from so many random cells of each turn, under random and extreme disturbances, and how many
-    there were."""
+    """What is wrong with runs from so many random cells of each turn, under random and extreme disturbances, and how
+    many there were."""
     is_patrol = table.kind == "patrol"
     judge, parts = (patrol_fault, table.turns) if is_patrol else (stay_fault, [table])
     faults, count = [], 0

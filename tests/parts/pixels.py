@@ -13,30 +13,41 @@ class Picture:
 
     def colour(self, x, y):
         at = x * self.step
-        return tuple(self.rows[y][at:at + 3])
+        return tuple(self.rows[y][at : at + 3])
 
     def is_dark(self, x, y):
         return max(self.colour(x, y)) < 70
 
     def frame(self):
         """The panel's black frame: the first two columns, and in them the rows, that are black over a long way."""
-        columns = groups([x for x in range(self.width)
-                          if sum(self.is_dark(x, y) for y in range(self.height)) > 0.55 * self.height])
+        columns = groups(
+            [x for x in range(self.width) if sum(self.is_dark(x, y) for y in range(self.height)) > 0.55 * self.height]
+        )
         left, right = columns[0], columns[1]
-        rows = groups([y for y in range(self.height)
-                       if sum(self.is_dark(x, y) for x in range(int(left), int(right))) > 0.9 * (right - left)])
+        rows = groups(
+            [
+                y
+                for y in range(self.height)
+                if sum(self.is_dark(x, y) for x in range(int(left), int(right))) > 0.9 * (right - left)
+            ]
+        )
         return left, right, rows[0], rows[-1]
 
-    def at(self, place, value, low, high):
+    def at(self, axis, value, low, high):
         """The pixel of a value along the panel's first or second axis."""
         part = (value - low) / (high - low)
-        return self.left + part * (self.right - self.left) if place == 0 else self.bottom - part * (self.bottom - self.top)
+        return (
+            self.left + part * (self.right - self.left) if axis == 0 else self.bottom - part * (self.bottom - self.top)
+        )
 
     def extent_of(self, colour, near):
         """The ends, across and down, of the pixels of about this colour in the frame."""
-        found = [(x, y) for y in range(int(self.top) - 2, int(self.bottom) + 3)
-                 for x in range(int(self.left) - 2, int(self.right) + 3)
-                 if all(abs(a - b) <= near for a, b in zip(self.colour(x, y), colour))]
+        found = [
+            (x, y)
+            for y in range(int(self.top) - 2, int(self.bottom) + 3)
+            for x in range(int(self.left) - 2, int(self.right) + 3)
+            if all(abs(a - b) <= near for a, b in zip(self.colour(x, y), colour))
+        ]
         if not found:
             return None
         across, down = [x for x, _ in found], [y for _, y in found]
@@ -67,11 +78,11 @@ def decoded(data):
         raise ValueError("no PNG file")
     at, packed = 8, b""
     while at < len(data):
-        length, kind = struct.unpack(">I4s", data[at:at + 8])
+        length, kind = struct.unpack(">I4s", data[at : at + 8])
         if kind == b"IHDR":
-            width, height, depth, form = struct.unpack(">IIBB", data[at + 8:at + 18])
+            width, height, depth, form = struct.unpack(">IIBB", data[at + 8 : at + 18])
         elif kind == b"IDAT":
-            packed += data[at + 8:at + 8 + length]
+            packed += data[at + 8 : at + 8 + length]
         at += 12 + length
     if depth != 8 or form not in (2, 6):
         raise ValueError("not of 8 bits a channel in colour")
@@ -79,7 +90,7 @@ def decoded(data):
     raw, lines, before = zlib.decompress(packed), [], bytes(width * step)
     for y in range(height):
         at = y * (width * step + 1)
-        before = unfiltered(raw[at], bytearray(raw[at + 1:at + 1 + width * step]), before, step)
+        before = unfiltered(raw[at], bytearray(raw[at + 1 : at + 1 + width * step]), before, step)
         lines.append(before)
     return width, height, step, lines
 

@@ -1,11 +1,11 @@
-"""Reads and runs the part of structured text (IEC 61131-3) that tools/header writes: function blocks of numbers of 32 bits and of truth values, arrays of
-them, assignments, IF, FOR, WHILE, RETURN. Knows nothing of tools/. A number out of its type's range, an index out of its array's and a name that isn't
-declared are faults."""
+"""Reads and runs the part of structured text (IEC 61131-3) that tools/header writes: function blocks of numbers of 32
+bits and of truth values, arrays of them, assignments, IF, FOR, WHILE, RETURN. Knows nothing of tools/. A number out of
+its type's range, an index out of its array's and a name that isn't declared are faults."""
 
 import re
 
 TOKEN = re.compile(r"\s+|\(\*.*?\*\)|(:=|<=|>=|<>|\.\.|[A-Za-z_][A-Za-z0-9_]*|[0-9]+|[-+*/()<>=,;:\[\]])", re.DOTALL)
-RANGES = {"DINT": (-2 ** 31, 2 ** 31 - 1), "UINT": (0, 2 ** 16 - 1), "USINT": (0, 255), "BOOL": (0, 1)}
+RANGES = {"DINT": (-(2**31), 2**31 - 1), "UINT": (0, 2**16 - 1), "USINT": (0, 255), "BOOL": (0, 1)}
 BINARY = [("OR",), ("AND",), ("=", "<>"), ("<", ">", "<=", ">="), ("+", "-"), ("*", "/", "MOD")]
 
 
@@ -185,7 +185,7 @@ class Variable:
     def __init__(self, name, section, constant, kind, size, values):
         self.name, self.section, self.constant, self.kind, self.size = name, section, constant, kind, size
         if values is not None and size is not None and len(values) != size:
-            raise Fault(f"{name} has {size} places and {len(values)} values")
+            raise Fault(f"{name} has {size} elements and {len(values)} values")
         self.value = values if values is not None else 0 if size is None else [0] * size
         for value in self.value if size is not None else [self.value]:
             check_range(kind, value, name)
@@ -231,7 +231,7 @@ class Machine:
         if variable.size is None:
             variable.value = found
         else:
-            variable.value[self.place(variable, index)] = found
+            variable.value[self.at_index(variable, index)] = found
 
     def run_if(self, test, body, other):
         self.run(body if self.value(test) else other)
@@ -247,7 +247,7 @@ class Machine:
         while self.value(test):
             self.run(body)
 
-    def place(self, variable, index):
+    def at_index(self, variable, index):
         at = self.value(index)
         if not 0 <= at < variable.size:
             raise Fault(f"{variable.name}[{at}] is outside")
@@ -259,7 +259,7 @@ class Machine:
             return node[1]
         if kind == "name":
             variable = self.variables[node[1]]
-            return variable.value if variable.size is None else variable.value[self.place(variable, node[2])]
+            return variable.value if variable.size is None else variable.value[self.at_index(variable, node[2])]
         if kind == "call":
             source, _, target = node[1].partition("_TO_")
             found = self.value(node[2])
@@ -274,8 +274,21 @@ class Machine:
     @staticmethod
     def worked_out(kind, left, right=None):
         # Quotients are rounded towards 0, and remainders have the dividend's sign.
-        quotient = (lambda: abs(left) // abs(right) * (1 if (left < 0) == (right < 0) else -1))
-        return {"minus": lambda: -left, "not": lambda: not left, "OR": lambda: left or right, "AND": lambda: left and right, "=": lambda: left == right,
-                "<>": lambda: left != right, "<": lambda: left < right, ">": lambda: left > right, "<=": lambda: left <= right, ">=": lambda: left >= right,
-                "+": lambda: left + right, "-": lambda: left - right, "*": lambda: left * right, "/": quotient,
-                "MOD": lambda: left - right * quotient()}[kind]()
+        quotient = lambda: abs(left) // abs(right) * (1 if (left < 0) == (right < 0) else -1)
+        return {
+            "minus": lambda: -left,
+            "not": lambda: not left,
+            "OR": lambda: left or right,
+            "AND": lambda: left and right,
+            "=": lambda: left == right,
+            "<>": lambda: left != right,
+            "<": lambda: left < right,
+            ">": lambda: left > right,
+            "<=": lambda: left <= right,
+            ">=": lambda: left >= right,
+            "+": lambda: left + right,
+            "-": lambda: left - right,
+            "*": lambda: left * right,
+            "/": quotient,
+            "MOD": lambda: left - right * quotient(),
+        }[kind]()

@@ -465,10 +465,9 @@ class Matlab(DeviceCase):
                 answers, error = self.octave_says(script_of(text, states, "--ranks" in words))
                 got = [said_of(int(line.split()[0]), line.split()[2:]) for line in answers]
                 self.equal(f"{name}: the function of MATLAB {words}", due(text, data, states), got or error)
-                if words and text.kind in ("table", "stay"):
-                    rows = [text.rows.get(text.plant.cell_of(state), (-1, None)) for state in states]
+                if words and text.kind != "patrol":
                     got = [int(line.split()[1]) for line in answers]
-                    self.equal(f"{name}: the ranks of the function of MATLAB", [rank or 0 for rank, _ in rows], got)
+                    self.equal(f"{name}: the ranks of the function of MATLAB", ranks_at(text, states), got)
 
     def test_wrong_states(self):
         """No number, an infinity and a fraction have no row; a state of the wrong length is an error."""
@@ -488,6 +487,12 @@ class Matlab(DeviceCase):
         command = [OCTAVE, "--no-gui", "--quiet", "--norc", "ask.m"]
         done = subprocess.run(command, cwd=self.folder, capture_output=True, check=False)
         return done.stdout.decode().splitlines(), done.stderr.decode()[:200]
+
+
+def ranks_at(text, states):
+    """The ranks of states: 0 where a row has none, -1 where there is no row."""
+    rows = (text.rows.get(text.plant.cell_of(state), (-1, None)) for state in states)
+    return [rank or 0 for rank, _ in rows]
 
 
 def script_of(text, states, has_ranks):

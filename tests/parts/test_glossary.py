@@ -1,4 +1,5 @@
-"""The repository says nothing by a word that its glossary replaces, and the search finds such words where they stand."""
+"""The repository says nothing by a word that its glossary replaces, and the search finds such words where they
+stand."""
 
 import importlib.machinery
 import importlib.util

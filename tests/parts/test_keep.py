@@ -2,6 +2,7 @@
 and extreme disturbances from each kept cell, and the kept cells once more, by taking cells away until none is left to
 be taken. Of a plant with many kept cells a few are driven, for fewer samples."""
 
+import functools
 import itertools
 import random
 
@@ -49,9 +50,8 @@ def runner(lines, chosen):
     """A function that says of a state and the noises of each sample whether the plant stays in its ranges, off its
     obstacles and in cells with rows; its body is made of the plant's lines, so that millions of samples take
     seconds."""
-    states, inputs, noises, boxes, equations = (
-        [words[1:] for words in lines if words[0] == keyword]
-        for keyword in ("state", "input", "noise", "obstacle", "next")
+    states, inputs, noises, boxes, equations = map(
+        functools.partial(lines_of, lines), ("state", "input", "noise", "obstacle", "next")
     )
     vectors = list(itertools.product(*[map(int, values) for _, *values in inputs]))
     names, inputs, noises = ("".join(f"{name}, " for name, *_ in part) or "_" for part in (states, inputs, noises))
@@ -72,6 +72,10 @@ def stays(state, samples):
     room = {"rows": {cell: vectors[number] for cell, number in chosen.items()}}
     exec(source, room)
     return room["stays"]
+
+
+def lines_of(lines, keyword):
+    return [words[1:] for words in lines if words[0] == keyword]
 
 
 def cell_said(states):

@@ -82,7 +82,7 @@ NOTED = [
         LINE,
         4,
         "next x = x + u + abs(x) - abs(x)",
-        "the target has 1 place along x, and each sampled box meets 3 at " "least",
+        "the target has 1 place along x, and each sampled box meets 3 at least",
     ),
     (LINE, 4, "next x = x + u + 30", "the box of every input leaves the domain"),
     (LINE, 4, "next x = x + u / 3", "may lead back into the cell itself"),
@@ -104,7 +104,8 @@ KEPT_NOTES = [
 
 
 BARE = (
-    "x has no noise, and moves by whole cells, by -3 under u = -3: a measurement that is a rounding beside a cell's bound counts for the next cell; add a "
+    "x has no noise, and moves by whole cells, by -3 under u = -3: a measurement that is a rounding beside a cell's "
+    "bound counts for the next cell; add a "
     "noise of -1 to 1, unless the state is a whole number by itself"
 )
 

@@ -51,7 +51,8 @@ MESSAGES = [
 MESSAGES_OF_FUNCTIONS = [
     (
         CELL + "next x = sqrt(x - 0.5)\ngoal keep\n",
-        "line 2: what stands in `sqrt(x - 0.5)` may lie between -0.51 and 0.51, and has to be above 0; a `max` does it, "
+        "line 2: what stands in `sqrt(x - 0.5)` may lie between -0.51 and 0.51, and has to be above 0; a `max` does "
+        "it, "
         "as in sqrt(max(x - 0.5, 0.01))",
     ),
     (

@@ -44,10 +44,10 @@ DIFFERENCES = [
 HALF = (
     "state d 0 12 1 0.1\nstate v -10 10 0.5 0.1\nstate z 0 2 1 1\nnext d = d\nnext v = v\nnext z = z\n{}\ngoal keep\n"
 )
-# A line of a model, the same as a test of d and v, and how many boxes cover it: one for each place of d that is met,
+# A line of a model, the same as a test of d and v, and how many boxes cover it: one for each index of d that is met,
 # since the ends along v differ. In the second line d from k to k + 1 is met where v is above 42 - 4 k: for 9, 10 and
 # 11. In the last one where v is below 1 - k, which for 11 is the range's end. With 62 other obstacles two boxes are
-# left for twelve places.
+# left for twelve indices.
 HALVES = [
     ("obstacle d < 1.4 * v", lambda d, v: d < Fraction(7, 5) * v, 12),
     ("obstacle 2*d + v/2 - 3 > 20", lambda d, v: 2 * d + v / 2 - 3 > 20, 3),

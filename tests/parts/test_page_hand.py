@@ -25,7 +25,7 @@ rows 1
 0 119 - 0
 end
 """
-# From -17 a step of -4 leads to -21, which is 15: in places of three numbers from 0.5 down to 0, and from 12, the other
+# From -17 a step of -4 leads to -21, which is 15: in cells of three numbers from 0.5 down to 0, and from 12, the other
 # end, to 33.5 / 3.
 PIECES = [[[0.5, 2.5], [0, 2.5]], [[12, 2.5], [33.5 / 3, 2.5]]]
 

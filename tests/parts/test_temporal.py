@@ -47,7 +47,7 @@ ANSWERS = [
     ),
 ]
 
-# A run of the simulator: from place 1 to the end, and to and fro.
+# A run of the simulator: to the end, and to and fro.
 TRACES = [
     (STAY, ["5", "0", "7"], ["0 7 2 2", "1 10 1 2", "2 13 0 1", "3 13 0 1", "4 13 0 1", "5 13 0 1", "stopped 5"]),
     (

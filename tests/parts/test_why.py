@@ -28,7 +28,7 @@ ANSWERS = [
             "  stopped: the box leaves the domain in x (17 is above 14)",
         ],
     ),
-    # Place 39 and speed 15 have the centre 395 and 55; with -20 the box is 406 +- 6 by 35 +- 7: two places, three
+    # Indices 39 and 15 have the centre 395 and 55; with -20 the box is 406 +- 6 by 35 +- 7: two indices, three
     # speeds.
     (
         "cart",
@@ -207,7 +207,8 @@ NO_ROUND = [
     ),
     (
         "25",
-        "no turn has a row: target 1 of 0 to 1 is the first that can't be reached from itself, since no cell lies in it "
+        "no turn has a row: target 1 of 0 to 1 is the first that can't be reached from itself, since no cell lies in "
+        "it "
         "whole and off the obstacles",
     ),
 ]

@@ -72,29 +72,47 @@ def shortened(value):
 
 
 def difference(wanted, got, at=""):
-    """Where two values differ, as two texts: elements of lists, a line of texts, keys of dictionaries."""
-    kinds = {type(wanted), type(got)}
+    """Where two values differ, as two texts: elements of tuples and lists, a line of texts, keys of dictionaries."""
+    kinds, longest = {type(wanted), type(got)}, max(map(length_of, (wanted, got)))
     if kinds == {tuple} and len(wanted) == len(got):
-        pairs = [(k, pair) for k, pair in enumerate(zip(wanted, got)) if not pair[0] == pair[1]][:FEW]
-        parts = [difference(*pair, f"{at}[{k}]") for k, pair in pairs]
-        return [", ".join(part) for part in zip(*parts)]
-    if kinds == {list} and max(len(wanted), len(got)) > FEW:
+        return tuple_difference(wanted, got, at)
+    if kinds == {list} and longest > FEW:
         return element_difference(wanted, got, at)
-    if kinds in ({str}, {bytes}) and max(len(wanted), len(got)) > SHOWN:
+    if kinds in ({str}, {bytes}) and longest > SHOWN:
         return line_difference(wanted, got, at)
     if kinds == {dict}:
-        differ = sorted({key for key in wanted.keys() | got.keys() if not wanted.get(key) == got.get(key)}, key=str)
-        return [f"{at} {shortened({key: one[key] for key in differ if key in one})}".strip() for one in (wanted, got)]
+        return key_difference(wanted, got, at)
     return [f"{at} {shortened(one)}".strip() for one in (wanted, got)]
+
+
+def length_of(value):
+    return len(value) if hasattr(value, "__len__") else 0
+
+
+def numbers_that_differ(wanted, got):
+    """The numbers of elements that differ in two sequences."""
+    return [k for k, (one, other) in enumerate(zip(wanted, got)) if not one == other]
+
+
+def tuple_difference(wanted, got, at):
+    """The elements in which two tuples differ."""
+    numbers = numbers_that_differ(wanted, got)[:FEW] or [0]
+    parts = [difference(wanted[k], got[k], f"{at}[{k}]") for k in numbers]
+    return [", ".join(part) for part in zip(*parts)]
 
 
 def element_difference(wanted, got, at):
     """The first element in which two lists differ; of lists that end there, what follows in the other."""
-    number = next((k for k, pair in enumerate(zip(wanted, got)) if not pair[0] == pair[1]), None)
-    if number is not None:
-        return difference(wanted[number], got[number], f"{at}[{number}]")
+    for k in numbers_that_differ(wanted, got)[:1]:
+        return difference(wanted[k], got[k], f"{at}[{k}]")
     ends = min(len(wanted), len(got))
     return [f"{at} {len(one)} elements, from [{ends}] on {shortened(one[ends:])}".strip() for one in (wanted, got)]
+
+
+def key_difference(wanted, got, at):
+    """The keys in which two dictionaries differ, with their values."""
+    keys = sorted({key for key in wanted.keys() | got.keys() if not wanted.get(key) == got.get(key)}, key=str)
+    return [f"{at} {shortened({key: one[key] for key in keys if key in one})}".strip() for one in (wanted, got)]
 
 
 def line_difference(wanted, got, at):
@@ -115,8 +133,9 @@ class Tally(unittest.TestResult):
 
     def name_of(self, test):
         """PART.CASE.TEST, or PART.CASE of what its class prepares."""
-        *_, case, name = test.id().rstrip(")").split(".")
-        return f"{self.part}.{name}" if "(" in test.id() else f"{self.part}.{case}.{name}"
+        said = test.id().split(" [")[0]
+        *_, case, name = said.rstrip(")").split(".")
+        return f"{self.part}.{name}" if "(" in said else f"{self.part}.{case}.{name}"
 
     def fail(self, test, said):
         self.failed += 1
@@ -154,6 +173,7 @@ def broken_off(err):
     kind, fault, trace = err
     frames = [frame for frame in traceback.extract_tb(trace) if "/unittest/" not in frame.filename]
     own = [frame for frame in frames if "/tests/" in frame.filename] or frames
-    places = dict.fromkeys(f"{Path(one.filename).name}:{one.lineno} `{one.line}`" for one in (own[-1:] + frames[-1:]))
+    lines = (f"{Path(one.filename).name}:{one.lineno} `{one.line}`" for one in own[-1:] + frames[-1:])
     said = " ".join(str(fault).split())
-    return f"it was broken off\n    by:     {kind.__name__}: {said[:2 * SHOWN]}\n    at:     {', '.join(places)}"
+    places = ", ".join(dict.fromkeys(lines))
+    return f"it was broken off\n    by:     {kind.__name__}: {said[:2 * SHOWN]}\n    at:     {places}"

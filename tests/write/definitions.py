@@ -29,8 +29,16 @@ class File:
                 continue
             if line and not line[0].isspace():
                 mutual = bool(re.match(r"(abbrev )?mutual", line))
-            starts = re.match((r"  " if mutual else "") + rf"(?:abbrev pub |unfoldable pub |abbrev |unfoldable |pub )?(?:record |data )?({NAME})", line)
-            if not line.strip() or line.startswith(("use ", "pub mod", "pub use", "mod ")) or re.match(r"(abbrev )?mutual", line):
+            starts = re.match(
+                (r"  " if mutual else "")
+                + rf"(?:abbrev pub |unfoldable pub |abbrev |unfoldable |pub )?(?:record |data )?({NAME})",
+                line,
+            )
+            if (
+                not line.strip()
+                or line.startswith(("use ", "pub mod", "pub use", "mod "))
+                or re.match(r"(abbrev )?mutual", line)
+            ):
                 continue
             if starts:
                 name = starts.group(1)
@@ -41,7 +49,8 @@ class File:
 
 
 def imports_of(text):
-    """What each name that a text imports stands for, as (crate, module, name there), without a name where it is a module's."""
+    """What each name that a text imports stands for, as (crate, module, name there), without a name where it is a
+    module's."""
     found = {}
     for crate, module, names, alias in USE.findall(text):
         for name in re.split(r",\s*", names.strip()):
@@ -103,7 +112,11 @@ def clauses(text):
             body, at = braces(text, text.index("{", line.start()))
             if not private:
                 yield body
-        elif re.match(r"^\s*ghost \w+(:| =)", head) and "{" in head and not re.match(r"^\s*ghost (view|invariant|coded|kept)", head):
+        elif (
+            re.match(r"^\s*ghost \w+(:| =)", head)
+            and "{" in head
+            and not re.match(r"^\s*ghost (view|invariant|coded|kept)", head)
+        ):
             body, at = braces(text, text.index("{", line.start()))
             yield body
 
@@ -145,4 +158,8 @@ def words_in_backticks(text):
 def of_public_clauses(files):
     """The definitions that public clauses name themselves."""
     found = {item for path in CRATES.glob("*/src/**/*.rt") for item in named_in(path)}
-    return {(crate, module, name) for crate, module, name in found if (crate, module) in files and name in files[crate, module].items}
+    return {
+        (crate, module, name)
+        for crate, module, name in found
+        if (crate, module) in files and name in files[crate, module].items
+    }
