@@ -27,6 +27,13 @@ PAGE = 4096
 
 
 def cases(program):
+    yield from of_outputs(program)
+    yield from of_sources(program)
+    yield from of_closed_streams(program)
+    yield from of_long_texts(program)
+
+
+def of_outputs(program):
     for form in FORMS:
         for name, judge in (
             ("to a full device", full),
@@ -35,17 +42,26 @@ def cases(program):
         ):
             yield f"{form.name} {name}", judge(program, form)
         yield f"{form.name} one byte at a time", slowly(program, form)
+
+
+def of_sources(program):
     for form in SYNTH + WORKERS + CHECK + UPGRADE + SIM + STAY[:1] + PATROL[:1] + LIVE:
         for path in ("/", "/proc/self/mem"):
             yield f"{form.name} from {path}", from_path(program, form, path)
         yield f"{form.name} from a source opened for writing", unreadable(program, form)
         yield f"{form.name} from a socket", from_socket(program, form)
+
+
+def of_closed_streams(program):
     for form in FORMS + [MALFORMED, USAGE]:
         for closed in itertools.product((False, True), repeat=3):
             names = [name for name, is_closed in zip(("input", "output", "error"), closed) if is_closed]
             yield f"{form.name} without {' and '.join(names) or 'nothing'}", standing(program, form, closed)
     for form in (MALFORMED, USAGE):
         yield f"{form.name}, its line to a full device", error_full(program, form)
+
+
+def of_long_texts(program):
     for taken in (0, 1, PAGE, 100000):
         yield f"synth 1 of 20,000 cells, whose reader goes after {taken} bytes", leaves(program, taken)
     yield "synth 1 of 20,000 cells to a small pipe that doesn't wait", small(program)

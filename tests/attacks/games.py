@@ -43,8 +43,8 @@ class Draws(random.Random):
 
     def curve(self, name, low, high):
         """A table of points over a range, that mostly follows the name."""
-        places = sorted(self.sample(range(low - 3, high + 4), min(self.randint(2, 6), high - low + 7)))
-        return f"lut({name}, " + ", ".join(f"{x}:{x + self.randint(-4, 4)}" for x in places) + ")"
+        xs = sorted(self.sample(range(low - 3, high + 4), min(self.randint(2, 6), high - low + 7)))
+        return f"lut({name}, " + ", ".join(f"{x}:{x + self.randint(-4, 4)}" for x in xs) + ")"
 
     def values(self):
         """The values of an input, mostly to both sides."""

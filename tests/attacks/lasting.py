@@ -64,38 +64,43 @@ def box_said(plant, box):
 
 
 def driver(plant, rows):
-    """A function that drives the plant from a state in a turn, and tells what is wrong, or None. rows: for each turn
-    the rows of its cells."""
-    names, is_patrol = plant.names(), len(rows) > 1 or rows[0] and min(rank for rank, _ in rows[0].values()) > 0
-    cell = "0"
+    """A function that drives the plant from a state in a turn, and tells what is wrong, or None. rows: for each turn the
+    rows of its cells."""
+    is_patrol = len(rows) > 1 or rows[0] and min(rank for rank, _ in rows[0].values()) > 0
+    said = words_of(plant) | {"turns": len(rows)}
+    said["judge"] = (PATROL if is_patrol else STAY).format(**said)
+    inside = [set(cells_in(plant, box)) for box in plant.targets]
+    arrivals = [inside[turn] & rows[(turn + 1) % len(rows)].keys() for turn in range(len(rows))] if is_patrol else []
+
+    def in_target(*ends):
+        return all(low <= value <= high for value, (low, high) in zip(ends, plant.targets[ends[-1]]))
+
+    vectors = [tuple(plant.vector(number)) or (None,) for number in range(plant.vectors)]
+    room = {"rows": rows, "vectors": vectors, "value_at": value_at, "arrivals": arrivals, "in_target": in_target}
+    exec(STEP.format(**said), room)
+    return room["driven"]
+
+
+def words_of(plant):
+    """What of a plant stands in STEP, in Python's words."""
+    names, cell = plant.names(), "0"
     for (name, low, _, width), count in zip(plant.states, plant.counts):
         cell = f"({cell}) * {count} + ({name} - {low}) // {width}"
-    said = {
+    return {
         "states": ", ".join(name for name, *_ in plant.states),
         "cell": cell,
-        "turns": len(rows),
         "noises": "".join(f"{name}, " for name, *_ in plant.noises),
         "inputs": ", ".join(name for name, _ in plant.inputs) or "_",
         "equations": ", ".join(python_of(node, names) for node in plant.equations),
         "inside": box_said(plant, [state[1:3] for state in plant.states]),
-        "blocked": " or ".join(f"({box_said(plant, box)})" for box in plant.obstacles) or "False",
-        "targets": " or ".join(f"({box_said(plant, box)})" for box in plant.targets),
+        "blocked": any_said(plant, plant.obstacles),
+        "targets": any_said(plant, plant.targets),
     }
-    said["judge"] = (PATROL if is_patrol else STAY).format(**said)
-    inside = [set(cells_in(plant, box)) for box in plant.targets]
-    room = {
-        "rows": rows,
-        "vectors": [tuple(plant.vector(number)) or (None,) for number in range(plant.vectors)],
-        "value_at": value_at,
-        "arrivals": [inside[turn] & rows[(turn + 1) % len(rows)].keys() for turn in range(len(rows))]
-        if is_patrol
-        else [],
-        "in_target": lambda *ends: all(
-            low <= value <= high for value, (low, high) in zip(ends, plant.targets[ends[-1]])
-        ),
-    }
-    exec(STEP.format(**said), room)
-    return room["driven"]
+
+
+def any_said(plant, boxes):
+    """That a state lies in one of the boxes."""
+    return " or ".join(f"({box_said(plant, box)})" for box in boxes) or "False"
 
 
 def cells_in(plant, box):
@@ -112,12 +117,14 @@ def cells_in(plant, box):
 def border(plant, rows):
     """The cells with a row beside which, along some state, there is none."""
     for cell in rows:
-        places = plant.places_of(cell)
-        beside = [places[:i] + [places[i] + side] + places[i + 1 :] for i in range(len(places)) for side in (-1, 1)]
-        if not all(0 <= place < count for other in beside for place, count in zip(other, plant.counts)) or any(
-            plant.cell_at(other) not in rows for other in beside
-        ):
+        indices = plant.places_of(cell)
+        beside = [[*indices[:i], indices[i] + side, *indices[i + 1 :]] for i in range(len(indices)) for side in (-1, 1)]
+        if not all(is_cell(plant, other) and plant.cell_at(other) in rows for other in beside):
             yield cell
+
+
+def is_cell(plant, indices):
+    return all(0 <= index < count for index, count in zip(indices, plant.counts))
 
 
 def rows_of(text, word):

@@ -1,7 +1,7 @@
 """Models made at random, half of them damaged: each is scaled to a text, or refused in one line. GAFFCURRANT_MODELS
 says how many are made (5000).
 
-Run as a program, `tests/hostility/models.py FIRST COUNT`, it tries so many models from this number on, prints a line
+Run as a program, `tests/attacks/models.py FIRST COUNT`, it tries so many models from this number on, prints a line
 for each that ends in neither as it comes, and at the end how many there were of each kind; `--tell` prints a line for
 every model, with its seconds."""
 
@@ -171,7 +171,8 @@ class Maker:
         if kind < 0.65:
             return f"{self.node(depth - 1)} {draws.choice('+-*')} {self.node(depth - 1)}"
         if kind < 0.7:
-            return f"({self.node(depth - 1)})/{draws.choice(['3', f'max({self.node(depth - 1)}, 0.2)', f'max({self.node(depth - 1)}, 0.2)', self.node(0)])}"
+            inner, *large = self.node(depth - 1), *(f"max({self.node(depth - 1)}, 0.2)" for _ in range(2))
+            return f"({inner})/{draws.choice(['3', *large, self.node(0)])}"
         if kind < 0.85:
             return self.call(draws.choice(FUNCTIONS), depth)
         if kind < 0.89:
@@ -233,20 +234,20 @@ def damaged(text, draws):
     for _ in range(draws.choice([1, 1, 2, 4])):
         at = draws.randrange(len(lines))
         words = lines[at].split(" ")
-        place = draws.randrange(len(words))
+        at_word = draws.randrange(len(words))
         change = draws.random()
         if change < 0.15:
             del lines[at]
         elif change < 0.3:
             lines.insert(draws.randrange(len(lines) + 1), lines[at])
         elif change < 0.75:
-            words[place] = draws.choice(PIECES_OF_DAMAGE)
+            words[at_word] = draws.choice(PIECES_OF_DAMAGE)
             lines[at] = " ".join(words)
         elif change < 0.9:
             letter = draws.randrange(len(lines[at]) + 1)
             lines[at] = lines[at][:letter] + draws.choice(["", "9", "(", "-", " ", "e"]) + lines[at][letter + 1 :]
         else:
-            words.insert(place, draws.choice(PIECES_OF_DAMAGE))
+            words.insert(at_word, draws.choice(PIECES_OF_DAMAGE))
             lines[at] = " ".join(words)
         lines = lines or [""]
     return "\n".join(lines) + "\n"

@@ -299,6 +299,14 @@ def read_table(data):
 # ---- live scripts
 
 
+def is_size(words):
+    return len(words) == 1 and DECIMAL.match(words[0]) and 1 <= int(words[0]) <= TABLE_LIMIT
+
+
+def is_state(words):
+    return 1 <= len(words) <= 6 and all(map(LITERAL.match, words))
+
+
 class ScriptReader:
     """Reads a script line by line, and answers its questions by the table that was read last."""
 
@@ -314,14 +322,9 @@ class ScriptReader:
         while self.rest or not self.tables:
             line, feed, self.rest = self.rest.partition(b"\n")
             word, *numbers = line.split(b" ") if feed else [b""]
-            if (
-                word == b"publish"
-                and len(numbers) == 1
-                and DECIMAL.match(numbers[0])
-                and 1 <= int(numbers[0]) <= TABLE_LIMIT
-            ):
+            if word == b"publish" and is_size(numbers):
                 self.publish(int(numbers[0]))
-            elif word == b"ask" and self.tables and 1 <= len(numbers) <= 6 and all(map(LITERAL.match, numbers)):
+            elif word == b"ask" and self.tables and is_state(numbers):
                 yield f"{len(self.tables)} {number_word(self.choice([int(number) for number in numbers]))}"
                 self.line += 1
             else:

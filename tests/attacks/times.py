@@ -245,9 +245,9 @@ def tree(leaf, join, nodes):
     return of(0, leaves)
 
 
-def six(places):
-    """Six states with so many places each, but for the last, which has one."""
-    return [(name, b"0 %d 1" % (places - 1)) for name in STAY[:5]] + [(b"f", b"0 0 1")]
+def six(count):
+    """Six states with so many cells along each, but for the last, which has one."""
+    return [(name, b"0 %d 1" % (count - 1)) for name in STAY[:5]] + [(b"f", b"0 0 1")]
 
 
 STAY = [b"a", b"b", b"c", b"d", b"e", b"f"]

@@ -49,13 +49,16 @@ class Real:
         self.names = [name for name, *_ in of("state")]
         self.ranges = [(float(low), float(high)) for _, low, high, *_ in of("state")]
         self.units = {name: float(unit) for name, unit, *_ in of("input")}
-        self.noises = [(name, float(low), float(high)) for name, low, high in of("noise")]
-        self.exact, self.wraps = ([name for (name,) in of(keyword)] for keyword in ("exact", "wrap"))
+        self.noises = [(name, float(low), float(high)) for name, low, high, *_ in of("noise")]
+        self.exact, self.wraps = (list(map(first, of(keyword))) for keyword in ("exact", "wrap"))
         sides = ["".join(words[2:]).replace("^", "**") for words in of("d", "next")]
-        room = {name: getattr(math, name) for name in FUNCTIONS} | {"lut": curve}
-        room |= {name: float(value) for name, value in of("param")}
+        self.after = self.compiled(sides, {name: float(value) for name, value, *_ in of("param")})
+
+    def compiled(self, sides, parameters):
+        """The right sides as a function of the states, the inputs and the noises: the state after a sample."""
+        room = {name: getattr(math, name) for name in FUNCTIONS} | {"lut": curve} | parameters
         exec("\n    ".join(self.lines_of_plain(sides) if self.time is None else self.lines_of_path(sides)), room)
-        self.after = room["after"]
+        return room["after"]
 
     def lines_of_plain(self, sides):
         names = self.names + list(self.units) + [name for name, *_ in self.noises]
@@ -86,6 +89,10 @@ class Real:
         """The state after a sample under random noises."""
         noises = [drawn(draws, low, high) for _, low, high in self.noises * (1 if self.time is None else 2)]
         return self.after(*state, *inputs, *noises)
+
+
+def first(words):
+    return words[0]
 
 
 def curve(at, *points):

@@ -80,7 +80,7 @@ def modules():
 
 
 def braces(text, at):
-    """The text within the braces that open at a place, and the place behind them."""
+    """The text within the braces that open at an offset, and the offset behind them."""
     depth, k = 0, at
     while True:
         if text[k] == "{":
@@ -92,32 +92,39 @@ def braces(text, at):
         k += 1
 
 
+FUNCTION = re.compile(r"\s*(pub(\([^)]*\))? )?(const )?(unsafe )?fn ")
+PUBLIC_FUNCTION = re.compile(r"\s*pub (const |unsafe )?fn ")
+CLAUSE = re.compile(r"\s*(requires|ensures)")
+MODEL = re.compile(r"\s*ghost (?!view|invariant|coded|kept)\w+(:| =).*\{")
+
+
+class Blocks:
+    """In what the lines of a source stand: a trait, an implementation of one, a function that is private."""
+
+    def __init__(self):
+        self.in_trait = self.in_implementation = self.is_private = False
+
+    def enter(self, line):
+        if re.match(r"(pub )?trait ", line):
+            self.in_trait = True
+        if line.startswith("}"):
+            self.in_trait = self.in_implementation = False
+        if re.match(r"impl.* for ", line):
+            self.in_implementation = True
+        if FUNCTION.match(line):
+            self.is_private = not (PUBLIC_FUNCTION.match(line) or self.in_trait or self.in_implementation)
+
+
 def clauses(text):
     """The clauses of public functions and traits, and the models, of a source file."""
-    inside_trait = inside_impl_trait = private = False
-    at = 0
-    for line in re.finditer(r"^.*$", text, re.M):
-        head = line.group()
-        if re.match(r"^(pub )?trait ", head):
-            inside_trait = True
-        if re.match(r"^}", head):
-            inside_trait = inside_impl_trait = False
-        if re.match(r"^impl.* for ", head):
-            inside_impl_trait = True
-        if re.match(r"^\s*(pub(\([^)]*\))? )?(const )?(unsafe )?fn ", head):
-            private = not (re.match(r"^\s*pub (const |unsafe )?fn ", head) or inside_trait or inside_impl_trait)
-        if line.start() < at:
+    blocks, at = Blocks(), 0
+    for found in re.finditer(r"^.*$", text, re.M):
+        line = found.group()
+        blocks.enter(line)
+        if found.start() < at or not (CLAUSE.match(line) or MODEL.match(line)):
             continue
-        if re.match(r"^\s*(requires|ensures)", head):
-            body, at = braces(text, text.index("{", line.start()))
-            if not private:
-                yield body
-        elif (
-            re.match(r"^\s*ghost \w+(:| =)", head)
-            and "{" in head
-            and not re.match(r"^\s*ghost (view|invariant|coded|kept)", head)
-        ):
-            body, at = braces(text, text.index("{", line.start()))
+        body, at = braces(text, text.index("{", found.start()))
+        if MODEL.match(line) or not blocks.is_private:
             yield body
 
 
