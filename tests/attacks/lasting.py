@@ -131,7 +131,8 @@ def rows_of(text, word):
     """The rows of each turn of the text that the program wrote."""
     reader = TableReader(text)
     reader.line()
-    plant, rows = reader.plant(), []
+    reader.plant()
+    rows = []
     while True:
         words = reader.line().split()
         if words == [b"end"]:
