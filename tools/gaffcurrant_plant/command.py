@@ -9,8 +9,10 @@ import threading
 import time
 from contextlib import contextmanager
 
-from .refused import Failure
+from .faults import Failure
 
+# The folder in which the package lies.
+PARENT = os.path.dirname(os.path.dirname(os.path.realpath(__file__)))
 # Seconds from line to line of what takes long, off a terminal.
 EVERY = 10
 DEBIAN, DEBIAN_MODULES = "/usr/bin/python3", ("/usr/lib/python3/dist-packages", "/usr/local/lib/python3/dist-packages")
@@ -51,6 +53,8 @@ def prefer(*modules):
         return
     if sum(map(is_in_debian, modules)) > len(modules) - len(missing):
         os.environ["GAFFCURRANT_PYTHON"] = missing[0]
+        # That Python has to find this package too, which pip may have put beside this one's.
+        os.environ["PYTHONPATH"] = os.pathsep.join([PARENT, *filter(None, [os.environ.get("PYTHONPATH")])])
         os.execv(DEBIAN, [DEBIAN, os.path.abspath(sys.argv[0])] + sys.argv[1:])
 
 

@@ -9,7 +9,7 @@ from pathlib import Path
 from typing import NamedTuple
 
 from manual import Pages
-from wheel import module_files, programs
+from plain_wheel import module_files, programs
 
 TOP = Path(__file__).resolve().parents[2]
 TOOLS = TOP / "tools"

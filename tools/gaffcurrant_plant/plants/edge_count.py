@@ -1,0 +1,115 @@
+"""Counts the edges of a plant exactly, axis by axis: how many places a box meets along an axis rests on the variables of
+that state's equation alone, and the sum over all pairs of the products is taken variable by variable."""
+
+import itertools
+
+from ..faults import Failure
+
+WORK = 1_200_000
+
+
+class TooMuch(Failure):
+    """The count would take more than WORK products."""
+
+
+def edges_of(plant):
+    """The number of successors of all pairs, or raises TooMuch."""
+    sizes = plant.counts + [len(values) for _, values in plant.inputs]
+    tables = [_axis_table(plant, axis, sizes) for axis in range(len(plant.states))]
+    for variable in sorted(range(len(sizes)), key=lambda one: sum(one in names for names, _ in tables)):
+        tables = _without(variable, tables, sizes)
+    total = 1
+    for _, table in tables:
+        total *= table.get((), 0)
+    return total
+
+
+def _axis_table(plant, axis, sizes):
+    """For the places and inputs that an equation names, how many places the box meets along its axis; 0 left out."""
+    wide = len(plant.states)
+    names = [i for i in sorted(plant.uses[axis]) if i < len(sizes)]
+    _check(names, sizes)
+    _, least, most, width = plant.states[axis]
+    table = {}
+    values = [0] * len(sizes) + list(plant.rest)
+    vectors = _vector_weights(plant)
+    ranges = [range(sizes[i]) for i in names]
+    function, moves = plant.functions[axis], {}
+    for places in itertools.product(*ranges):
+        chosen = tuple(place for i, place in zip(names, places) if i >= wide)
+        if chosen not in moves:
+            vector = sum(vectors[i] * place for i, place in zip(names, places) if i >= wide)
+            moves[chosen] = plant.bounds(axis, vector)[2]
+        for i, place in zip(names, places):
+            values[i] = plant.inputs[i - wide][1][place] if i >= wide else \
+                plant.states[i][1] + place * plant.states[i][3] + plant.radii[i]
+        area = _area(plant, names, values) if plant.version > 1 else None
+        low, high = plant.side(axis, function(values), moves[chosen], area)
+        if low >= least and high <= most:
+            table[places] = (high - least) // width - (low - least) // width + 1
+    return names, table
+
+
+def _area(plant, names, values):
+    """The cell's area where the variables that an equation names have these values, states at their centres; the others,
+    on which its span doesn't rest, have their whole ranges."""
+    wide = len(plant.states)
+    area = [state[1:3] for state in plant.states] + [(min(choices), max(choices)) for _, choices in plant.inputs]
+    area += [noise[1:] for noise in plant.noises]
+    for i in names:
+        low = values[i] - plant.radii[i] if i < wide else values[i]
+        area[i] = (low, low + (plant.states[i][3] - 1 if i < wide else 0))
+    return area
+
+
+def _vector_weights(plant):
+    """By how much the number of the input vector grows with the place of each input, by the variable's number."""
+    weights, weight = {}, 1
+    for i in reversed(range(len(plant.inputs))):
+        weights[len(plant.states) + i] = weight
+        weight *= len(plant.inputs[i][1])
+    return weights
+
+
+def _check(names, sizes):
+    work = 1
+    for i in names:
+        work *= sizes[i]
+    if work > WORK:
+        raise TooMuch
+
+
+def _without(variable, tables, sizes):
+    """The tables with one variable summed out of the product of those that name it."""
+    naming = [one for one in tables if variable in one[0]]
+    rest = [one for one in tables if variable not in one[0]]
+    if not naming:
+        return rest + [([], {(): sizes[variable]})]
+    product = naming[0]
+    for other in naming[1:]:
+        product = _product(product, other, sizes)
+    names, table = product
+    at = names.index(variable)
+    summed = {}
+    for places, count in table.items():
+        left = places[:at] + places[at + 1:]
+        summed[left] = summed.get(left, 0) + count
+    return rest + [(names[:at] + names[at + 1:], summed)]
+
+
+def _product(first, second, sizes):
+    """The product of two tables over the variables of both."""
+    names, more = first[0], [i for i in second[0] if i not in first[0]]
+    _check(names + more, sizes)
+    shared = [second[0].index(i) for i in second[0] if i in names]
+    of_first = [names.index(second[0][at]) for at in shared]
+    new = [second[0].index(i) for i in more]
+    grouped = {}
+    for places, count in second[1].items():
+        key = tuple(places[at] for at in shared)
+        grouped.setdefault(key, []).append((tuple(places[at] for at in new), count))
+    table = {}
+    for places, count in first[1].items():
+        for added, times in grouped.get(tuple(places[at] for at in of_first), ()):
+            table[places + added] = count * times
+    return names + more, table

@@ -1,0 +1,183 @@
+"""The rows of a table as arrays, for tables of a million cells. Needs numpy."""
+
+import re
+import warnings
+from typing import NamedTuple
+
+import numpy
+
+from ..plants.reader import Refused
+from .rows import VERSIONS, front_of
+
+NONE = -1
+KINDS = tuple(VERSIONS)
+
+
+class Cells:
+    """For each cell its rank and its input, NONE where there is no row, no rank or no input; of a patrol text those of one turn."""
+
+    def __init__(self, data, turn=0, turns=None):
+        self.turn, self.turns = turn, turns or Turns(data)
+        front = self.turns.front
+        self.plant, self.kind, self.version = front.plant, front.kind, front.version
+        firsts, lasts, ranks, inputs = columns_of(data, front, turn)
+        lengths = lasts - firsts + 1
+        cells = numpy.arange(lengths.sum()) + numpy.repeat(firsts - numpy.cumsum(lengths) + lengths, lengths)
+        self.won = numpy.zeros(self.plant.cells, dtype=bool)
+        self.ranks = numpy.full(self.plant.cells, NONE)
+        self.inputs = numpy.full(self.plant.cells, NONE)
+        self.won[cells] = True
+        self.ranks[cells], self.inputs[cells] = numpy.repeat(ranks, lengths), numpy.repeat(inputs, lengths)
+
+    def row_of(self, cell):
+        """The row of a cell as a pair, or None."""
+        if not self.won[cell]:
+            return None
+        rank, choice = int(self.ranks[cell]), int(self.inputs[cell])
+        return None if rank == NONE else rank, None if choice == NONE else choice
+
+    def cell_of(self, states):
+        """The cells of states, an array of one line each, or NONE outside of the domain."""
+        states = numpy.asarray(states)
+        wide = len(self.plant.states)
+        if states.ndim != 2 or states.shape[1] != wide:
+            raise ValueError(f"states are an array of {wide} columns, here is one of the shape {states.shape}")
+        if not numpy.issubdtype(states.dtype, numpy.integer):
+            raise ValueError("states are whole numbers; whole_states makes them of real ones")
+        low, high, width = (numpy.array([state[k] for state in self.plant.states]) for k in (1, 2, 3))
+        cells = numpy.zeros(len(states), dtype=numpy.int64)
+        for column, count in zip(((states - low) // width).T, self.plant.counts):
+            cells = cells * count + column
+        return numpy.where(numpy.all((low <= states) & (states <= high), axis=1), cells, NONE)
+
+    def rank(self, states):
+        """The ranks at states; NONE where there is no row, and with goal keep."""
+        cells = self.cell_of(states)
+        return numpy.where(cells == NONE, NONE, self.ranks[cells])
+
+    def choice(self, states):
+        """The values to apply at states, a line for each, masked where there is no row, and in the target of a table."""
+        cells = self.cell_of(states)
+        numbers = numpy.where(cells == NONE, NONE, self.inputs[cells])
+        vectors = numpy.array([self.plant.vector(number) for number in range(self.plant.vectors)], dtype=numpy.int64).reshape(self.plant.vectors, -1)
+        mask = numpy.broadcast_to((numbers == NONE)[:, None], (len(numbers), vectors.shape[1]))
+        return numpy.ma.masked_array(vectors[numbers], mask)
+
+    def of_turn(self, turn):
+        """The cells of another turn of the same patrol."""
+        return self.turns.cells(turn)
+
+    def is_arrival(self, turn, cell):
+        """Whether a cell lies in the target of a turn, and has a row for the next one."""
+        plant = self.plant
+        inside = all(low <= bottom and top <= high
+                     for (low, high), bottom, top in zip(plant.targets[turn], plant.low(cell), plant.high(cell)))
+        return inside and bool(self.of_turn((turn + 1) % len(plant.targets)).won[cell])
+
+    def arranged(self, values, axes, fixed):
+        """Values of cells over the places of some axes, and behind them over those of the other states that aren't fixed."""
+        counts = self.plant.counts
+        others = [i for i in range(len(counts)) if i not in axes]
+        chosen = tuple([slice(None)] * len(axes) + [fixed.get(i, slice(None)) for i in others])
+        part = values.reshape(counts).transpose(list(axes) + others)[chosen]
+        return part.reshape([counts[i] for i in axes] + [-1])
+
+    def seen(self, axes, fixed):
+        """Rank, input and whether there is a row, over the places of some axes. The other states are fixed at a place, or the cell
+        of the least rank is taken over all of their places."""
+        won = self.arranged(self.won, axes, fixed)
+        ranks = self.arranged(self.ranks, axes, fixed)
+        best = numpy.where(won, ranks, numpy.iinfo(numpy.int64).max).argmin(axis=-1)[..., None]
+        parts = (ranks, self.arranged(self.inputs, axes, fixed), won)
+        return [numpy.take_along_axis(part, best, -1)[..., 0] for part in parts]
+
+    def share(self, axes, fixed):
+        """Over the places of some axes, the share of the places of the other states that have a row."""
+        return self.arranged(self.won, axes, fixed).mean(axis=-1)
+
+
+def whole_states(plant, units, states):
+    """The whole numbers of real states, an array of one line each, in a model's units. A value within 10^-9 of a unit's end counts as at that end."""
+    sizes = numpy.array([float(units.size(name)) for name, *_ in plant.states])
+    return numpy.floor(numpy.asarray(states, dtype=float) / sizes + 1e-9).astype(numpy.int64)
+
+
+class Run(NamedTuple):
+    """A run as arrays: the times, the states and the inputs, a line each, and the ranks and turns, NONE where there is none."""
+    times: numpy.ndarray
+    states: numpy.ndarray
+    ranks: numpy.ndarray
+    inputs: numpy.ndarray
+    turns: numpy.ndarray
+
+
+def run_of(samples, units=None, plant=None):
+    """The Run of what `simulate` gives. With a plant's units states and inputs are in these: states at the middles of their units, what is a whole number by
+    itself as it is."""
+    states = numpy.array([sample.state for sample in samples])
+    wide = max((len(sample.inputs) for sample in samples if sample.inputs is not None), default=0)
+    inputs = numpy.ma.masked_array([sample.inputs or (0,) * wide for sample in samples], [[sample.inputs is None] * wide for sample in samples])
+    ranks, turns = (numpy.array([NONE if value is None else value for value in column]) for column in
+                    ([sample.rank for sample in samples], [sample.turn for sample in samples]))
+    if units:
+        states = (states + [0.5 * (name not in units.exact) for name, *_ in plant.states]) * [float(units.size(name)) for name, *_ in plant.states]
+        inputs = inputs * numpy.array([float(units.size(name)) for name, _ in plant.inputs][:wide])
+    return Run(numpy.array([sample.time for sample in samples]), states, ranks, inputs, turns)
+
+
+class Turns:
+    """The turns of a patrol text; any other text counts as one."""
+
+    def __init__(self, data):
+        self.data, self.front, self.known = data, front_of(data, KINDS), {}
+        self.is_patrol = self.front.kind == "patrol"
+        self.count = len(self.front.plant.targets) if self.is_patrol else 1
+
+    def cells(self, turn):
+        if turn not in self.known:
+            self.known[turn] = Cells(self.data, turn, self)
+        return self.known[turn]
+
+
+def rows_at(data, front, turn):
+    """The line, the byte and the number of the first row line, of a patrol text in one turn; raises Refused."""
+    at, line = front.at, front.line
+    for number in range(turn + 1):
+        before = f"turn {number} rows" if front.kind == "patrol" else "rows"
+        counted = re.compile(rf"{before} (0|[1-9][0-9]{{0,8}})\n".encode()).match(data, at)
+        if not counted:
+            raise Refused(f"malformed: line {line}", f"`{before} N` is due")
+        at, line = counted.end(), line + 1
+        if number < turn:
+            for _ in range(int(counted.group(1))):
+                at, line = data.find(b"\n", at) + 1 or len(data), line + 1
+    return line, at, int(counted.group(1))
+
+
+def end_of(data, at):
+    """The byte at which a turn's row lines, or the text's, end."""
+    behind = re.compile(rb"(?:turn |end\n)").search(data, at)
+    return behind.start() if behind else len(data)
+
+
+def columns_of(data, front, turn):
+    """The first and last cells, ranks and inputs of the row lines; raises Refused where they are none."""
+    line, at, count = rows_at(data, front, turn)
+    end, wide = end_of(data, at), 3 + front.in_runs()
+    if not data.endswith(b"\nend\n"):
+        raise Refused(f"malformed: line {data.count(10) + 1}", "the text is cut off: its last line isn't `end`")
+    with warnings.catch_warnings():
+        warnings.simplefilter("error")
+        try:
+            numbers = numpy.fromstring(data[at:end].replace(b"-", b"-1"), dtype=numpy.int64, sep=" ")
+        except (DeprecationWarning, ValueError):
+            raise Refused(f"malformed: line {line}", "the row lines aren't of their form") from None
+    if numbers.size != wide * count or data.count(b"\n", at, end) != count:
+        raise Refused(f"malformed: line {line + count}", f"{count} row lines are due")
+    columns = numbers.reshape(-1, wide).T
+    firsts, lasts, ranks, inputs = columns[0], columns[wide - 3], columns[-2], columns[-1]
+    if count and (numpy.any(firsts[1:] <= lasts[:-1]) or numpy.any(lasts < firsts) or firsts[0] < 0
+                  or lasts[-1] >= front.plant.cells or numpy.any(inputs >= front.plant.vectors)):
+        raise Refused(f"malformed: line {line}", "the cells of the row lines don't rise below the number of cells, or "
+                      "an input is none")
+    return firsts, lasts, ranks, inputs
