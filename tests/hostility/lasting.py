@@ -5,9 +5,9 @@ import os
 import random
 from pathlib import Path
 
-from gaffcurrant_plant.bounds import SHAPES, value_at
-from gaffcurrant_plant.expression import parts_of
-from gaffcurrant_plant.reader import read_plant
+from gaffcurrant_plant.plants.bounds import SHAPES, value_at
+from gaffcurrant_plant.plants.expression import parts_of
+from gaffcurrant_plant.plants.reader import read_plant
 
 from .oracle import TableReader
 

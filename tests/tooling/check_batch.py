@@ -3,9 +3,9 @@
 import importlib.util
 import random
 
-from gaffcurrant_plant.counting import TooMuch, edges_of
-from gaffcurrant_plant.reader import read_plant
-from gaffcurrant_plant.table import read_table, text_of_table
+from gaffcurrant_plant.plants.edge_count import TooMuch, edges_of
+from gaffcurrant_plant.plants.reader import read_plant
+from gaffcurrant_plant.texts.table import read_table, text_of_table
 
 from hostility import games
 
@@ -48,7 +48,7 @@ def check_plant(report, plant):
 
 def check_useless(report):
     """What is called useless, and that the others win the same in as many samples."""
-    from gaffcurrant_plant.useless import useless
+    from gaffcurrant_plant.plants.useless_inputs import useless
     report.expect("an input that stays is of no use", ([0], []), useless(read_plant(USELESS)))
     report.expect("an input that widens boxes is of no use", ([], [1, 3]), useless(read_plant(DOMINATED)))
     for number in range(DRAWN):
@@ -69,7 +69,7 @@ def check_useless(report):
 
 def check_quick_rows(report):
     """Rows that are read at once are those that are read one by one."""
-    from gaffcurrant_plant import rows
+    from gaffcurrant_plant.texts import rows
     data = (report.top / "examples/cart/cart.table").read_bytes()
     table = read_table(data)
     for version in (1, 2):

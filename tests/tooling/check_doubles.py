@@ -7,7 +7,7 @@ import sys
 import subprocess
 
 from gaffcurrant_plant.command import DEBIAN
-from gaffcurrant_plant.reader import read_plant
+from gaffcurrant_plant.plants.reader import read_plant
 
 RUNS = 2000
 # The heading's plant as it was without noise in the heading: turns of two cells.
@@ -110,7 +110,7 @@ def check_refused(report):
 def check_python(report):
     """The same from Python."""
     script = (f"import sys; sys.path.insert(0, {str(report.top / 'tools')!r})\n"
-              "from gaffcurrant_plant import read_text\nfrom gaffcurrant_plant.real import real_runs\n"
+              "from gaffcurrant_plant import read_text\nfrom gaffcurrant_plant.ways.real_runs import real_runs\n"
               f"model = open({str(report.top / 'examples/gate/gate.model')!r}).read()\n"
               f"table = read_text(open({str(report.room / 'gate.table')!r}, 'rb').read())\n"
               "outcome = real_runs(model, table, runs=200, seed=3)\n"
@@ -120,7 +120,7 @@ def check_python(report):
     report.expect("runs in doubles from Python", (0, b"200 0 True None []\n"), (done.returncode, done.stdout or done.stderr))
     docks = report.top / "examples/docks"
     script = (f"import sys; sys.path.insert(0, {str(report.top / 'tools')!r})\n"
-              "from gaffcurrant_plant import read_text\nfrom gaffcurrant_plant.matching import model_at\nfrom gaffcurrant_plant.real import Loop\n"
+              "from gaffcurrant_plant import read_text\nfrom gaffcurrant_plant.models.agreement import model_at\nfrom gaffcurrant_plant.ways.real_runs import Loop\n"
               f"loop = Loop(model_at({str(docks / 'docks.model')!r}), read_text(open({str(docks / 'docks.patrol')!r}, 'rb').read()), 200, 1)\n"
               "turns = loop.turns.copy()\nloop.drive(None, 0)\n"
               "print(len({(turn, kind, push) for turn, kind, push in zip(turns.tolist(), loop.begins.kinds.tolist(), loop.pushes.kinds.tolist())}))\n")
@@ -128,7 +128,7 @@ def check_python(report):
     # 2 turns, 4 kinds of starts and 5 of disturbances.
     report.expect("runs of a patrol begin in each way in each turn", (0, b"40\n"), (done.returncode, done.stdout or done.stderr))
     script = (f"import sys; sys.path.insert(0, {str(report.top / 'tools')!r})\n"
-              "from gaffcurrant_plant import Trouble\nfrom gaffcurrant_plant.real import real_runs\n"
+              "from gaffcurrant_plant import Trouble\nfrom gaffcurrant_plant.ways.real_runs import real_runs\n"
               f"model, text = (open({str(docks)!r} + '/docks.' + end, 'rb').read() for end in ('model', 'patrol'))\n"
               "outcome = real_runs(model, text, runs=20, samples=1, turn=1)\nprint(outcome.runs, sum(outcome.violations.values()))\n"
               "try:\n    real_runs(model, text.decode(), runs=20, turn=2)\nexcept Trouble as trouble:\n    print(trouble)\n")

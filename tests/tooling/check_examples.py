@@ -7,8 +7,8 @@ import re
 import subprocess
 import sys
 
-from gaffcurrant_plant.reader import read_plant
-from gaffcurrant_plant.table import read_text
+from gaffcurrant_plant.plants.reader import read_plant
+from gaffcurrant_plant.texts.table import read_text
 
 from .check_doubles import has_numpy
 from .check_temporal import runs_of

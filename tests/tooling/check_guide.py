@@ -7,8 +7,8 @@ import subprocess
 import sys
 from fractions import Fraction
 
-from gaffcurrant_plant.reader import read_plant
-from gaffcurrant_plant.table import read_table
+from gaffcurrant_plant.plants.reader import read_plant
+from gaffcurrant_plant.texts.table import read_table
 
 
 def check(report):

@@ -5,7 +5,7 @@ import os
 import subprocess
 import sys
 
-from gaffcurrant_plant.table import read_table, text_of_table
+from gaffcurrant_plant.texts.table import read_table, text_of_table
 
 BOM = b"\xef\xbb\xbf"
 LONG = "9" * 5000

@@ -5,7 +5,7 @@ with many kept cells a few are driven, for fewer samples."""
 import itertools
 import random
 
-from gaffcurrant_plant.table import read_table
+from gaffcurrant_plant.texts.table import read_table
 
 SAMPLES, FEW_SAMPLES = 10_000, 2_000
 MANY, STARTS = 2_000, 60

@@ -13,9 +13,9 @@ import tempfile
 from concurrent.futures import ThreadPoolExecutor
 from pathlib import Path
 
-from gaffcurrant_plant.controller import APPLY, ARRIVED, NO_ROW, Controller
-from gaffcurrant_plant.reader import Refused
-from gaffcurrant_plant.table import NoRow, read_table, read_text, text_of_table
+from gaffcurrant_plant.texts.controller import APPLY, ARRIVED, NO_ROW, Controller
+from gaffcurrant_plant.plants.reader import Refused
+from gaffcurrant_plant.texts.table import NoRow, read_table, read_text, text_of_table
 
 from .check_readers import c_answers, expected, random_states
 from .check_temporal import DAMAGED, PATROL, STAY

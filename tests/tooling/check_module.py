@@ -11,8 +11,8 @@ import sys
 from fractions import Fraction
 
 from gaffcurrant_plant import NoRow, Refused, Trouble, Units, read_plant, read_table, read_text, scale, simulate, solve
-from gaffcurrant_plant.loop import read_trace
-from gaffcurrant_plant.model import read_model
+from gaffcurrant_plant.texts.loop import read_trace
+from gaffcurrant_plant.models.model import read_model
 
 LINE = "plant 1\nstate x 0 14 3\ninput u -3 3\nnext x = x + u\ntarget 12 14\ngoal reach\nend\n"
 
@@ -120,7 +120,7 @@ def check_arrays(report):
     if not importlib.util.find_spec("numpy"):
         print("skipped: numpy isn't there (apt-get install python3-numpy), so arrays of states aren't tried")
         return
-    from gaffcurrant_plant import arrays
+    from gaffcurrant_plant.texts import arrays
     data, draws = (report.top / "examples/cart/cart.table").read_bytes(), random.Random(5)
     table, cells = read_table(data), arrays.Cells(data)
     states = [[draws.randrange(-20, 620), draws.randrange(-120, 120)] for _ in range(500)]
@@ -178,7 +178,7 @@ def check_types(report):
         print("skipped: mypy isn't there (apt-get install mypy), so type hints aren't tried")
         return
     (report.room / "use.py").write_text(USE)
-    files = [report.top / "tools/gaffcurrant_plant" / name for name in ("table.py", "solving.py", "asking.py")]
+    files = [report.top / "tools/gaffcurrant_plant/texts" / name for name in ("table.py", "solver.py", "real_states.py")]
     done = subprocess.run(["mypy", "--cache-dir", report.room / "cache", "--config-file", report.top / "tools/pyproject.toml", report.room / "use.py", *files],
                           capture_output=True, check=False, text=True, env=os.environ | {"MYPYPATH": str(report.top / "tools")})
     report.holds("mypy on the module and a use of it", done.returncode == 0, done.stdout)
@@ -207,7 +207,7 @@ def check_install(report):
     names = sorted(path.name for path in (room / "bin").glob("gaffcurrant-*"))
     tools = [path for path in (report.top / "tools").iterdir() if path.is_file() and not path.suffix and path.name not in ("library", "program")]
     report.expect("a program for each of tools/ but the scripts library and program", sorted(f"gaffcurrant-{path.name}" for path in tools), names)
-    done = subprocess.run([room / "bin/python", "-c", "from gaffcurrant_plant.solving import program; print(program())"], capture_output=True, check=False, text=True,
+    done = subprocess.run([room / "bin/python", "-c", "from gaffcurrant_plant.texts.solver import program; print(program())"], capture_output=True, check=False, text=True,
                           env=environment, cwd=report.room)
     report.expect("the installed module runs the launcher", str(report.top / "gaffcurrant"), done.stdout.strip())
 

@@ -6,10 +6,10 @@ import re
 import subprocess
 import sys
 
-from gaffcurrant_plant import paging
-from gaffcurrant_plant.reader import Refused
-from gaffcurrant_plant.rows import VERSIONS, Lines, front_of
-from gaffcurrant_plant.table import read_text
+from gaffcurrant_plant.pages import page as paging
+from gaffcurrant_plant.plants.reader import Refused
+from gaffcurrant_plant.texts.rows import VERSIONS, Lines, front_of
+from gaffcurrant_plant.texts.table import read_text
 
 from . import page_cells, page_hand
 from .browser import Browser, Failed, browser_there

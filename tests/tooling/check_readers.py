@@ -10,8 +10,8 @@ import sys
 import tempfile
 from pathlib import Path
 
-from gaffcurrant_plant.loop import read_trace, run
-from gaffcurrant_plant.table import read_table, text_of_table
+from gaffcurrant_plant.texts.loop import read_trace, run
+from gaffcurrant_plant.texts.table import read_table, text_of_table
 
 NAMES = ("line", "tank", "cart", "gate", "cruise", "double_integrator", "follow", "boost", "vehicle")
 IN_RUNS = ("line", "cart", "gate", "vehicle")

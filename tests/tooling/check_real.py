@@ -6,7 +6,7 @@ import os
 import random
 import re
 
-from gaffcurrant_plant.reader import read_plant
+from gaffcurrant_plant.plants.reader import read_plant
 
 # Of each model.
 POINTS = int(os.environ.get("GAFFCURRANT_POINTS", 100_000))

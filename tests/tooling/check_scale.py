@@ -5,7 +5,7 @@ import random
 import re
 from fractions import Fraction
 
-from gaffcurrant_plant.reader import read_plant
+from gaffcurrant_plant.plants.reader import read_plant
 
 HEAD = "state x 0 9.99 0.09 0.01\nstate v -1.21 1.22 0.09 0.01\ninput u 0.01 -1 -0.6 0 0.2 1\n"
 

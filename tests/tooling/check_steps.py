@@ -3,7 +3,7 @@ lie within the noise."""
 
 import re
 
-from gaffcurrant_plant.reader import read_plant
+from gaffcurrant_plant.plants.reader import read_plant
 
 from .check_real import GOAL, check_complaints, check_points
 

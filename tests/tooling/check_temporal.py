@@ -8,9 +8,9 @@ import shutil
 import tempfile
 from pathlib import Path
 
-from gaffcurrant_plant.reader import Refused
-from gaffcurrant_plant.solving import simulate
-from gaffcurrant_plant.table import read_text, text_of_patrol, text_of_stay
+from gaffcurrant_plant.plants.reader import Refused
+from gaffcurrant_plant.texts.solver import simulate
+from gaffcurrant_plant.texts.table import read_text, text_of_patrol, text_of_stay
 from hostility import games, oracle
 
 from .check_readers import c_answers, python_answers

@@ -4,10 +4,10 @@ import math
 from fractions import Fraction
 
 from gaffcurrant_plant.command import Trouble
-from gaffcurrant_plant.drawing import Course
-from gaffcurrant_plant.reader import read_plant
-from gaffcurrant_plant.units import Units, decimal, read_units
-from gaffcurrant_plant.view import View
+from gaffcurrant_plant.pictures.flat import Course
+from gaffcurrant_plant.plants.reader import read_plant
+from gaffcurrant_plant.plants.units import Units, decimal, read_units
+from gaffcurrant_plant.pictures.view import View
 
 MODEL = b"state x 0 1 0.1 0.02\nstate v -1 1 0.5 0.25\ninput u 0.5 -1 0 1\nunit x m\nunit u m/s^2\nnext x = x + 0.1*v\nnext v = v + u\ngoal keep\n"
 COMMENTS = ["# unit x 0.02 m: a real value lies between its whole number and the next one",

@@ -3,10 +3,10 @@
 import itertools
 import random
 
-from gaffcurrant_plant.bounds import bounds_of, compiled, compiled_span, span_of
-from gaffcurrant_plant.expression import Fault, parse, text_of
-from gaffcurrant_plant.reader import Refused, read_plant
-from gaffcurrant_plant.table import read_table, text_of_table
+from gaffcurrant_plant.plants.bounds import bounds_of, compiled, compiled_span, span_of
+from gaffcurrant_plant.plants.expression import Fault, parse, text_of
+from gaffcurrant_plant.plants.reader import Refused, read_plant
+from gaffcurrant_plant.texts.table import read_table, text_of_table
 
 # x moves by 3 a step on 0:0 to 4:-3, so the floors of 0, -0.75, -1.5, -2.25, -3 stand between.
 VALUES = [("lut(x, 0:0, 4:-3)", {-1: 0, 1: -1, 2: -2, 3: -3, 4: -3, 9: -3}), ("-lut(x / 2, -4:1, 0:9, 5:9)", {-9: -1, -3: -5, 9: -9})]

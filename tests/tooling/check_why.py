@@ -3,7 +3,7 @@
 import importlib.util
 import re
 
-from gaffcurrant_plant.table import read_table
+from gaffcurrant_plant.texts.table import read_table
 
 # Words behind the table, and whole lines that the answer has.
 ANSWERS = [

@@ -10,9 +10,9 @@ sys.dont_write_bytecode = True
 
 import numpy  # noqa: E402
 
-from gaffcurrant_plant.enclosing import Walls, Ways  # noqa: E402
-from gaffcurrant_plant.model import read_model  # noqa: E402
-from gaffcurrant_plant.spans import Span  # noqa: E402
+from gaffcurrant_plant.ways.enclosure import Walls, Ways  # noqa: E402
+from gaffcurrant_plant.models.model import read_model  # noqa: E402
+from gaffcurrant_plant.ways.spans import Span  # noqa: E402
 
 ROOM = {name: getattr(math, name) for name in ("sin", "cos", "tan", "asin", "acos", "atan", "atan2", "sinh", "cosh", "tanh", "sqrt", "exp", "log", "pi")}
 # A model, its right sides as Python, and whether they are derivatives.
