@@ -2,7 +2,7 @@
 
 import zlib
 
-from .codes import WHAT, about, broken, target_places
+from .codes import WHAT, about, broken, target_indices
 from .sizes import double_of, fraction_of
 
 
@@ -52,8 +52,8 @@ class Header:
     def grid(self):
         """The ranges, cells and values; where an input has fewer values than another, C fills up with 0."""
         plant, lines = self.plant, []
-        for name, place in (("LOW", 1), ("HIGH", 2), ("WIDTH", 3)):
-            values = [state[place] for state in plant.states]
+        for name, k in (("LOW", 1), ("HIGH", 2), ("WIDTH", 3)):
+            values = [state[k] for state in plant.states]
             lines += self.array("int64_t", name, self.sized("STATES"), values, list_of(values))
         lines += self.array("uint32_t", "COUNT", self.sized("STATES"), plant.counts, list_of(plant.counts))
         lengths, most = [len(values) for _, values in plant.inputs], max([len(values) for _, values in plant.inputs], default=1)
@@ -63,11 +63,11 @@ class Header:
         return lines + self.array("int64_t", "VALUE", f"[][{most}]", filled, "{" + ", ".join(choices) + "}")
 
     def turns(self):
-        firsts, lasts = target_places(self.text)
+        firsts, lasts = target_indices(self.text)
         lines = [self.define("TURNS", len(firsts)), self.define("CELLS", self.plant.cells)]
-        for name, places in (("TARGET_FIRST", firsts), ("TARGET_LAST", lasts)):
-            flat = [place for one in places for place in one]
-            lines += self.array("uint32_t", name, self.sized("TURNS") + self.sized("STATES"), flat, "{" + ", ".join(map(list_of, places)) + "}")
+        for name, indices in (("TARGET_FIRST", firsts), ("TARGET_LAST", lasts)):
+            flat = [index for one in indices for index in one]
+            lines += self.array("uint32_t", name, self.sized("TURNS") + self.sized("STATES"), flat, "{" + ", ".join(map(list_of, indices)) + "}")
         return lines
 
     def rows(self):

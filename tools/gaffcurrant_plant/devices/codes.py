@@ -1,4 +1,4 @@
-"""The rows of a text as numbers for a device: what stands for each cell, cell by cell or in runs, and the places of a patrol's targets."""
+"""The rows of a text as numbers for a device: what stands for each cell, cell by cell or in runs, and the indices of a patrol's targets."""
 
 LINE = 24
 
@@ -47,16 +47,16 @@ def ranks_of(part):
     return ranks
 
 
-def target_places(patrol):
-    """The places that fill each target, from the first to the last along each state; the first is behind the last where there are none."""
+def target_indices(patrol):
+    """The indices that fill each target, from the first to the last along each state; the first is behind the last where there are none."""
     firsts, lasts = [], []
     for box in patrol.plant.targets:
         ends = zip(box, patrol.plant.states, patrol.plant.counts)
-        places = [(max(-(-(low - least) // width), 0), min((high + 1 - least) // width, count) - 1)
+        indices = [(max(-(-(low - least) // width), 0), min((high + 1 - least) // width, count) - 1)
                   for (low, high), (_, least, _, width), count in ends]
-        whole = all(first <= last for first, last in places)
-        firsts.append([first if whole else 1 for first, _ in places])
-        lasts.append([last if whole else 0 for _, last in places])
+        whole = all(first <= last for first, last in indices)
+        firsts.append([first if whole else 1 for first, _ in indices])
+        lasts.append([last if whole else 0 for _, last in indices])
     return firsts, lasts
 
 

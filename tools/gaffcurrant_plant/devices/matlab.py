@@ -1,7 +1,7 @@
 """A text as a function file of MATLAB, which Octave reads too."""
 
 from ..command import Trouble
-from .codes import WHAT, about, broken, target_places
+from .codes import WHAT, about, broken, target_indices
 from .sizes import double_of
 
 # Whole numbers up to here are exact in doubles.
@@ -54,8 +54,8 @@ def constants(text, arrays):
                          ("width", [state[3] for state in plant.states]), ("count", plant.counts)):
         lines.append(f"{name} = {listed(values)};")
     if text.kind == "patrol":
-        for name, places in zip(("target_first", "target_last"), target_places(text)):
-            lines.append(f"{name} = [{'; '.join(' '.join(map(str, one)) for one in places)}];")
+        for name, indices in zip(("target_first", "target_last"), target_indices(text)):
+            lines.append(f"{name} = [{'; '.join(' '.join(map(str, one)) for one in indices)}];")
     for name, kind, values in arrays:
         said = broken(values)
         lines += [f"{name} = {kind}([ ..."] + [f"    {line}{',' * (k + 1 < len(said))} ..." for k, line in enumerate(said)] + ["    ]);"]

@@ -2,7 +2,7 @@
 conversions of numbers."""
 
 from ..command import Trouble
-from .codes import WHAT, about, broken, target_places
+from .codes import WHAT, about, broken, target_indices
 from .sizes import double_of
 
 TOP = 2 ** 31
@@ -50,8 +50,8 @@ class Block:
                              ("VALUE", [value for _, values in plant.inputs for value in values + [0] * (self.most - len(values))] or [0])):
             lines += array(name, "DINT", values)
         if self.of_turns:
-            for name, places in zip(("TARGET_FIRST", "TARGET_LAST"), target_places(self.text)):
-                lines += array(name, "DINT", [place for one in places for place in one])
+            for name, indices in zip(("TARGET_FIRST", "TARGET_LAST"), target_indices(self.text)):
+                lines += array(name, "DINT", [index for one in indices for index in one])
         if self.in_runs:
             firsts, numbers, ranks, begins = codes.runs(self.with_ranks)
             lines += array("BEGIN", "DINT", begins) + array("FIRST", "DINT", firsts)

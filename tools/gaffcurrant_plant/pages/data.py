@@ -54,7 +54,7 @@ def widest(plant):
     ends = [state[1:3] for state in plant.states], [noise[1:] for noise in plant.noises]
     values = [(min(values), max(values)) for _, values in plant.inputs]
     radii = plant.radii + [0] * len(values) + [high - rest for (_, high), rest in zip(ends[1], plant.rest)]
-    # A sum of ends, and how far they are apart, come in halves of ranges, in places and in draws.
+    # A sum of ends, and how far they are apart, come in halves of ranges, in indices and in draws.
     seen = [2 * (max(abs(low), abs(high)) + 1) for low, high in ends[0] + ends[1]]
     seen += [2 * state[3] for state in plant.states]
     for node in plant.equations:

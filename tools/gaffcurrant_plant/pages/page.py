@@ -66,7 +66,7 @@ def columns_at_once(lines, before):
     lines.at += count
     if ROWS.match(text) and lines.at < len(lines.lines):
         numbers = list(map(int, text.replace("-", "-1").split()))
-        columns = [numbers[place::4] for place in range(4)]
+        columns = [numbers[k::4] for k in range(4)]
         if len(columns[0]) == count and are_runs(front, *columns) and are_pairs(front, *columns[2:]):
             return columns
     lines.at = at

@@ -67,13 +67,13 @@ class Batch:
     def numbers(self, values):
         return numpy.array(values, dtype=self.kind)
 
-    def places(self, cells):
-        """For each state the places of cells."""
+    def indices(self, cells):
+        """For each state the indices of cells."""
         return [cells // stride % count for stride, count in zip(self.strides, self.plant.counts)]
 
-    def lows(self, places):
-        """For each state the least number of the cells at these places."""
-        return [low + place.astype(self.kind) * width for place, (_, low, _, width) in zip(places, self.plant.states)]
+    def lows(self, indices):
+        """For each state the least number of the cells at these indices."""
+        return [low + index.astype(self.kind) * width for index, (_, low, _, width) in zip(indices, self.plant.states)]
 
     def middles(self, lows, vectors):
         """For each state the centre's step."""
@@ -97,7 +97,7 @@ class Batch:
         return low, high
 
     def extents(self, ends, states=None):
-        """For each state, or for some, the first and the last place of boxes, clipped to the domain, and whether they lie in it."""
+        """For each state, or for some, the first and the last index of boxes, clipped to the domain, and whether they lie in it."""
         extents, inside = [], numpy.array(True)
         for (low, high), i in zip(ends, states or range(len(ends))):
             (_, least, most, width), count = self.plant.states[i], self.plant.counts[i]
@@ -113,7 +113,7 @@ class Batch:
             yield begin, cells[begin:begin + step, None], vectors
 
     def edges(self):
-        """The number of successors of all pairs: the sum over all places and values of the product of the places met along each axis."""
+        """The number of successors of all pairs: the sum over all indices and values of the product of the indices met along each axis."""
         sizes = self.plant.counts + [len(values) for _, values in self.plant.inputs]
         factors = [factor for i in range(len(self.plant.states)) for factor in self.met(i, sizes)]
         unused = set(range(len(sizes))) - {name for names in factors[1::2] for name in names}
@@ -121,7 +121,7 @@ class Batch:
         return int(total) * math.prod(sizes[i] for i in unused)
 
     def met(self, i, sizes):
-        """How many places boxes meet along one state, over the variables that its equation names, and these; 0 where a box leaves the domain."""
+        """How many indices boxes meet along one state, over the variables that its equation names, and these; 0 where a box leaves the domain."""
         plant, wide = self.plant, len(self.plant.counts)
         names = [name for name in sorted(plant.uses[i]) if name < len(sizes)]
         met = numpy.zeros([sizes[name] for name in names], dtype=numpy.int64)
@@ -129,13 +129,13 @@ class Batch:
         for begin in range(0, met.shape[0] if names else 1, step):
             lows, values, numbers = self.first_of(plant)
             for at, name in enumerate(names):
-                places = numpy.arange(begin, min(begin + step, sizes[name])) if at == 0 else numpy.arange(sizes[name])
-                places = places.reshape([-1 if k == at else 1 for k in range(len(names))])
+                indices = numpy.arange(begin, min(begin + step, sizes[name])) if at == 0 else numpy.arange(sizes[name])
+                indices = indices.reshape([-1 if k == at else 1 for k in range(len(names))])
                 if name < wide:
-                    lows[name] = plant.states[name][1] + places.astype(self.kind) * plant.states[name][3]
+                    lows[name] = plant.states[name][1] + indices.astype(self.kind) * plant.states[name][3]
                 else:
-                    values[name - wide] = self.numbers(plant.inputs[name - wide][1])[places]
-                    numbers = numbers + places * math.prod(sizes[name + 1:])
+                    values[name - wide] = self.numbers(plant.inputs[name - wide][1])[indices]
+                    numbers = numbers + indices * math.prod(sizes[name + 1:])
             extents, inside = self.extents([self.box(i, lows, values, self.moves[i][numbers])], [i])
             (met[begin:begin + step] if names else met)[...] = fans(extents) * inside
         return met, names
@@ -146,7 +146,7 @@ class Batch:
 
     def pairs(self, cells, vectors):
         """The two corners of the boxes of all pairs of some cells and vectors, as lists, cell by cell."""
-        ends = self.boxes(self.lows(self.places(numpy.array(cells, dtype=numpy.int64)[:, None])), numpy.array(vectors, dtype=numpy.int64)[None, :])
+        ends = self.boxes(self.lows(self.indices(numpy.array(cells, dtype=numpy.int64)[:, None])), numpy.array(vectors, dtype=numpy.int64)[None, :])
         shape = (len(cells), len(vectors))
         columns = [numpy.broadcast_to(numpy.asarray(end), shape).reshape(-1).tolist() for side in zip(*ends) for end in side]
         half = len(columns) // 2
@@ -192,7 +192,7 @@ def summed(array, axis):
 
 
 class Sums:
-    """Sums of a number of each cell over boxes of places."""
+    """Sums of a number of each cell over boxes of indices."""
 
     def __init__(self, numbers, counts):
         padded = numpy.zeros([count + 1 for count in counts], dtype=numpy.int32)
@@ -203,7 +203,7 @@ class Sums:
         self.strides = [int(numpy.prod([count + 1 for count in counts[i + 1:]], dtype=numpy.int64)) for i in range(len(counts))]
 
     def over(self, extents, i=0, index=0):
-        """The sums over boxes from their first to their last places."""
+        """The sums over boxes from their first to their last indices."""
         if i == len(extents):
             return self.flat[index]
         first, last = extents[i]

@@ -1,4 +1,4 @@
-"""Counts the edges of a plant exactly, axis by axis: how many places a box meets along an axis rests on the variables of
+"""Counts the edges of a plant exactly, axis by axis: how many indices a box meets along an axis rests on the variables of
 that state's equation alone, and the sum over all pairs of the products is taken variable by variable."""
 
 import itertools
@@ -25,7 +25,7 @@ def edges_of(plant):
 
 
 def _axis_table(plant, axis, sizes):
-    """For the places and inputs that an equation names, how many places the box meets along its axis; 0 left out."""
+    """For the indices and inputs that an equation names, how many indices the box meets along its axis; 0 left out."""
     wide = len(plant.states)
     names = [i for i in sorted(plant.uses[axis]) if i < len(sizes)]
     _check(names, sizes)
@@ -35,18 +35,18 @@ def _axis_table(plant, axis, sizes):
     vectors = _vector_weights(plant)
     ranges = [range(sizes[i]) for i in names]
     function, moves = plant.functions[axis], {}
-    for places in itertools.product(*ranges):
-        chosen = tuple(place for i, place in zip(names, places) if i >= wide)
+    for indices in itertools.product(*ranges):
+        chosen = tuple(index for i, index in zip(names, indices) if i >= wide)
         if chosen not in moves:
-            vector = sum(vectors[i] * place for i, place in zip(names, places) if i >= wide)
+            vector = sum(vectors[i] * index for i, index in zip(names, indices) if i >= wide)
             moves[chosen] = plant.bounds(axis, vector)[2]
-        for i, place in zip(names, places):
-            values[i] = plant.inputs[i - wide][1][place] if i >= wide else \
-                plant.states[i][1] + place * plant.states[i][3] + plant.radii[i]
+        for i, index in zip(names, indices):
+            values[i] = plant.inputs[i - wide][1][index] if i >= wide else \
+                plant.states[i][1] + index * plant.states[i][3] + plant.radii[i]
         area = _area(plant, names, values) if plant.version > 1 else None
         low, high = plant.side(axis, function(values), moves[chosen], area)
         if low >= least and high <= most:
-            table[places] = (high - least) // width - (low - least) // width + 1
+            table[indices] = (high - least) // width - (low - least) // width + 1
     return names, table
 
 
@@ -63,7 +63,7 @@ def _area(plant, names, values):
 
 
 def _vector_weights(plant):
-    """By how much the number of the input vector grows with the place of each input, by the variable's number."""
+    """By how much the number of the input vector grows with the index of each input, by the variable's number."""
     weights, weight = {}, 1
     for i in reversed(range(len(plant.inputs))):
         weights[len(plant.states) + i] = weight
@@ -91,8 +91,8 @@ def _without(variable, tables, sizes):
     names, table = product
     at = names.index(variable)
     summed = {}
-    for places, count in table.items():
-        left = places[:at] + places[at + 1:]
+    for indices, count in table.items():
+        left = indices[:at] + indices[at + 1:]
         summed[left] = summed.get(left, 0) + count
     return rest + [(names[:at] + names[at + 1:], summed)]
 
@@ -105,11 +105,11 @@ def _product(first, second, sizes):
     of_first = [names.index(second[0][at]) for at in shared]
     new = [second[0].index(i) for i in more]
     grouped = {}
-    for places, count in second[1].items():
-        key = tuple(places[at] for at in shared)
-        grouped.setdefault(key, []).append((tuple(places[at] for at in new), count))
+    for indices, count in second[1].items():
+        key = tuple(indices[at] for at in shared)
+        grouped.setdefault(key, []).append((tuple(indices[at] for at in new), count))
     table = {}
-    for places, count in first[1].items():
-        for added, times in grouped.get(tuple(places[at] for at in of_first), ()):
-            table[places + added] = count * times
+    for indices, count in first[1].items():
+        for added, times in grouped.get(tuple(indices[at] for at in of_first), ()):
+            table[indices + added] = count * times
     return names + more, table

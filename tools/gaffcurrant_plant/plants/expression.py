@@ -1,6 +1,6 @@
 """Expressions over whole numbers: reading and writing (docs/FORMATS.md). Their values and bounds are in `bounds`.
 
-A node is a tuple whose first place is its kind: ('num', k), ('var', i), ('neg', a), ('abs', a), ('add', a, b),
+A node is a tuple that begins with its kind: ('num', k), ('var', i), ('neg', a), ('abs', a), ('add', a, b),
 ('sub', a, b), ('mul', a, b), ('min', a, b), ('max', a, b), ('div', a, k), ('lut', a, points) with the points as pairs."""
 
 import re

@@ -102,17 +102,17 @@ class Plant:
 
     # Cells
 
-    def places_of(self, cell):
-        places = []
+    def indices_of(self, cell):
+        indices = []
         for count in reversed(self.counts):
-            places.append(cell % count)
+            indices.append(cell % count)
             cell //= count
-        return places[::-1]
+        return indices[::-1]
 
-    def cell_at(self, places):
+    def cell_at(self, indices):
         cell = 0
-        for place, count in zip(places, self.counts):
-            cell = cell * count + place
+        for index, count in zip(indices, self.counts):
+            cell = cell * count + index
         return cell
 
     def cell_of(self, state):
@@ -122,7 +122,7 @@ class Plant:
         return self.cell_at([(value - low) // width for value, (_, low, _, width) in zip(state, self.states)])
 
     def low(self, cell):
-        return [low + place * width for place, (_, low, _, width) in zip(self.places_of(cell), self.states)]
+        return [low + index * width for index, (_, low, _, width) in zip(self.indices_of(cell), self.states)]
 
     def centre(self, cell):
         return [low + radius for low, radius in zip(self.low(cell), self.radii)]
@@ -209,7 +209,7 @@ class Plant:
             return []
         cells = [0]
         for (first, last), count in zip(self.extents(low, high), self.counts):
-            cells = [cell * count + place for cell in cells for place in range(first, last + 1)]
+            cells = [cell * count + index for cell in cells for index in range(first, last + 1)]
         return cells
 
     def boxes(self, cells, vectors):

@@ -9,7 +9,7 @@ COMPARED, TRIED = 256, 200
 
 
 class Boxes:
-    """The places that the boxes under one input vector meet along each state, as arrays over the grid, of one place along states that the
+    """The indices that the boxes under one input vector meet along each state, as arrays over the grid, of one index along states that the
     equation doesn't name."""
 
     def __init__(self, batch, vector):
@@ -27,8 +27,8 @@ class Boxes:
         """Where a box holds its own cell."""
         own = numpy.array(True)
         for i, ((first, last), count) in enumerate(zip(self.extents, counts)):
-            place = numpy.arange(count).reshape([-1 if k == i else 1 for k in range(len(counts))])
-            own = own & (first <= place) & (place <= last)
+            index = numpy.arange(count).reshape([-1 if k == i else 1 for k in range(len(counts))])
+            own = own & (first <= index) & (index <= last)
         return own
 
     def within(self, other):
@@ -85,4 +85,4 @@ def does_at(boxes, vector, other, cells):
 
 def at(array, cells):
     """What an array over the grid has at some cells."""
-    return array[tuple(places if size > 1 else numpy.zeros_like(places) for places, size in zip(cells, array.shape))]
+    return array[tuple(indices if size > 1 else numpy.zeros_like(indices) for indices, size in zip(cells, array.shape))]

@@ -68,7 +68,7 @@ def magnifies(plant, quotient, factor):
 
 
 def repeats(plant):
-    """Variables that stand more than once in an equation: each place counts for the deviation."""
+    """Variables that stand more than once in an equation: each of these counts for the deviation."""
     names = plant.names()
     for (name, *_), uses in zip(plant.states, plant.rolled.uses):
         often = [names[i] for i, count in uses.items() if count > 1 and radius_of(plant, i)]
@@ -124,8 +124,8 @@ def goals(plant):
 
 
 def narrow_target(plant):
-    """Whether the one target has fewer places along a state than each sampled box: then nothing is won from outside."""
-    met = places_met(plant, min) if plant.goal == "reach" and len(plant.targets) == 1 else None
+    """Whether the one target has fewer indices along a state than each sampled box: then nothing is won from outside."""
+    met = indices_met(plant, min) if plant.goal == "reach" and len(plant.targets) == 1 else None
     for (low, high), (name, least, most, width), fewest in zip(plant.targets[0], plant.states, met) if met else ():
         count = (min(high, most) + 1 - least) // width + (least - max(low, least)) // width
         if 0 < count < fewest:
@@ -134,10 +134,10 @@ def narrow_target(plant):
 
 
 def is_hidden(plant, fitting, most=4000):
-    """Whether all cells of a block of places are obstacles; a large block isn't looked through."""
+    """Whether all cells of a block are obstacles; a large block isn't looked through."""
     cells = [0]
     for (first, last), count in zip(fitting, plant.counts):
-        cells = [cell * count + place for cell in cells for place in range(first, last + 1)]
+        cells = [cell * count + index for cell in cells for index in range(first, last + 1)]
         if len(cells) > most:
             return False
     return all(plant.is_obstacle(cell) for cell in cells)
@@ -155,10 +155,10 @@ def sampled(plant):
     for number, cell in enumerate(cells):
         boxes = found[number * len(vectors):(number + 1) * len(vectors)]
         boxes = [box for box in boxes if not plant.leaves(*box)]
-        places = plant.places_of(cell)
+        indices = plant.indices_of(cell)
         dead += not boxes
         stuck += bool(boxes) and all(
-            all(first <= place <= last for (first, last), place in zip(plant.extents(*box), places)) for box in boxes)
+            all(first <= index <= last for (first, last), index in zip(plant.extents(*box), indices)) for box in boxes)
     of = f"{len(cells)} {'' if every else 'sampled '}cells that are neither goal nor obstacle"
     inputs = "every input" if plant.vectors <= 32 else "each of 32 sampled inputs"
     if dead:
@@ -189,10 +189,10 @@ def of_no_use(plant):
 
 def vectors_said(plant, vectors):
     """Some input vectors in words: the values of each input that all of them have together, where they are all that have these; else the first ones."""
-    places = [{plant.vector(vector)[i] for vector in vectors} for i in range(len(plant.inputs))]
-    if math.prod(map(len, places)) == len(vectors):
+    shared = [{plant.vector(vector)[i] for vector in vectors} for i in range(len(plant.inputs))]
+    if math.prod(map(len, shared)) == len(vectors):
         said = [f"{name} = {' or '.join(short(value * plant.units.size(name)) for value in sorted(part))}{plant.units.word(name)}"
-                for (name, values), part in zip(plant.inputs, places) if len(part) < len(set(values))]
+                for (name, values), part in zip(plant.inputs, shared) if len(part) < len(set(values))]
         if said:
             return ", ".join(said)
     more = f" and {len(vectors) - 3} more" if len(vectors) > 3 else ""
@@ -200,33 +200,33 @@ def vectors_said(plant, vectors):
 
 
 def growth(plant):
-    """The deviations beside half a cell, and how many places a box meets: in version 2, where boxes may be less than the deviation makes
+    """The deviations beside half a cell, and how many indices a box meets: in version 2, where boxes may be less than the deviation makes
     them, those of sampled pairs too. Of a state that comes round both are those about the middle, wherever its range ends."""
-    met = places_met(plant) if plant.version > 1 else None
+    met = indices_met(plant) if plant.version > 1 else None
     for equation, (name, *_, width) in enumerate(plant.states):
         moves = [plant.rolled.bounds(equation, vector)[2] for vector in range(plant.vectors)]
         least, most = min(moves), max(moves)
         said = between(plant, name, least, most)
-        places = min(2 * most // width + (2 if 2 * most % width else 1), plant.counts[equation])
+        count = min(2 * most // width + (2 if 2 * most % width else 1), plant.counts[equation])
         sampled_ones = f", of sampled boxes up to {met[equation]}" if met else ""
-        yield f"deviation of {name}: {said}; half a cell is {plant.units.size_said(name, width // 2)}; a box meets up to {places} place{'s' * (places > 1)}{sampled_ones}" \
-            + end_said(plant, equation, places)
+        yield f"deviation of {name}: {said}; half a cell is {plant.units.size_said(name, width // 2)}; a box meets up to {count} place{'s' * (count > 1)}{sampled_ones}" \
+            + end_said(plant, equation, count)
 
 
-def end_said(plant, equation, places):
+def end_said(plant, equation, count):
     """What boxes of a state meet that reach across the end of its range, where it comes round and they meet more than others."""
-    is_wide = plant.rolled.equations[equation] is not plant.equations[equation] and most_across(plant, equation) > places
+    is_wide = plant.rolled.equations[equation] is not plant.equations[equation] and most_across(plant, equation) > count
     return f", and all {plant.counts[equation]} across the range's end" if is_wide else ""
 
 
 def most_across(plant, equation):
-    """The most places that sampled boxes meet along a state which comes round, those across its range's end among them."""
+    """The most indices that sampled boxes meet along a state which comes round, those across its range's end among them."""
     extents = [plant.extents(*box)[equation] for box in plant.boxes(*sampled_pairs(plant)) if not plant.leaves(*box)]
     return max((last - first + 1 for first, last in extents), default=0)
 
 
-def places_met(plant, end=max):
-    """The most places, or the least, that boxes of sampled pairs in the domain meet along each state; None where there is no such box."""
+def indices_met(plant, end=max):
+    """The most indices, or the fewest, that boxes of sampled pairs in the domain meet along each state; None where there is no such box."""
     extents = [plant.extents(*box) for box in plant.rolled.boxes(*sampled_pairs(plant)) if not plant.rolled.leaves(*box)]
     return [end(last - first + 1 for first, last in of_state) for of_state in zip(*extents)] or None
 

@@ -75,7 +75,7 @@ class Cells:
         return inside and bool(self.of_turn((turn + 1) % len(plant.targets)).won[cell])
 
     def arranged(self, values, axes, fixed):
-        """Values of cells over the places of some axes, and behind them over those of the other states that aren't fixed."""
+        """Values of cells over the indices of some axes, and behind them over those of the other states that aren't fixed."""
         counts = self.plant.counts
         others = [i for i in range(len(counts)) if i not in axes]
         chosen = tuple([slice(None)] * len(axes) + [fixed.get(i, slice(None)) for i in others])
@@ -83,8 +83,8 @@ class Cells:
         return part.reshape([counts[i] for i in axes] + [-1])
 
     def seen(self, axes, fixed):
-        """Rank, input and whether there is a row, over the places of some axes. The other states are fixed at a place, or the cell
-        of the least rank is taken over all of their places."""
+        """Rank, input and whether there is a row, over the indices of some axes. The other states are fixed at an index, or the cell
+        of the least rank is taken over all of their indices."""
         won = self.arranged(self.won, axes, fixed)
         ranks = self.arranged(self.ranks, axes, fixed)
         best = numpy.where(won, ranks, numpy.iinfo(numpy.int64).max).argmin(axis=-1)[..., None]
@@ -92,7 +92,7 @@ class Cells:
         return [numpy.take_along_axis(part, best, -1)[..., 0] for part in parts]
 
     def share(self, axes, fixed):
-        """Over the places of some axes, the share of the places of the other states that have a row."""
+        """Over the indices of some axes, the share of the indices of the other states that have a row."""
         return self.arranged(self.won, axes, fixed).mean(axis=-1)
 
 

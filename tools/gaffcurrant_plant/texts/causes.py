@@ -61,8 +61,8 @@ class Lost:
 
     def look(self, begin, cells, vectors, won, blocked):
         """Works out a block of cells."""
-        places, part = self.batch.places(cells), slice(begin, begin + len(cells))
-        lows = self.batch.lows(places)
+        indices, part = self.batch.indices(cells), slice(begin, begin + len(cells))
+        lows = self.batch.lows(indices)
         extents, inside = self.batch.extents(self.batch.boxes(lows, vectors))
         for ends, (first, last) in zip(self.ends, extents):
             ends[0, part], ends[1, part] = first, last
@@ -70,8 +70,8 @@ class Lost:
         lost = fan - won.over(extents)
         self.fan[part], self.lost[part] = numpy.where(inside, fan, 0), numpy.where(inside, lost, 0)
         comes_back = ~self.has[cells] & numpy.array(True)
-        for (first, last), place in zip(extents, places):
-            comes_back = comes_back & (first <= place) & (place <= last)
+        for (first, last), index in zip(extents, indices):
+            comes_back = comes_back & (first <= index) & (index <= last)
         if self.table.keeps:
             comes_back = comes_back & (lost == 1)
         stops = numpy.where(comes_back, number_of(ITSELF), LEADS_ON)
@@ -80,11 +80,11 @@ class Lost:
         if not self.table.keeps:
             self.is_still[part] = numpy.any(inside, axis=-1).reshape(-1) & numpy.all(comes_back | ~inside, axis=-1).reshape(-1) & numpy.ones(len(cells), bool)
         middles, within = self.batch.extents([(middle, middle) for middle in self.batch.middles(lows, vectors)])
-        cell = sum(place * stride for (place, _), stride in zip(middles, self.batch.strides))
+        cell = sum(index * stride for (index, _), stride in zip(middles, self.batch.strides))
         self.promising[part] = within & self.has[cell]
 
     def extents(self, chosen):
-        """For each state the first and last places of the boxes of chosen pairs, which an index of `stops` gives."""
+        """For each state the first and last indices of the boxes of chosen pairs, which a subscript of `stops` selects."""
         return [(ends[0][chosen].astype(numpy.int64), ends[1][chosen].astype(numpy.int64)) for ends in self.ends]
 
     def marks(self, numbers):
@@ -246,8 +246,8 @@ class Rounds:
                 numbers = grid[part]
                 least = numbers[numbers != NEVER].min(initial=numpy.iinfo(numbers.dtype).max)
                 if least <= self.number[cell]:
-                    places = numpy.argwhere(numbers == least)[0] + [one.start for one in part]
-                    cuts.append((self.plant.cell_at(places.tolist()), int(vector)))
+                    indices = numpy.argwhere(numbers == least)[0] + [one.start for one in part]
+                    cuts.append((self.plant.cell_at(indices.tolist()), int(vector)))
             cell, vector = max(cuts, key=lambda cut: self.number[cut[0]])
             way.append((cell, vector))
         return way

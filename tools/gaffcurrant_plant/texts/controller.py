@@ -158,7 +158,7 @@ class Rows:
         low, high = plant.box(cell, vectors[0])
         if there is None or plant.leaves(low, high):
             return 0
-        return int(all(first <= place <= last for (first, last), place in zip(plant.extents(low, high), plant.places_of(there))))
+        return int(all(first <= index <= last for (first, last), index in zip(plant.extents(low, high), plant.indices_of(there))))
 
     def due(self) -> Any:
         """The rows of the turn that is due."""

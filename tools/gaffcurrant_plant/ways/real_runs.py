@@ -39,8 +39,8 @@ class Rows:
     def cell_of(self, whole):
         """The cells of columns of whole numbers."""
         cell = numpy.zeros(whole.shape[1], dtype=int)
-        for places, count in zip((whole - self.low) // self.width, self.plant.counts):
-            cell = cell * count + places
+        for indices, count in zip((whole - self.low) // self.width, self.plant.counts):
+            cell = cell * count + indices
         return numpy.where(numpy.all((whole >= self.low) & (whole <= self.high), axis=0), cell, self.plant.cells)
 
     def longest(self):

@@ -21,10 +21,10 @@ class Starts:
     def states(self, turns, measured):
         """A state for each turn of the runs; measured gives the whole numbers of states."""
         cells = self.cells(turns)
-        places = numpy.array(numpy.unravel_index(cells, self.rows.plant.counts))
-        firsts = self.rows.low + places * self.rows.width
+        indices = numpy.array(numpy.unravel_index(cells, self.rows.plant.counts))
+        firsts = self.rows.low + indices * self.rows.width
         shares = self.draws.random(firsts.shape)
-        corners = numpy.where(self.draws.random(len(cells)) < 0.5, self.nearest(firsts), self.real.lows + self.widths * places)
+        corners = numpy.where(self.draws.random(len(cells)) < 0.5, self.nearest(firsts), self.real.lows + self.widths * indices)
         at_zero = (self.rows.low <= 0) & (self.rows.high >= 0) & (self.draws.random(firsts.shape) < 0.7)
         within = self.within(firsts, shares)
         self.kinds = numpy.arange(len(cells)) % len(STARTS)

@@ -171,7 +171,7 @@ class Looks:
 def ends_of(plant, cells, vectors):
     """The places, in columns, at which the middles of cells are a sample later, without disturbances."""
     batch = plant.batch()
-    middles = batch.middles(batch.lows(batch.places(cells)), vectors)
+    middles = batch.middles(batch.lows(batch.indices(cells)), vectors)
     return numpy.array([numpy.broadcast_to((middle - low) // width, cells.shape) for middle, (_, low, _, width) in zip(middles, plant.states)], dtype=int)
 
 
