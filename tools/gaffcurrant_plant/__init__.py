@@ -3,8 +3,8 @@
 The subpackages are `plants`, `models`, `texts`, `devices`, `pictures`, `pages`, `ways`, `measured` and `programs`; each says what it is about, and
 tools/README.md what is where. `arrays`, `logs`, `conforming`, `diagnosing`, `ranging`, `promises` and `real` are for notebooks, and need numpy."""
 
-from .command import Trouble
-from .plants.reader import Refused, read_plant
+from .faults import Refused, Trouble
+from .plants.reader import read_plant
 from .plants.units import Units, read_units
 from .texts.controller import Controller
 from .texts.monitor import Monitor

@@ -1,6 +1,6 @@
 """A text as a function file of MATLAB, which Octave reads too."""
 
-from ..command import Trouble
+from ..faults import Trouble
 from .codes import WHAT, about, broken, target_indices
 from .sizes import double_of
 

@@ -1,7 +1,7 @@
 """A text as a function block in structured text of IEC 61131-3, for programmable controllers: numbers of 32 bits, no pointers, no library but the
 conversions of numbers."""
 
-from ..command import Trouble
+from ..faults import Trouble
 from .codes import WHAT, about, broken, target_indices
 from .sizes import double_of
 

@@ -10,7 +10,7 @@ from typing import NamedTuple, Optional, Sequence
 
 import numpy
 
-from ..command import Trouble
+from ..faults import Trouble
 from ..plants.units import Units
 
 TIMES = ("time", "t")

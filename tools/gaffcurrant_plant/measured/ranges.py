@@ -9,8 +9,7 @@ from typing import Any, Optional
 
 import numpy
 
-from ..command import Trouble
-from ..faults import Failure
+from ..faults import Failure, Trouble
 from ..models import polynomial
 from ..models.arithmetic import Floats
 from ..models.best_plant import planted

@@ -3,8 +3,9 @@
 import importlib.util
 import re
 
-from ..command import Trouble, read_bytes
-from ..plants.reader import Refused, read_plant
+from ..command import read_bytes
+from ..faults import Refused, Trouble
+from ..plants.reader import read_plant
 from .best_plant import planted
 from .model import read_model
 

@@ -5,7 +5,7 @@ import bisect
 import math
 from fractions import Fraction
 
-from ..command import Trouble
+from ..faults import Trouble
 from .formula import parts_of, text_of
 
 # Ends of intervals are fractions: a number of more bits before or behind the point would fill the memory, and help no plant.

@@ -4,8 +4,7 @@ boxes that come out."""
 import random
 from fractions import Fraction
 
-from ..command import Trouble
-from ..faults import Failure
+from ..faults import Failure, Trouble
 from ..plants.expression import NODES
 from . import polynomial
 from .arithmetic import Floats

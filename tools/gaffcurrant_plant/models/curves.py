@@ -11,7 +11,7 @@ from functools import lru_cache
 from itertools import combinations
 from typing import NamedTuple
 
-from ..command import Trouble
+from ..faults import Trouble
 from .arithmetic import Floats, Intervals, lut_ends, lut_value, slope_ends
 from .formula import derivative, made, value_of
 

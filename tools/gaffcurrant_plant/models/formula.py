@@ -7,7 +7,8 @@ with a function of CURVES, a power ('power', exponent), straight pieces ('lut', 
 import re
 from fractions import Fraction
 
-from .polynomial import Fault, added, multiplied, number_of
+from ..faults import Fault
+from .polynomial import added, multiplied, number_of
 
 TOKEN = re.compile(r"\s*([A-Za-z][A-Za-z0-9_]*|(?:[0-9]+\.?[0-9]*|\.[0-9]+)(?:[eE][+-]?[0-9]+)?|.)", re.DOTALL)
 OPEN = 64

@@ -1,6 +1,6 @@
 """Half-planes as obstacles of a model: those cells that a linear inequality of one or two states meets, covered by boxes of cells."""
 
-from .polynomial import Fault
+from ..faults import Fault
 
 
 class HalfPlane:

@@ -2,7 +2,7 @@
 
 from fractions import Fraction
 
-from ..command import Trouble
+from ..faults import Trouble
 from .formula import ZERO, add, made, mul, names_of, number
 from .linear_sampling import held_integrals, sampled
 from .polynomial import added

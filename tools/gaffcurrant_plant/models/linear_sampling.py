@@ -3,7 +3,7 @@
 import math
 from fractions import Fraction
 
-from ..command import Trouble
+from ..faults import Trouble
 from ..plants.units import decimal
 
 PLACES, KEPT, MOST_NORM = 80, 20, 50

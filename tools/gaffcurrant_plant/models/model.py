@@ -6,13 +6,12 @@ import re
 from contextlib import contextmanager
 from fractions import Fraction
 
-from ..command import Trouble
-from ..faults import Failure
+from ..faults import Failure, Fault, Trouble
 from ..plants.reader import MOST, NAME, NO_NAMES, VALUES
 from . import formula
 from .half_plane import HalfPlane
 from .linear import add_linear_system
-from .polynomial import Fault, number_of
+from .polynomial import number_of
 
 # Parts of a cell where the unit is chosen by itself: an odd number of which a decimal width has decimal parts.
 FINENESS = 125

@@ -4,10 +4,10 @@ import math
 import re
 from fractions import Fraction
 
-from ..command import Trouble
+from ..faults import Refused, Trouble
 from ..plants import expression
 from ..plants.bounds import span_of
-from ..plants.reader import Refused, read_plant
+from ..plants.reader import read_plant
 from ..plants.units import decimal, exactly
 from .model import at_line, said
 from .nested_equation import Nested

@@ -5,11 +5,7 @@ A polynomial is a dict from a monomial to its coefficient; a monomial is the sor
 import re
 from fractions import Fraction
 
-from ..faults import Failure
-
-
-class Fault(Failure):
-    """Why a text is no number or no formula, in words."""
+from ..faults import Fault
 
 
 def number_of(word):

@@ -11,7 +11,7 @@ import itertools
 import math
 from fractions import Fraction
 
-from ..command import Trouble
+from ..faults import Trouble
 from .formula import add, derivative, is_smooth, mul, number, replaced, value_of
 from .linear_sampling import SYSTEM, too_long
 

@@ -6,7 +6,7 @@ import math
 import random
 from fractions import Fraction
 
-from ..command import Progress
+from ..progress import Progress
 from . import formula
 from . import polynomial
 from .arithmetic import Exact, Floats, is_exact

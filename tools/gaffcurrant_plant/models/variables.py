@@ -4,7 +4,7 @@ import math
 import re
 from fractions import Fraction
 
-from ..command import Trouble
+from ..faults import Trouble
 from ..plants.expression import MOST_POINTS
 from ..plants.reader import TEXT_LIMIT, too_long
 from .arithmetic import is_exact

@@ -2,12 +2,12 @@
 
 from fractions import Fraction
 
-from ..command import Trouble
+from ..faults import Refused, Trouble
 from ..models import formula
 from ..models.model import read_model
 from ..plants.bounds import deviation_of_parts, span_of_parts
 from ..plants.expression import parts_of
-from ..plants.reader import Refused, lines_of, read_lines
+from ..plants.reader import lines_of, read_lines
 from ..plants.units import decimal, read_units
 
 # Doubles count whole numbers up to here.

@@ -12,7 +12,7 @@ from itertools import islice
 from operator import eq, le, lt, sub
 from pathlib import Path
 
-from ..command import Trouble
+from ..faults import Trouble
 from ..texts.rows import VERSIONS, Lines, front_of
 from .data import plant_data
 

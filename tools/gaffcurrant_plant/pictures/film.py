@@ -4,7 +4,8 @@ a patrol once for each turn; each frame adds the ways up to a sample."""
 import shutil
 import subprocess
 
-from ..command import Progress, Trouble
+from ..faults import Trouble
+from ..progress import Progress
 from . import flat as drawing
 
 FRAMES, RATE = 240, 12

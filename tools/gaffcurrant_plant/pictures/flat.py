@@ -3,7 +3,7 @@
 import math
 from fractions import Fraction
 
-from ..command import Trouble
+from ..faults import Trouble
 
 NAN = math.nan
 

@@ -2,7 +2,7 @@
 
 from fractions import Fraction
 
-from ..command import Trouble
+from ..faults import Trouble
 from ..plants.units import decimal
 
 

@@ -4,7 +4,8 @@ import math
 
 import numpy
 
-from .bounds import SHAPES, SPANS, Overflow, bounds_of, compiled, compiled_span
+from ..faults import Overflow
+from .bounds import SHAPES, SPANS, bounds_of, compiled, compiled_span
 from .expression import walk
 
 # Numbers up to here, and their sums, fit into 64 bits; plants with greater ones are worked out by Python's integers.

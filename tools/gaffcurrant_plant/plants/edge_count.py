@@ -3,13 +3,9 @@ that state's equation alone, and the sum over all pairs of the products is taken
 
 import itertools
 
-from ..faults import Failure
+from ..faults import TooMuch
 
 WORK = 1_200_000
-
-
-class TooMuch(Failure):
-    """The count would take more than WORK products."""
 
 
 def edges_of(plant):

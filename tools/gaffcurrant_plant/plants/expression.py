@@ -5,16 +5,12 @@ A node is a tuple that begins with its kind: ('num', k), ('var', i), ('neg', a),
 
 import re
 
-from ..faults import Failure
+from ..faults import Fault
 
 NODES, DEPTH, BRACKETS, DIGITS = 256, 64, 64, 18
 FUNCTIONS = {"min": 2, "max": 2, "abs": 1, "lut": 1}
 FEWEST_POINTS, MOST_POINTS = 2, 32
 TOKEN = re.compile(r"[A-Za-z][A-Za-z0-9_]*|[0-9]+|.", re.DOTALL)
-
-
-class Fault(Failure):
-    """Why an expression isn't one, in words."""
 
 
 def tokens_of(words):

@@ -5,8 +5,9 @@ import math
 import random
 from functools import cached_property
 
-from .bounds import TOP, Overflow, bounds_of, compiled, compiled_span
-from .edge_count import TooMuch, edges_of
+from ..faults import Overflow, TooMuch
+from .bounds import TOP, bounds_of, compiled, compiled_span
+from .edge_count import edges_of
 from .expression import text_of, uses_of
 from .periods import periods_of, rolled_out
 from .units import Units

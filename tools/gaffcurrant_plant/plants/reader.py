@@ -3,7 +3,7 @@
 import difflib
 import re
 
-from ..faults import Failure, Refused
+from ..faults import Fault, Refused
 from . import expression
 from .plant import Plant
 
@@ -29,10 +29,6 @@ def too_long():
     return Refused("limit: plant text", f"the text has more than {TEXT_LIMIT} bytes")
 
 
-class Wrong(Failure):
-    """Why a line doesn't fit, in words."""
-
-
 def lines_of(data):
     """The lines of a text, one character for each byte."""
     lines = data.decode("latin-1").split("\n")
@@ -49,25 +45,25 @@ def is_passed_over(line):
 
 
 def number_of(word):
-    """The number that a word spells; else raises Wrong."""
+    """The number that a word spells; else raises Fault."""
     if NUMBER.match(word):
         return int(word)
     if word.startswith("#"):
-        raise Wrong("a comment needs a line of its own")
+        raise Fault("a comment needs a line of its own")
     if re.match(r"[+-]?([0-9]+\.[0-9]*|\.[0-9]+|[0-9]+(\.[0-9]*)?[eE][+-]?[0-9]+)\Z", word):
-        raise Wrong(f"`{word}` is no whole number: choose a unit in which it is one, and scale the equations")
+        raise Fault(f"`{word}` is no whole number: choose a unit in which it is one, and scale the equations")
     if re.match(r"-?[0-9]{19,}\Z", word):
-        raise Wrong(f"`{word}` has more than 18 digits")
+        raise Fault(f"`{word}` has more than 18 digits")
     if word == "-0":
-        raise Wrong("`-0` is written `0`")
+        raise Fault("`-0` is written `0`")
     if re.match(r"-?0[0-9]+\Z", word):
-        raise Wrong(f"`{word}` has a leading zero")
+        raise Fault(f"`{word}` has a leading zero")
     if re.match(r"\+[0-9]+\Z", word):
-        raise Wrong(f"`{word}` has a plus sign; a number has none")
+        raise Fault(f"`{word}` has a plus sign; a number has none")
     if re.match(r"[0-9-]+[,;]\Z", word):
-        raise Wrong(f"`{word}`: numbers are set apart by blanks alone")
+        raise Fault(f"`{word}`: numbers are set apart by blanks alone")
     wrong = odd_byte(word)
-    raise Wrong(wrong if wrong else f"`{word}` is no number")
+    raise Fault(wrong if wrong else f"`{word}` is no number")
 
 
 def odd_byte(word):
@@ -85,16 +81,16 @@ def odd_byte(word):
 
 
 def name_of(word, taken):
-    """A new name; else raises Wrong."""
+    """A new name; else raises Fault."""
     if word in NO_NAMES:
-        raise Wrong(f"`{word}` can't be a name")
+        raise Fault(f"`{word}` can't be a name")
     if not NAME.match(word):
         wrong = odd_byte(word)
-        raise Wrong(wrong if wrong else f"`{word}` is no name: a letter, then letters, digits and `_`")
+        raise Fault(wrong if wrong else f"`{word}` is no name: a letter, then letters, digits and `_`")
     if len(word) > 32:
-        raise Wrong(f"the name has {len(word)} bytes, and 32 are the most")
+        raise Fault(f"the name has {len(word)} bytes, and 32 are the most")
     if word in taken:
-        raise Wrong(f"the name `{word}` is taken by an earlier line")
+        raise Fault(f"the name `{word}` is taken by an earlier line")
     return word
 
 
@@ -131,7 +127,7 @@ class Draft:
         keyword, rest = words[0], words[1:]
         due = self.due()
         if keyword not in due:
-            raise Wrong(self.misplaced(keyword, line, due))
+            raise Fault(self.misplaced(keyword, line, due))
         getattr(self, "read_" + keyword)(rest)
 
     def misplaced(self, keyword, line, due):
@@ -182,16 +178,16 @@ class Draft:
 
     def words(self, keyword, rest, count):
         if len(rest) != count:
-            raise Wrong(f"`{FORMS[keyword]}` has {count} words behind `{keyword}`, here are {len(rest)}"
+            raise Fault(f"`{FORMS[keyword]}` has {count} words behind `{keyword}`, here are {len(rest)}"
                         + comment_in(rest))
 
     def room(self, keyword, entries):
         if len(entries) >= MOST[keyword]:
-            raise Wrong(f"{MOST[keyword]} `{keyword}` lines are the most")
+            raise Fault(f"{MOST[keyword]} `{keyword}` lines are the most")
 
     def read_plant(self, rest):
         if rest not in (["1"], ["2"]):
-            raise Wrong("the version is 1 or 2: `plant 1` or `plant 2`")
+            raise Fault("the version is 1 or 2: `plant 1` or `plant 2`")
         self.plant = int(rest[0])
 
     def read_state(self, rest):
@@ -200,25 +196,25 @@ class Draft:
         name = name_of(rest[0], self.names())
         low, high, width = map(number_of, rest[1:])
         if low > high:
-            raise Wrong(f"the range is turned round: {low} is more than {high}")
+            raise Fault(f"the range is turned round: {low} is more than {high}")
         if width < 1:
-            raise Wrong("the width of a cell is at least 1")
+            raise Fault("the width of a cell is at least 1")
         size = high - low + 1
         if size % width:
             fewer, more = low + size // width * width - 1, low + (size // width + 1) * width - 1
             near = [f"`state {name} {low} {end} {width}`" for end in (fewer, more) if end >= low]
-            raise Wrong(f"{low} to {high} are {size} numbers, both ends included, and no multiple of {width}: "
+            raise Fault(f"{low} to {high} are {size} numbers, both ends included, and no multiple of {width}: "
                         + " or ".join(near) + " would be one")
         self.states.append((name, low, high, width))
 
     def read_input(self, rest):
         self.room("input", self.inputs)
         if len(rest) < 2:
-            raise Wrong("`input NAME V1 .. Vm` has a name and at least one value")
+            raise Fault("`input NAME V1 .. Vm` has a name and at least one value")
         name = name_of(rest[0], self.names())
         values = [number_of(word) for word in rest[1:]]
         if len(values) > VALUES:
-            raise Wrong(f"{VALUES} values are the most of one input, here are {len(values)}")
+            raise Fault(f"{VALUES} values are the most of one input, here are {len(values)}")
         self.inputs.append((name, values))
 
     def read_noise(self, rest):
@@ -227,33 +223,30 @@ class Draft:
         name = name_of(rest[0], self.names())
         low, high = map(number_of, rest[1:])
         if low > high:
-            raise Wrong(f"the range is turned round: {low} is more than {high}")
+            raise Fault(f"the range is turned round: {low} is more than {high}")
         self.noises.append((name, low, high))
 
     def read_next(self, rest):
         due = self.states[len(self.equations)][0]
         if len(rest) < 2 or rest[1] != "=":
-            raise Wrong(f"`next {due} = ..` has the `=` as a word of its own, blanks at both sides")
+            raise Fault(f"`next {due} = ..` has the `=` as a word of its own, blanks at both sides")
         if rest[0] != due:
             if rest[0] in [state[0] for state in self.states]:
-                raise Wrong(f"equations stand in the order of the states: that of {due} is due, not that of {rest[0]}")
-            raise Wrong(f"`{rest[0]}` is no state; the equation of {due} is due")
-        try:
-            self.equations.append(expression.parse(rest[2:], self.names(), self.plant))
-        except expression.Fault as fault:
-            raise Wrong(str(fault)) from None
+                raise Fault(f"equations stand in the order of the states: that of {due} is due, not that of {rest[0]}")
+            raise Fault(f"`{rest[0]}` is no state; the equation of {due} is due")
+        self.equations.append(expression.parse(rest[2:], self.names(), self.plant))
 
     def read_box(self, keyword, rest, entries):
         self.room(keyword, entries)
         if len(rest) != 2 * len(self.states):
             names = " ".join(f"LO_{name} HI_{name}" for name, *_ in self.states)
-            raise Wrong(f"two numbers for each state are due, `{keyword} {names}`, here are {len(rest)}"
+            raise Fault(f"two numbers for each state are due, `{keyword} {names}`, here are {len(rest)}"
                         + comment_in(rest))
         numbers = [number_of(word) for word in rest]
         box = list(zip(numbers[::2], numbers[1::2]))
         for (low, high), (name, *_) in zip(box, self.states):
             if low > high:
-                raise Wrong(f"the range of {name} is turned round: {low} is more than {high}")
+                raise Fault(f"the range of {name} is turned round: {low} is more than {high}")
         entries.append(box)
 
     def read_target(self, rest):
@@ -264,15 +257,15 @@ class Draft:
 
     def read_goal(self, rest):
         if rest not in (["reach"], ["keep"]):
-            raise Wrong("the goal is `goal reach` or `goal keep`" + comment_in(rest))
+            raise Fault("the goal is `goal reach` or `goal keep`" + comment_in(rest))
         if rest == ["keep"] and self.targets:
-            raise Wrong("`goal keep` has no targets: it keeps the plant off the obstacles; take the `target` lines "
+            raise Fault("`goal keep` has no targets: it keeps the plant off the obstacles; take the `target` lines "
                         "away, or let `goal reach` bring the plant into them")
         self.goal = rest[0]
 
     def read_end(self, rest):
         if rest:
-            raise Wrong("`end` stands alone in its line" + comment_in(rest))
+            raise Fault("`end` stands alone in its line" + comment_in(rest))
         self.ended = True
 
     def made(self):
@@ -302,8 +295,8 @@ def read_lines(lines):
             continue
         try:
             draft.read(line)
-        except Wrong as wrong:
-            raise Refused(f"malformed: line {number}", str(wrong), number) from None
+        except Fault as fault:
+            raise Refused(f"malformed: line {number}", str(fault), number) from None
     if not draft.ended:
         due = draft.said(draft.due())
         raise Refused(f"malformed: line {len(lines) + 1}", f"the text ends before its `end` line; {due} is due",

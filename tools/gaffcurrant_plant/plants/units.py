@@ -5,8 +5,9 @@ import math
 import re
 from fractions import Fraction
 
-from ..command import Trouble, read_bytes
-from ..models.polynomial import Fault, number_of
+from ..command import read_bytes
+from ..faults import Fault, Trouble
+from ..models.polynomial import number_of
 
 NUMBER = re.compile(r"(0|-?[1-9][0-9]{0,17})\Z")
 COMMENT = re.compile(r"# unit ([A-Za-z][A-Za-z0-9_]*) ([0-9.eE+-]+|[0-9]+/[1-9][0-9]*)(?: ([^:]*))?(?::.*)?\Z")

@@ -4,10 +4,11 @@ import argparse
 from collections import Counter
 from functools import partial
 
-from ..command import Progress, Trouble, Words, need, read_bytes, start
+from ..command import Words, need, read_bytes, start
+from ..faults import Refused, Trouble
 from ..models.agreement import check_model, model_at
-from ..plants.reader import Refused
 from ..plants.units import units_of
+from ..progress import Progress
 
 # Cells of each kind, and inputs of a wall, that are listed.
 LISTED, INPUTS = 20, 4

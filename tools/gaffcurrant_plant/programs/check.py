@@ -3,8 +3,9 @@
 import subprocess
 from functools import partial
 
-from ..command import Progress, Trouble, Words, read_bytes, start
-from ..plants.reader import Refused
+from ..command import Words, read_bytes, start
+from ..faults import Refused, Trouble
+from ..progress import Progress
 from ..texts.solver import program, written
 from ..texts.table import read_text
 

@@ -5,8 +5,10 @@ import re
 from fractions import Fraction
 from functools import partial
 
-from ..command import Progress, Trouble, Words, need, read_bytes, start
-from ..plants.reader import Refused, read_plant
+from ..command import Words, need, read_bytes, start
+from ..faults import Refused, Trouble
+from ..plants.reader import read_plant
+from ..progress import Progress
 
 WORST = 10
 FORMAT = """

@@ -2,12 +2,12 @@
 inputs; patrols turn by turn."""
 
 
-
 from functools import partial
 
-from ..command import Progress, Trouble, Words, read_bytes, start
-from ..plants.reader import Refused
+from ..command import Words, read_bytes, start
+from ..faults import Refused, Trouble
 from ..plants.units import MODEL_HELP, units_for
+from ..progress import Progress
 from ..texts.table import read_text
 
 SHOWN = 6

@@ -5,13 +5,13 @@ import re
 import zlib
 from functools import partial
 
-from ..command import Trouble, Words, prefer, read_bytes, start
+from ..command import Words, prefer, read_bytes, start
 from ..devices.c_header import Header
 from ..devices.codes import Codes
 from ..devices.matlab import function_file
 from ..devices.structured_text import function_block
+from ..faults import Refused, Trouble
 from ..models.agreement import check_units
-from ..plants.reader import Refused
 from ..plants.units import read_units
 from ..texts.table import read_text
 

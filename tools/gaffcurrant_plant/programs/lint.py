@@ -5,13 +5,15 @@ import math
 import random
 from functools import partial
 
-from ..command import Progress, Words, prefer, read_bytes, start
+from ..command import Words, prefer, read_bytes, start
+from ..faults import Overflow, Refused
 from ..models.agreement import EXACT
-from ..plants.bounds import Overflow, bounds_of, value_at
+from ..plants.bounds import bounds_of, value_at
 from ..plants.expression import parts_of, text_of, walk
 from ..plants.plant import EDGES, Plant
-from ..plants.reader import Refused, read_plant
+from ..plants.reader import read_plant
 from ..plants.units import COMMENT, read_units, short
+from ..progress import Progress
 
 # The first line of a text by tools/scale, whose noise has in it what a quotient rounds.
 MADE, ROUNDED = b"# Made by tools/scale", "multiplies what a quotient has rounded"

@@ -4,10 +4,11 @@ row, and runs."""
 from functools import partial
 from pathlib import Path
 
-from ..command import Progress, Trouble, Words, read_bytes, start
+from ..command import Words, read_bytes, start
+from ..faults import Refused, Trouble
 from ..pages.data import model_data
 from ..pages.page import Text, page_of
-from ..plants.reader import Refused
+from ..progress import Progress
 
 MOST_TEXTS = 8
 MODEL = "the model, or the plant text with the comments of tools/scale: for its units, and for the way between " \

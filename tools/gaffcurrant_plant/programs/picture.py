@@ -10,9 +10,10 @@ from contextlib import contextmanager
 from functools import lru_cache, partial
 from pathlib import Path
 
-from ..command import Progress, Trouble, Words, need, read_bytes, start
-from ..plants.reader import Refused
+from ..command import Words, need, read_bytes, start
+from ..faults import Refused, Trouble
 from ..plants.units import units_for
+from ..progress import Progress
 
 # More panels stand in two rows.
 IN_A_ROW = 3

@@ -4,7 +4,8 @@ straight pieces instead of functions do."""
 import argparse
 from functools import partial
 
-from ..command import Trouble, Words, prefer, read_bytes, start
+from ..command import Words, prefer, read_bytes, start
+from ..faults import Trouble
 from ..models.best_plant import planted
 from ..models.model import read_model
 from ..models.model_language import help_text

@@ -4,9 +4,9 @@ the model's own equations in doubles, from many states, and counts the promises 
 import argparse
 from functools import partial
 
-from ..command import Trouble, Words, prefer, read_bytes, start
-from ..models.polynomial import Fault, number_of
-from ..plants.reader import Refused
+from ..command import Words, prefer, read_bytes, start
+from ..faults import Fault, Refused, Trouble
+from ..models.polynomial import number_of
 from ..plants.units import MODEL_HELP, decimal, outside_said, state_of, units_for
 from ..texts.loop import noises
 from ..texts.table import read_text

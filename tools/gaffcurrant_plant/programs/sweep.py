@@ -6,13 +6,14 @@ import time
 from fractions import Fraction
 from functools import partial
 
-from ..command import Progress, Trouble, Words, prefer, read_bytes, start
+from ..command import Words, prefer, read_bytes, start
+from ..faults import Fault, Refused, Trouble
 from ..models.best_plant import planted
 from ..models.model import common_unit, read_model
-from ..models.polynomial import Fault, number_of
+from ..models.polynomial import number_of
 from ..plants.plant import EDGES
-from ..plants.reader import Refused
 from ..plants.units import decimal, short
+from ..progress import Progress
 from ..texts.solver import patrol, solve, stay
 
 # What may be swept, each a column where it is, and the columns of every line.

@@ -1,12 +1,12 @@
 """Says of one cell of a table what each input does there, and what stops it from winning or keeping."""
 
 
-
 from functools import partial
 
-from ..command import Progress, Trouble, Words, need, read_bytes, start
-from ..plants.reader import Refused
+from ..command import Words, need, read_bytes, start
+from ..faults import Refused, Trouble
 from ..plants.units import MODEL_HELP, outside_said, state_of, units_for
+from ..progress import Progress
 from ..texts.table import read_text
 
 SHOWN = 8

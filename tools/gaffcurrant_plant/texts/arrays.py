@@ -6,7 +6,7 @@ from typing import NamedTuple
 
 import numpy
 
-from ..plants.reader import Refused
+from ..faults import Refused
 from .rows import VERSIONS, front_of
 
 NONE = -1

@@ -8,7 +8,7 @@ import os
 from pathlib import Path
 from typing import Any, Iterable, Optional, Sequence, Union
 
-from ..plants.reader import Refused
+from ..faults import Refused
 from .table import NoRow, Table, read_text, whole_of
 
 # The folder in which the package lies.

@@ -1,6 +1,7 @@
 """Runs of the closed loop as the program's traces have them, and their text."""
 
-from ..plants.reader import Refused, lines_of
+from ..faults import Refused
+from ..plants.reader import lines_of
 
 MULTIPLIER, INCREMENT = 6364136223846793005, 1442695040888963407
 

@@ -3,7 +3,8 @@
 import re
 from operator import le, lt
 
-from ..plants.reader import Refused, lines_of, read_lines
+from ..faults import Refused
+from ..plants.reader import lines_of, read_lines
 
 NUMBER = re.compile(r"(0|[1-9][0-9]*)\Z")
 # Row lines whose numbers are written as they have to be, of runs of cells and of single cells.

@@ -9,8 +9,9 @@ from itertools import repeat
 from pathlib import Path
 from typing import Any, Callable, Iterable, NamedTuple, Optional, Sequence, Union
 
-from ..command import Progress, Trouble
-from ..plants.reader import Refused, read_plant
+from ..faults import Refused, Trouble
+from ..plants.reader import read_plant
+from ..progress import Progress
 from .loop import noises
 from .table import Patrol, Stay, Table, read_text
 

@@ -3,7 +3,7 @@ Needs numpy."""
 
 import math
 
-from ..command import Trouble
+from ..faults import Trouble
 from ..models.arithmetic import Floats
 from ..models.formula import value_of
 

@@ -8,7 +8,7 @@ taken as straight."""
 
 from fractions import Fraction
 
-from ..command import Trouble
+from ..faults import Trouble
 from ..models.formula import polynomial_of, value_of
 from ..models.polynomial import added
 from ..models.taylor_sampling import BESIDE

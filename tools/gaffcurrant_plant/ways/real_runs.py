@@ -3,7 +3,7 @@ Needs numpy."""
 
 from collections import Counter
 
-from ..command import Trouble
+from ..faults import Trouble
 from ..models.agreement import check_model
 from ..models.model import Model, read_model
 from ..texts.table import read_text

@@ -2,7 +2,7 @@
 
 from fractions import Fraction
 
-from ..command import Trouble
+from ..faults import Trouble
 from .doubles import OF_NUMPY, numpy
 
 # How far functions of numpy may be beside, as a share of the value and at least: far more than they are.

@@ -1,6 +1,6 @@
 """Draws the first states and the disturbances of runs in doubles. Needs numpy."""
 
-from ..command import Trouble
+from ..faults import Trouble
 from .doubles import PARTS, column, numpy
 
 # Kinds of starts, and of disturbances, which the runs take in turn.

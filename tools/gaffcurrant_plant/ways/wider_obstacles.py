@@ -4,11 +4,12 @@ ways, widens by a layer of cells where ways touch, and begins again. Needs numpy
 import math
 from collections import Counter
 
-from ..command import Progress, Trouble
+from ..faults import Refused, Trouble
 from ..models.model import said
 from ..models.plant_text import box_text
-from ..plants.reader import MOST, Refused
+from ..plants.reader import MOST
 from ..plants.units import units_of
+from ..progress import Progress
 from ..texts.solver import written
 from .doubles import need_numpy, numpy
 from .enclosure import Looked
