@@ -51,9 +51,7 @@ def target_indices(patrol):
     """The indices that fill each target, from the first to the last along each state; the first is behind the last where there are none."""
     firsts, lasts = [], []
     for box in patrol.plant.targets:
-        ends = zip(box, patrol.plant.states, patrol.plant.counts)
-        indices = [(max(-(-(low - least) // width), 0), min((high + 1 - least) // width, count) - 1)
-                  for (low, high), (_, least, _, width), count in ends]
+        indices = patrol.plant.inner_extents(box)
         whole = all(first <= last for first, last in indices)
         firsts.append([first if whole else 1 for first, _ in indices])
         lasts.append([last if whole else 0 for _, last in indices])

@@ -7,7 +7,8 @@ from typing import Any, NamedTuple
 
 import numpy
 
-from ..ways.real_runs import Rows
+from ..texts.arrays import Rows
+from ..texts.promise import has_fallen
 from .conformity import Conformity
 
 
@@ -30,7 +31,7 @@ def promises_of(conformity: Conformity, text: Any, turn: int = 0) -> Promises:
                                                  here] == conformity.vectors[steps]) & (conformity.vectors[steps] >= 0)
     good = rows.won[then, there]
     if not rows.keeps:
-        falls = rows.ranks[then, there] <= numpy.maximum(rows.ranks[now, here] - 1, 0)
+        falls = has_fallen(rows.ranks[now, here], rows.ranks[then, there])
         good &= falls | (now != then)
     return Promises(applied, applied & ~good)
 
@@ -39,7 +40,7 @@ def turns_of(conformity: Conformity, rows: Rows, cells: numpy.ndarray, turn: int
     """The turn at each sample: the next one begins where a sample behind a run's first lies in an arrival of the
     turn."""
     count = len(rows.won)
-    arrivals = [numpy.flatnonzero(goals[cells]) for goals in rows.goals]
+    arrivals = [numpy.flatnonzero(goals[cells]) for goals in rows.arrivals]
     turns = numpy.zeros(cells.size, dtype=int)
     ends = numpy.flatnonzero(~conformity.log.goes_on) + 1
     for begin, end in zip([0, *ends[:-1].tolist()], ends.tolist()):

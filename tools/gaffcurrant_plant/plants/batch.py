@@ -8,6 +8,8 @@ from ..faults import Overflow
 from .bounds import SHAPES, SPANS, bounds_of, compiled, compiled_span
 from .expression import walk
 
+# The number in the place of a cell's where a state is outside of the domain.
+OUTSIDE = -1
 # Numbers up to here, and their sums, fit into 64 bits; plants with greater ones are worked out by Python's integers.
 SAFE = 2 ** 62
 # Pairs that are worked out at once, so that the arrays stay in a processor's cache.
@@ -70,7 +72,7 @@ class Batch:
 
     def indices(self, cells):
         """For each state the indices of cells."""
-        return [cells // stride % count for stride, count in zip(self.strides, self.plant.counts)]
+        return numpy.unravel_index(cells, self.plant.counts)
 
     def lows(self, indices):
         """For each state the least number of the cells at these indices."""
@@ -152,6 +154,30 @@ class Batch:
         columns = [numpy.broadcast_to(numpy.asarray(end), shape).reshape(-1).tolist() for side in zip(*ends) for end in side]
         half = len(columns) // 2
         return list(zip(zip(*columns[:half]), zip(*columns[half:])))
+
+
+def cells_at(plant, whole):
+    """The cells of columns of whole numbers, OUTSIDE where one is outside of the domain."""
+    low, high, width = (numpy.array([state[k] for state in plant.states]).reshape(-1, 1) for k in (1, 2, 3))
+    cells = numpy.ravel_multi_index(tuple((whole - low) // width), plant.counts, mode="clip")
+    return numpy.where(numpy.all((low <= whole) & (whole <= high), axis=0), cells, OUTSIDE)
+
+
+def cells_in(plant, extents):
+    """Which cells have their indices within these, a first and a last one for each state."""
+    mask = numpy.zeros(plant.counts, dtype=bool)
+    mask[tuple(slice(max(first, 0), max(last + 1, 0)) for first, last in extents)] = True
+    return mask.reshape(-1)
+
+
+def cells_that_meet(plant, boxes):
+    """Which cells meet one of these boxes."""
+    return numpy.logical_or.reduce([numpy.zeros(plant.cells, dtype=bool), *(cells_in(plant, plant.met_extents(box)) for box in boxes)])
+
+
+def cells_within(plant, boxes):
+    """Which cells lie whole in one of these boxes."""
+    return numpy.logical_or.reduce([numpy.zeros(plant.cells, dtype=bool), *(cells_in(plant, plant.inner_extents(box)) for box in boxes)])
 
 
 def fans(extents):

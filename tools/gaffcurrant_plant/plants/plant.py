@@ -133,14 +133,21 @@ class Plant:
 
     def is_obstacle(self, cell):
         low, high = self.low(cell), self.high(cell)
-        return any(all(first <= top and bottom <= last for (first, last), bottom, top in zip(box, low, high))
-                   for box in self.obstacles)
+        return any(meets(box, low, high) for box in self.obstacles)
 
     def is_goal(self, cell):
         low, high = self.low(cell), self.high(cell)
-        inside = any(all(first <= bottom and top <= last for (first, last), bottom, top in zip(box, low, high))
-                     for box in self.targets)
-        return inside and not self.is_obstacle(cell)
+        return any(holds(box, low, high) for box in self.targets) and not self.is_obstacle(cell)
+
+    def met_extents(self, box):
+        """For each state the first and the last index of the cells that meet a box; the first is above the last where there are none."""
+        return [((max(low, least) - least) // width, (min(high, most) - least) // width)
+                for (low, high), (_, least, most, width) in zip(box, self.states)]
+
+    def inner_extents(self, box):
+        """For each state the first and the last index of the cells that lie whole in a box; the first is above the last where there are none."""
+        return [(-((least - max(low, least)) // width), (min(high, most) + 1 - least) // width - 1)
+                for (low, high), (_, least, most, width) in zip(box, self.states)]
 
     # Boxes
 
@@ -285,6 +292,16 @@ class Rolled(Plant):
 
     def leaves(self, low, high):
         return [i for i in super().leaves(low, high) if not self.is_rolled[i]]
+
+
+def meets(box, low, high):
+    """Whether a box has a number from one corner to another."""
+    return all(first <= top and bottom <= last for (first, last), bottom, top in zip(box, low, high))
+
+
+def holds(box, low, high):
+    """Whether a box has all numbers from one corner to another."""
+    return all(first <= bottom and top <= last for (first, last), bottom, top in zip(box, low, high))
 
 
 def corners(ends):

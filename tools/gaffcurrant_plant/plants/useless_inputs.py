@@ -2,7 +2,7 @@
 
 import numpy
 
-from ..texts.causes import mask_of
+from .batch import cells_that_meet, cells_within
 
 # So many vectors are compared with each other, at first on so many cells.
 COMPARED, TRIED = 256, 200
@@ -44,22 +44,13 @@ def useless(plant):
     one, whose boxes lie within theirs wherever they are enabled."""
     batch = plant.batch()
     boxes = [Boxes(batch, vector) for vector in range(plant.vectors)]
-    fixed = mask_of(plant, plant.obstacles).reshape(plant.counts) | goals_of(plant)
+    fixed = (cells_that_meet(plant, plant.obstacles) | cells_within(plant, plant.targets)).reshape(plant.counts)
     wanted = [box.inside & ~fixed for box in boxes]
     if plant.goal == "reach":
         wanted = [want & ~box.back(plant.counts) for want, box in zip(wanted, boxes)]
     idle = [vector for vector, want in enumerate(wanted) if not want.any()]
     left = [vector for vector in range(plant.vectors) if vector not in idle]
     return idle, dominated(boxes, wanted, left) if len(left) <= COMPARED else []
-
-
-def goals_of(plant):
-    """The cells that lie in a target."""
-    mask = numpy.zeros(plant.counts, dtype=bool)
-    for box in plant.targets:
-        mask[tuple(slice(max(0, -((least - low) // width) if low > least else 0), max(0, (min(high, most) + 1 - least) // width))
-                   for (low, high), (_, least, most, width) in zip(box, plant.states))] = True
-    return mask
 
 
 def dominated(boxes, wanted, left):

@@ -111,10 +111,8 @@ def goals(plant):
     if not plant.targets:
         yield "there is no target, so no cell can be won"
     for number, box in enumerate(plant.targets, 1):
-        fitting = []
-        for (low, high), (name, least, most, width) in zip(box, plant.states):
-            first, last = -(-(max(low, least) - least) // width), (min(high, most) + 1 - least) // width - 1
-            fitting.append((first, last))
+        fitting = plant.inner_extents(box)
+        for (low, high), (first, last), (name, least, most, width) in zip(box, fitting, plant.states):
             inside = least + first * width, least + (last + 1) * width - 1
             if first > last:
                 yield f"target {number}: no cell of {name} lies between {low} and {high}; cells begin at {least} + " \
@@ -128,8 +126,8 @@ def goals(plant):
 def narrow_target(plant):
     """Whether the one target has fewer indices along a state than each sampled box: then nothing is won from outside."""
     met = indices_met(plant, min) if plant.goal == "reach" and len(plant.targets) == 1 else None
-    for (low, high), (name, least, most, width), fewest in zip(plant.targets[0], plant.states, met) if met else ():
-        count = (min(high, most) + 1 - least) // width + (least - max(low, least)) // width
+    for (first, last), (name, *_), fewest in zip(plant.inner_extents(plant.targets[0]), plant.states, met) if met else ():
+        count = last - first + 1
         if 0 < count < fewest:
             yield f"the target has {count} place{'s' * (count > 1)} along {name}, and each sampled box meets {fewest} at least: mostly nothing is won from " \
                   "outside; a wider target, a smaller noise or narrower cells help"

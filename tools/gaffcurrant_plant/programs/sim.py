@@ -62,9 +62,11 @@ def trace(table, state, turn, samples, drawn):
     plant = table.plant
     yield head_said(plant, turn)
     for time, noise in enumerate(drawn):
-        if time and turn is not None and plant.cell_of(state) in table.turns[turn].arrivals:
-            yield f"visited {turn} {time}"
-            turn = table.behind(turn)
+        if time and turn is not None:
+            has_arrived, after = table.visit(turn, state)
+            if has_arrived:
+                yield f"visited {turn} {time}"
+            turn = after
         row = row_of(table, turn, state)
         if row is None:
             yield " ".join(map(str, ["lost", time, *reals(plant, plant.states, state)]))

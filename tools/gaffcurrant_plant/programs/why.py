@@ -5,6 +5,7 @@ from functools import partial
 
 from ..command import Words, need, read_bytes, start
 from ..faults import Refused, Trouble
+from ..plants.plant import meets
 from ..plants.units import MODEL_HELP, outside_said, state_of, units_for
 from ..progress import Progress
 from ..texts.table import read_text
@@ -29,8 +30,7 @@ def row_said(table, cell):
             return f"its row: kept, {applied}"
         return f"its row: rank {rank}, {'the cell is held, ' if table.kind == 'stay' and rank == 0 else ''}{applied}"
     for number, box in enumerate(plant.obstacles, 1):
-        if all(first <= top and bottom <= last
-               for (first, last), bottom, top in zip(box, plant.low(cell), plant.high(cell))):
+        if meets(box, plant.low(cell), plant.high(cell)):
             return f"no row: it meets obstacle {number} ({plant.ranges_said(*zip(*box))}), so no input helps"
     return "no row"
 

@@ -1,4 +1,4 @@
-"""The rows of a table as arrays, for tables of a million cells. Needs numpy."""
+"""The rows of a table, a stay text or a patrol text as arrays, for texts of a million cells. Needs numpy."""
 
 import re
 import warnings
@@ -7,27 +7,66 @@ from typing import NamedTuple
 import numpy
 
 from ..faults import Refused
+from ..plants.batch import OUTSIDE, cells_at
+from ..plants.plant import holds
+from .promise import turn_after
 from .rows import VERSIONS, front_of
 
 NONE = -1
 KINDS = tuple(VERSIONS)
 
 
-class Cells:
-    """For each cell its rank and its input, NONE where there is no row, no rank or no input; of a patrol text those of one turn."""
+class RowArrays:
+    """The rows of a text, of a patrol text those of one turn, over the cells. won: whether a cell has a row; ranks and inputs: NONE where there is no
+    row, no rank or no input."""
+
+    def __init__(self, plant, cells, ranks, inputs):
+        self.plant = plant
+        self.won = numpy.zeros(plant.cells, dtype=bool)
+        self.ranks, self.inputs = numpy.full((2, plant.cells), NONE)
+        self.won[cells] = True
+        self.ranks[cells], self.inputs[cells] = ranks, inputs
+
+    @classmethod
+    def of(cls, table):
+        """Those of a Table, a Stay or a Turn, with its arrivals."""
+        cells = numpy.fromiter(table.rows, dtype=numpy.int64, count=len(table.rows))
+        ranks, inputs = ([NONE if row[k] is None else row[k] for row in table.rows.values()] for k in (0, 1))
+        arrays = cls(table.plant, cells, ranks, inputs)
+        arrays.arrivals = numpy.zeros(table.plant.cells, dtype=bool)
+        arrays.arrivals[list(table.arrivals) if table.kind == "turn" else []] = True
+        return arrays
+
+
+class Rows:
+    """The rows of all turns of a Table, a Stay or a Patrol: RowArrays with a line for each turn, and a cell OUTSIDE without a row behind the last one."""
+
+    def __init__(self, text):
+        self.plant, self.kind = text.plant, text.kind
+        self.keeps = text.kind == "table" and text.keeps
+        parts = [RowArrays.of(part) for part in (text.turns if self.kind == "patrol" else [text])]
+        self.won, self.arrivals = (numpy.stack([numpy.append(one, False) for one in some]) for some in
+                                   ([part.won for part in parts], [part.arrivals for part in parts]))
+        self.ranks, self.inputs = (numpy.stack([numpy.append(one, NONE) for one in some]) for some in
+                                   ([part.ranks for part in parts], [part.inputs for part in parts]))
+        self.low, self.high, self.width = (numpy.array([state[k] for state in self.plant.states]).reshape(-1, 1) for k in (1, 2, 3))
+
+    def cell_of(self, whole):
+        """The cells of columns of whole numbers, OUTSIDE where one is outside of the domain."""
+        return cells_at(self.plant, whole)
+
+
+class Cells(RowArrays):
+    """The RowArrays of the bytes of a text, of a patrol text those of one turn, asked with many states at once."""
 
     def __init__(self, data, turn=0, turns=None):
         self.turn, self.turns = turn, turns or Turns(data)
         front = self.turns.front
-        self.plant, self.kind, self.version = front.plant, front.kind, front.version
+        self.kind, self.version = front.kind, front.version
         firsts, lasts, ranks, inputs = columns_of(data, front, turn)
         lengths = lasts - firsts + 1
         cells = numpy.arange(lengths.sum()) + numpy.repeat(firsts - numpy.cumsum(lengths) + lengths, lengths)
-        self.won = numpy.zeros(self.plant.cells, dtype=bool)
-        self.ranks = numpy.full(self.plant.cells, NONE)
-        self.inputs = numpy.full(self.plant.cells, NONE)
-        self.won[cells] = True
-        self.ranks[cells], self.inputs[cells] = numpy.repeat(ranks, lengths), numpy.repeat(inputs, lengths)
+        super().__init__(front.plant, cells, numpy.repeat(ranks, lengths), numpy.repeat(inputs, lengths))
 
     def row_of(self, cell):
         """The row of a cell as a pair, or None."""
@@ -37,28 +76,24 @@ class Cells:
         return None if rank == NONE else rank, None if choice == NONE else choice
 
     def cell_of(self, states):
-        """The cells of states, an array of one line each, or NONE outside of the domain."""
+        """The cells of states, an array of one line each, or OUTSIDE where one is outside of the domain."""
         states = numpy.asarray(states)
         wide = len(self.plant.states)
         if states.ndim != 2 or states.shape[1] != wide:
             raise ValueError(f"states are an array of {wide} columns, here is one of the shape {states.shape}")
         if not numpy.issubdtype(states.dtype, numpy.integer):
             raise ValueError("states are whole numbers; whole_states makes them of real ones")
-        low, high, width = (numpy.array([state[k] for state in self.plant.states]) for k in (1, 2, 3))
-        cells = numpy.zeros(len(states), dtype=numpy.int64)
-        for column, count in zip(((states - low) // width).T, self.plant.counts):
-            cells = cells * count + column
-        return numpy.where(numpy.all((low <= states) & (states <= high), axis=1), cells, NONE)
+        return cells_at(self.plant, states.T)
 
     def rank(self, states):
         """The ranks at states; NONE where there is no row, and with goal keep."""
         cells = self.cell_of(states)
-        return numpy.where(cells == NONE, NONE, self.ranks[cells])
+        return numpy.where(cells == OUTSIDE, NONE, self.ranks[cells])
 
     def choice(self, states):
         """The values to apply at states, a line for each, masked where there is no row, and in the target of a table."""
         cells = self.cell_of(states)
-        numbers = numpy.where(cells == NONE, NONE, self.inputs[cells])
+        numbers = numpy.where(cells == OUTSIDE, NONE, self.inputs[cells])
         vectors = numpy.array([self.plant.vector(number) for number in range(self.plant.vectors)], dtype=numpy.int64).reshape(self.plant.vectors, -1)
         mask = numpy.broadcast_to((numbers == NONE)[:, None], (len(numbers), vectors.shape[1]))
         return numpy.ma.masked_array(vectors[numbers], mask)
@@ -70,9 +105,8 @@ class Cells:
     def is_arrival(self, turn, cell):
         """Whether a cell lies in the target of a turn, and has a row for the next one."""
         plant = self.plant
-        inside = all(low <= bottom and top <= high
-                     for (low, high), bottom, top in zip(plant.targets[turn], plant.low(cell), plant.high(cell)))
-        return inside and bool(self.of_turn((turn + 1) % len(plant.targets)).won[cell])
+        is_inside = holds(plant.targets[turn], plant.low(cell), plant.high(cell))
+        return is_inside and bool(self.of_turn(turn_after(turn, True, len(plant.targets))).won[cell])
 
     def arranged(self, values, axes, fixed):
         """Values of cells over the indices of some axes, and behind them over those of the other states that aren't fixed."""

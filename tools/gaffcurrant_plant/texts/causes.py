@@ -3,7 +3,8 @@ those that are won, and the rounds in which cells fall that are to be kept. All 
 
 import numpy
 
-from ..plants.batch import Sums, fans, summed
+from ..plants.batch import Sums, cells_that_meet, cells_within, fans, summed
+from .arrays import RowArrays
 
 EDGE, OBSTACLE, STILL, ITSELF, ONWARD = "edge", "obstacle", "still", "itself", "onward"
 # Causes that lie at the cell itself, in the order in which they are told.
@@ -17,22 +18,6 @@ def number_of(cause):
     return CAUSES.index(cause) + 1
 
 
-def mask_of(plant, boxes):
-    """Which cells meet one of these boxes."""
-    mask = numpy.zeros(plant.counts, dtype=bool)
-    for box in boxes:
-        ends = [((max(low, least) - least) // width, (min(high, most) - least) // width) for (low, high), (_, least, most, width) in zip(box, plant.states)]
-        mask[tuple(slice(first, last + 1) if first <= last else slice(0) for first, last in ends)] = True
-    return mask.reshape(-1)
-
-
-def cells_of(plant, cells):
-    """Which cells are among these."""
-    mask = numpy.zeros(plant.cells, dtype=bool)
-    mask[numpy.fromiter(cells, dtype=numpy.int64, count=len(cells))] = True
-    return mask
-
-
 class Lost:
     """The cells without a row that are no obstacles, with what stops each of their inputs. `stops` has for each of these cells and each input
     vector a number; `lost` and `fan` how many successors have no row and how many there are; `promising` whether the input leads the cell's
@@ -40,10 +25,10 @@ class Lost:
 
     def __init__(self, table, progress=None):
         self.table, self.plant, self.batch = table, table.plant, table.plant.batch()
-        rows = cells_of(self.plant, table.rows)
-        self.has = rows | cells_of(self.plant, table.arrivals) if table.kind == "turn" else rows
-        self.blocked = mask_of(self.plant, self.plant.obstacles)
-        self.cells = numpy.flatnonzero(~rows & ~self.blocked)
+        rows = RowArrays.of(table)
+        self.has = rows.won | rows.arrivals
+        self.blocked = cells_that_meet(self.plant, self.plant.obstacles)
+        self.cells = numpy.flatnonzero(~rows.won & ~self.blocked)
         self.at = numpy.full(self.plant.cells, NEVER)
         self.at[self.cells] = numpy.arange(len(self.cells))
         shape = (len(self.cells), self.plant.vectors)
@@ -259,16 +244,9 @@ class Round:
 
     def __init__(self, lost, progress=None):
         self.lost, self.plant, self.progress = lost, lost.plant, progress
-        goals = [self.whole(box) for box in self.plant.targets]
+        goals = [cells_within(self.plant, [box]) & ~lost.blocked for box in self.plant.targets]
         self.cells = [int(numpy.count_nonzero(goal)) for goal in goals]
         self.alone = [self.returning(goal) for goal in goals]
-
-    def whole(self, box):
-        """Which cells lie whole in a box, and in no obstacle."""
-        mask, ends = numpy.zeros(self.plant.counts, dtype=bool), zip(box, self.plant.states)
-        extents = [(-((least - max(low, least)) // width), (min(high, most) + 1 - least) // width) for (low, high), (_, least, most, width) in ends]
-        mask[tuple(slice(first, max(first, end)) for first, end in extents)] = True
-        return mask.reshape(-1) & ~self.lost.blocked
 
     def returning(self, goal):
         """Which cells of a goal have a strategy that leads back to such cells again and again, after a sample or more each time."""

@@ -134,12 +134,10 @@ class Rows:
             return None
 
     def visit(self, state: Sequence[int]) -> bool:
-        before, text = self.turn, self.opened()
+        text, has_arrived = self.opened(), False
         if text.kind == "patrol" and text.turns:
-            has_come = text.plant.cell_of(state) in text.turns[before].arrivals
-            self.turn = text.behind(before) if has_come else before
-            return has_come
-        return False
+            has_arrived, self.turn = text.visit(self.turn, state)
+        return has_arrived
 
     def begin_turn(self, turn: int) -> None:
         text = self.opened()

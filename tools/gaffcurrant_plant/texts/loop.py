@@ -2,6 +2,7 @@
 
 from ..faults import Refused
 from ..plants.reader import lines_of
+from .promise import turn_after
 
 MULTIPLIER, INCREMENT = 6364136223846793005, 1442695040888963407
 
@@ -41,8 +42,7 @@ def patrol_run(plant, row_of, arrives, start, seed, most, turn=0):
             break
         state = plant.step(state, plant.vector(row[1]), noise)
         cell = plant.cell_of(state)
-        if cell is not None and arrives(turn, cell):
-            turn = (turn + 1) % len(plant.targets)
+        turn = turn_after(turn, cell is not None and arrives(turn, cell), len(plant.targets))
         samples.append((turn, state))
     return samples
 

@@ -1,5 +1,6 @@
 """Watches a plant that a table drives: whether the rank falls as the table promises."""
 
+from .promise import has_fallen
 from .table import NoRow, whole_state
 
 
@@ -15,8 +16,9 @@ class Monitor:
         state isn't one whole number for each of the plant's."""
         whole, rows = whole_state(self.table.plant, state), self.table
         if self.table.kind == "patrol":
-            if self.has_begun and self.table.plant.cell_of(whole) in self.table.turns[self.turn].arrivals:
-                self.turn, self.rank = self.table.behind(self.turn), None
+            if self.has_begun:
+                has_arrived, self.turn = self.table.visit(self.turn, whole)
+                self.rank = None if has_arrived else self.rank
             rows = self.table.turns[self.turn]
         self.has_begun = True
         try:
@@ -25,4 +27,4 @@ class Monitor:
             return False
         now, before = rank or 0, self.rank
         self.rank = None if choice is None else now
-        return before is None or now < before or now == before == 0
+        return before is None or has_fallen(before, now)

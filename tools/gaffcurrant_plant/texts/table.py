@@ -5,12 +5,13 @@ from __future__ import annotations
 
 from typing import TYPE_CHECKING, Any, Iterable, Mapping, Optional, Sequence
 
+from ..plants.plant import Plant, holds
+from .promise import turn_after
 from .rows import Lines, front_of
 
 if TYPE_CHECKING:
-    from ..plants.plant import Plant
-    from .real_states import Real, RealPatrol
     from ..plants.units import Units
+    from .real_states import Real, RealPatrol
 
 Row = tuple[Optional[int], Optional[int]]
 
@@ -112,12 +113,9 @@ class Patrol:
 
     def __init__(self, plant: Plant, rows: Sequence[dict[int, Row]], version: int = 1) -> None:
         self.plant, self.version = plant, version
-        arrivals = [arrivals_of(plant, box, rows[self.behind(number, rows)]) for number, box in enumerate(plant.targets)]
-        self.turns = [Turn(plant, *entry) for entry in zip(rows, range(len(rows)), arrivals)]
-
-    def behind(self, number, turns=None):
-        """The turn behind a turn."""
-        return (number + 1) % len(self.turns if turns is None else turns)
+        count = len(rows)
+        arrivals = [arrivals_of(plant, box, rows[turn_after(turn, True, count)]) for turn, box in enumerate(plant.targets)]
+        self.turns = [Turn(plant, *entry) for entry in zip(rows, range(count), arrivals)]
 
     def in_units(self, units: Units) -> RealPatrol:
         """The same turns, asked in a model's units, by what `read_units` reads."""
@@ -125,14 +123,18 @@ class Patrol:
         return RealPatrol(self, units)
 
     def turn_after(self, number: int, state: Sequence[int]) -> int:
-        """The turn after a sample: the one behind where the state has come to the turn's target, else the same."""
-        return self.behind(number) if self.plant.cell_of(state) in self.turns[number].arrivals else number
+        """The turn after a sample: the next one where the state has come to the turn's target, else the same."""
+        return self.visit(number, state)[1]
+
+    def visit(self, number: int, state: Sequence[int]) -> tuple[bool, int]:
+        """Whether a state has come to the target of a turn, and the turn after it."""
+        has_arrived = self.plant.cell_of(state) in self.turns[number].arrivals
+        return has_arrived, turn_after(number, has_arrived, len(self.turns))
 
 
 def arrivals_of(plant, box, next_rows):
     """The cells with a row for the next turn all of whose points lie in a box."""
-    return {cell for cell in next_rows
-            if all(low <= bottom and top <= high for (low, high), bottom, top in zip(box, plant.low(cell), plant.high(cell)))}
+    return {cell for cell in next_rows if holds(box, plant.low(cell), plant.high(cell))}
 
 
 def read_table(data: bytes) -> Table:

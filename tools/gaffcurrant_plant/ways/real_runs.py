@@ -6,6 +6,7 @@ from collections import Counter
 from ..faults import Trouble
 from ..models.agreement import check_model
 from ..models.model import Model, read_model
+from ..texts.promise import has_fallen, turn_after
 from ..texts.table import read_text
 from .doubles import NEAR, RealPlant, column, numpy
 from .starts import PUSHES, STARTS, Pushes, Starts
@@ -15,42 +16,13 @@ STAYED, KEPT, MOST = 50, 200, 2000
 MOST_RUNS = 10 ** 6
 
 
-class Rows:
-    """The rows of a text as arrays, turn by turn: whether a cell has a row, its rank and its input, -1 where there is none, and of a patrol whether
-    it is an arrival. The cell behind the last stands for all that lies outside."""
-
-    def __init__(self, text):
-        self.plant, self.kind = text.plant, text.kind
-        self.keeps = text.kind == "table" and text.keeps
-        parts = text.turns if self.kind == "patrol" else [text]
-        self.won, self.ranks, self.inputs, self.goals = map(numpy.stack, zip(*map(self.arrays, parts)))
-        self.low, self.high, self.width = (numpy.array([state[k] for state in self.plant.states]).reshape(-1, 1) for k in (1, 2, 3))
-
-    def arrays(self, part):
-        won, goals = numpy.zeros((2, self.plant.cells + 1), dtype=bool)
-        ranks, inputs = numpy.full((2, self.plant.cells + 1), -1)
-        cells = numpy.fromiter(part.rows, dtype=int, count=len(part.rows))
-        won[cells] = True
-        for array, k in ((ranks, 0), (inputs, 1)):
-            array[cells] = [-1 if row[k] is None else row[k] for row in part.rows.values()]
-        goals[list(getattr(part, "arrivals", ()))] = True
-        return won, ranks, inputs, goals
-
-    def cell_of(self, whole):
-        """The cells of columns of whole numbers."""
-        cell = numpy.zeros(whole.shape[1], dtype=int)
-        for indices, count in zip((whole - self.low) // self.width, self.plant.counts):
-            cell = cell * count + indices
-        return numpy.where(numpy.all((whole >= self.low) & (whole <= self.high), axis=0), cell, self.plant.cells)
-
-    def longest(self):
-        """The samples after which each run has shown what is promised."""
-        most = int(self.ranks.max())
-        if self.keeps:
-            return KEPT
-        if self.kind == "patrol":
-            return min(MOST, 2 * int(self.ranks.max(axis=1).sum()))
-        return most + STAYED * (self.kind == "stay")
+def longest(rows):
+    """The samples after which each run has shown what is promised."""
+    if rows.keeps:
+        return KEPT
+    if rows.kind == "patrol":
+        return min(MOST, 2 * int(rows.ranks.max(axis=1).sum()))
+    return int(rows.ranks.max()) + STAYED * (rows.kind == "stay")
 
 
 class Outcome:
@@ -100,7 +72,9 @@ class Loop:
     """Runs of the closed loop. record: where the samples are kept, if they are to be."""
 
     def __init__(self, model, text, runs, seed):
-        self.real, self.rows, self.outcome = RealPlant(model), Rows(text), Outcome(runs)
+        self.real, self.outcome = RealPlant(model), Outcome(runs)
+        from ..texts.arrays import Rows
+        self.rows = Rows(text)
         self.exact, self.comes_round = (numpy.array([name in some for name in self.real.names]).reshape(-1, 1) for some in (model.exact, model.wraps))
         sizes = [unit for _, unit, _ in model.inputs]
         vectors = [self.rows.plant.vector(k) for k in range(self.rows.plant.vectors)]
@@ -177,17 +151,17 @@ class Loop:
     def follows(self, time, runs, states, ranks, cells):
         """Which runs have a row at a rank below the one before; a patrol's turn goes on where its target was reached."""
         rows, turns = self.rows, self.turns[runs]
-        arrived = rows.goals[turns, cells]
+        arrived = rows.arrivals[turns, cells]
         for turn in range(len(rows.won)) if rows.kind == "patrol" else ():
             wrong = arrived & (turns == turn) & ~self.real.is_in_target(states, turn)
             self.noted(time, "an arrival lies beside the turn's target", runs, states, wrong)
-        turns = numpy.where(arrived, (turns + 1) % len(rows.won), turns)
+        turns = turn_after(turns, arrived, len(rows.won))
         self.turns[runs] = turns
         good = self.noted(time, "the state has no row", runs, states, ~rows.won[turns, cells])
         if rows.keeps:
             return good
-        rises = rows.ranks[turns, cells] > numpy.maximum(ranks - 1, 0)
-        return good & self.noted(time, "the rank doesn't fall", runs, states, good & ~arrived & rises)
+        falls = has_fallen(ranks, rows.ranks[turns, cells])
+        return good & self.noted(time, "the rank doesn't fall", runs, states, good & ~arrived & ~falls)
 
     def noted(self, time, what, runs, states, wrong):
         """Counts what is wrong, and answers which runs are well; keeps the trace of the first that isn't."""
@@ -227,7 +201,7 @@ def real_runs(model, text, runs=2000, samples=None, seed=1, state=None, turn=Non
         loop.turns[:] = turn
     first = None if state is None else column(state) + numpy.zeros((1, runs))
     loop.record = Record(loop.real, loop.vectors) if log else None
-    outcome = loop.drive(first, loop.rows.longest() if samples is None else samples)
+    outcome = loop.drive(first, longest(loop.rows) if samples is None else samples)
     if log:
         log.writelines(f"{line}\n" for line in loop.record.lines())
     return outcome
