@@ -34,7 +34,8 @@ def read_bytes(path):
 
 
 def prefer(*modules):
-    """Goes over to Debian's Python, once, where this one lacks a module that Debian's has. For programs, before they read anything."""
+    """Goes over to Debian's Python, once, where this one lacks a module that Debian's has. For programs, before they
+    read anything."""
     missing = [module for module in modules if not importlib.util.find_spec(module)]
     if not missing or os.environ.get("GAFFCURRANT_PYTHON") or not os.path.exists(DEBIAN):
         return
@@ -50,7 +51,12 @@ def is_in_debian(module):
 
 
 # What Debian calls the packages of modules.
-PACKAGES = {"numpy": "python3-numpy", "mpmath": "python3-mpmath", "matplotlib": "python3-matplotlib", "PIL": "python3-pil"}
+PACKAGES = {
+    "numpy": "python3-numpy",
+    "mpmath": "python3-mpmath",
+    "matplotlib": "python3-matplotlib",
+    "PIL": "python3-pil",
+}
 
 
 def need(what, *modules):
@@ -58,11 +64,15 @@ def need(what, *modules):
     prefer(*modules)
     if missing := [module for module in modules if not is_there(module)]:
         packages = " ".join(PACKAGES[module] for module in missing)
-        raise Trouble(f"{what} needs {', '.join(missing[:-1])}{' and ' * (len(missing) > 1)}{missing[-1]}; on Debian: apt-get install {packages}")
+        raise Trouble(
+            f"{what} needs {', '.join(missing[:-1])}{' and ' * (len(missing) > 1)}{missing[-1]}; on Debian: "
+            f"apt-get install {packages}"
+        )
 
 
 def is_there(module):
-    """Whether a module can be loaded; matplotlib, which makes a folder for its settings when it is, has to be found alone."""
+    """Whether a module can be loaded; matplotlib, which makes a folder for its settings when it is, has to be found
+    alone."""
     if module == "matplotlib" or not importlib.util.find_spec(module):
         return bool(importlib.util.find_spec(module))
     try:

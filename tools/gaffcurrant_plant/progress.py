@@ -10,8 +10,8 @@ EVERY = 10
 
 
 class Progress:
-    """How far something is that takes more than two seconds, or for how long it goes on, in one line on a terminal; anywhere else nothing, or where has_lines
-    says so a line every ten seconds."""
+    """How far something is that takes more than two seconds, or for how long it goes on, in one line on a terminal;
+    anywhere else nothing, or where has_lines says so a line every ten seconds."""
 
     def __init__(self, name, has_lines=False):
         self.name, self.begun, self.told = name, time.monotonic(), 0.0
@@ -27,7 +27,8 @@ class Progress:
             self.put(f"{share:.0%}, about {left:.0f} s left", now)
 
     def say(self, said):
-        """Tells what goes on and for how long so far: some times a second on a terminal, elsewhere every ten seconds."""
+        """Tells what goes on and for how long so far: some times a second on a terminal, elsewhere every ten
+        seconds."""
         now = time.monotonic()
         if self.is_on and now - self.begun > 2 and now - self.told > 0.2:
             self.put(f"{said}, {now - self.begun:.0f} s so far", now)

@@ -1,5 +1,5 @@
-"""The build backend of the module (PEP 517): setuptools where it is there, else a wheel by the standard library. pip hides the
-setuptools of the system unless `--no-build-isolation` is given, and without a network it can't fetch one."""
+"""The build backend of the module (PEP 517): setuptools where it is there, else a wheel by the standard library. pip
+hides the setuptools of the system unless `--no-build-isolation` is given, and without a network it can't fetch one."""
 
 try:
     import wheel  # noqa: F401

@@ -3,7 +3,8 @@ calls it, with what it made:
 
     hand_on.py install PREFIX --made FOLDER --verdicts FILE    puts them below PREFIX, or below $DESTDIR/PREFIX
     hand_on.py uninstall PREFIX                                takes away what the list there names
-    hand_on.py archive FOLDER --made FOLDER --verdicts FILE    makes an archive for each processor, sums, and the page PROOF
+    hand_on.py archive FOLDER --made FOLDER --verdicts FILE    makes an archive for each processor, sums, and the page \
+PROOF
 
 FOLDER/PROCESSOR of --made holds the program, the library and what the proofs said; the file of --verdicts, the lines of
 the crates in the current folder."""
@@ -50,8 +51,8 @@ def install(top, entries):
 
 
 def uninstall(top):
-    """Takes away what the list names: files, what Python compiled of them, and the folders that were made for them, where
-    these are then empty."""
+    """Takes away what the list names: files, what Python compiled of them, and the folders that were made for them,
+    where these are then empty."""
     try:
         names = (top / tree.LIST).read_text().splitlines()
     except FileNotFoundError:
@@ -86,8 +87,18 @@ def archive(folder, entries, name, time):
         top = Path(room) / name
         top.mkdir()
         tree.write(entries, top)
-        pack = ["tar", "--create", "--format=gnu", "--sort=name", f"--mtime={time}", "--owner=0", "--group=0",
-                "--numeric-owner", "--mode=u=rwX,go=rX", name]
+        pack = [
+            "tar",
+            "--create",
+            "--format=gnu",
+            "--sort=name",
+            f"--mtime={time}",
+            "--owner=0",
+            "--group=0",
+            "--numeric-owner",
+            "--mode=u=rwX,go=rX",
+            name,
+        ]
         press = ["xz", "--threads=1", "-9", "--check=crc64"]
         with open(folder / f"{name}.tar.xz", "wb") as file:
             packed = subprocess.Popen(pack, cwd=room, stdout=subprocess.PIPE, env=os.environ | {"LC_ALL": "C"})

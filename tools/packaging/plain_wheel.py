@@ -1,4 +1,5 @@
-"""Makes a wheel of the module and of the programs by Python's standard library alone. setup.py takes the version from here."""
+"""Makes a wheel of the module and of the programs by Python's standard library alone. setup.py takes the version from
+here."""
 
 import base64
 import hashlib
@@ -33,20 +34,33 @@ def section(name):
 
 def programs():
     """The programs of tools/: files without an ending that Python runs."""
-    return sorted(path for path in TOOLS.iterdir() if path.is_file() and not path.suffix and path.read_bytes().startswith(b"#!/usr/bin/env python3"))
+    return sorted(
+        path
+        for path in TOOLS.iterdir()
+        if path.is_file() and not path.suffix and path.read_bytes().startswith(b"#!/usr/bin/env python3")
+    )
 
 
 def metadata():
     project = section("project")
-    lines = ["Metadata-Version: 2.1", "Name: gaffcurrant-plant", f"Version: {version()}", f"Requires-Python: {project['requires-python'][1:-1]}",
-             f"Summary: {project['description'][1:-1]}"]
+    lines = [
+        "Metadata-Version: 2.1",
+        "Name: gaffcurrant-plant",
+        f"Version: {version()}",
+        f"Requires-Python: {project['requires-python'][1:-1]}",
+        f"Summary: {project['description'][1:-1]}",
+    ]
     for extra, names in section("project.optional-dependencies").items():
-        lines += [f"Provides-Extra: {extra}"] + [f'Requires-Dist: {name}; extra == "{extra}"' for name in re.findall('"(.*?)"', names)]
+        lines += [f"Provides-Extra: {extra}"] + [
+            f'Requires-Dist: {name}; extra == "{extra}"' for name in re.findall('"(.*?)"', names)
+        ]
     return "\n".join(lines) + "\n"
 
 
 def entry_points():
-    return "".join(["[console_scripts]\n"] + [f"{name} = {call[1:-1]}\n" for name, call in section("project.scripts").items()])
+    return "".join(
+        ["[console_scripts]\n"] + [f"{name} = {call[1:-1]}\n" for name, call in section("project.scripts").items()]
+    )
 
 
 def module_files():
@@ -83,5 +97,7 @@ def build_sdist(sdist_directory, config_settings=None):
     name = f"{NAME}-{version()}"
     with tarfile.open(Path(sdist_directory) / f"{name}.tar.gz", "w:gz") as archive:
         for path in [TOOLS / "pyproject.toml", TOOLS / "setup.py", TOOLS / "packaging", TOOLS / MODULE, *programs()]:
-            archive.add(path, f"{name}/{path.relative_to(TOOLS)}", filter=lambda one: None if "__pycache__" in one.name else one)
+            archive.add(
+                path, f"{name}/{path.relative_to(TOOLS)}", filter=lambda one: None if "__pycache__" in one.name else one
+            )
     return f"{name}.tar.gz"

@@ -12,7 +12,8 @@ def list_of(values):
 
 
 class Header:
-    """The lines of a header. Each name has the prefix and `_` before it, where there is one. exact: the states that are whole numbers by themselves."""
+    """The lines of a header. Each name has the prefix and `_` before it, where there is one. exact: the states that are
+    whole numbers by themselves."""
 
     def __init__(self, text, codes, checksum, prefix="", in_runs=False, with_ranks=False, units=None, exact=()):
         self.text, self.plant, self.codes, self.checksum = text, text.plant, codes, checksum
@@ -20,18 +21,36 @@ class Header:
         self.in_runs, self.with_ranks, self.units, self.exact = in_runs, with_ranks, units, exact
         self.of_turns = text.kind == "patrol"
         self.bytes = bytearray()
-        self.fractions = [fraction_of(units.size(name)) for name, *_ in self.plant.states + self.plant.inputs] if units else [None]
+        self.fractions = (
+            [fraction_of(units.size(name)) for name, *_ in self.plant.states + self.plant.inputs] if units else [None]
+        )
 
     def lines(self):
         for number in (self.codes.none, self.codes.arrived):
             self.bytes += number.to_bytes(4, "little")
         arrays = self.grid() + (self.turns() if self.of_turns else []) + self.rows() + self.unit_lines()
-        comment = [f"/* {WHAT[self.text.kind]} of Gaffcurrant as constant arrays, made by tools/header."] + [f"   {line}" for line in
-                                                                                                             about(self.text, self.checksum)]
-        defines = [("STATES", len(self.plant.states)), ("INPUTS", len(self.plant.inputs)), ("NO_ROW", self.codes.none), ("ARRIVED", self.codes.arrived),
-                   ("HAS_RUNS", int(self.in_runs)), ("HAS_TURNS", int(self.of_turns)), ("HAS_RANKS", int(self.with_ranks)), ("HAS_SIZES", int(bool(self.units))),
-                   ("HAS_FRACTIONS", int(None not in self.fractions)), ("CHECKSUM", f"0x{self.checksum:08x}u"), ("ARRAYS_CHECKSUM", f"0x{zlib.crc32(self.bytes):08x}u")]
-        return comment[:-1] + [comment[-1] + " */", "#include <stdint.h>"] + [self.define(*pair) for pair in defines] + arrays
+        comment = [f"/* {WHAT[self.text.kind]} of Gaffcurrant as constant arrays, made by tools/header."] + [
+            f"   {line}" for line in about(self.text, self.checksum)
+        ]
+        defines = [
+            ("STATES", len(self.plant.states)),
+            ("INPUTS", len(self.plant.inputs)),
+            ("NO_ROW", self.codes.none),
+            ("ARRIVED", self.codes.arrived),
+            ("HAS_RUNS", int(self.in_runs)),
+            ("HAS_TURNS", int(self.of_turns)),
+            ("HAS_RANKS", int(self.with_ranks)),
+            ("HAS_SIZES", int(bool(self.units))),
+            ("HAS_FRACTIONS", int(None not in self.fractions)),
+            ("CHECKSUM", f"0x{self.checksum:08x}u"),
+            ("ARRAYS_CHECKSUM", f"0x{zlib.crc32(self.bytes):08x}u"),
+        ]
+        return (
+            comment[:-1]
+            + [comment[-1] + " */", "#include <stdint.h>"]
+            + [self.define(*pair) for pair in defines]
+            + arrays
+        )
 
     def define(self, name, value):
         return f"#define {self.before}{name} {value}"
@@ -40,7 +59,7 @@ class Header:
         """An array, whose values count for the arrays' checksum: 8, 4, 2 or 1 bytes each, the lowest first."""
         size = {"int64_t": 8, "uint32_t": 4, "uint16_t": 2, "uint8_t": 1}[kind]
         for value in values:
-            self.bytes += (value % 2 ** 64).to_bytes(8, "little")[:size]
+            self.bytes += (value % 2**64).to_bytes(8, "little")[:size]
         head = f"static const {kind} {self.before}{name}{sizes} = "
         if lines is not None:
             return [f"{head}{lines};"]
@@ -56,7 +75,9 @@ class Header:
             values = [state[k] for state in plant.states]
             lines += self.array("int64_t", name, self.sized("STATES"), values, list_of(values))
         lines += self.array("uint32_t", "COUNT", self.sized("STATES"), plant.counts, list_of(plant.counts))
-        lengths, most = [len(values) for _, values in plant.inputs], max([len(values) for _, values in plant.inputs], default=1)
+        lengths, most = [len(values) for _, values in plant.inputs], max(
+            [len(values) for _, values in plant.inputs], default=1
+        )
         lines += self.array("uint32_t", "VALUES", "[]", lengths or [0], list_of(lengths))
         choices = [list_of(values) for _, values in plant.inputs] or ["{0}"]
         filled = [value for _, values in plant.inputs for value in values + [0] * (most - len(values))] or [0]
@@ -67,15 +88,24 @@ class Header:
         lines = [self.define("TURNS", len(firsts)), self.define("CELLS", self.plant.cells)]
         for name, indices in (("TARGET_FIRST", firsts), ("TARGET_LAST", lasts)):
             flat = [index for one in indices for index in one]
-            lines += self.array("uint32_t", name, self.sized("TURNS") + self.sized("STATES"), flat, "{" + ", ".join(map(list_of, indices)) + "}")
+            lines += self.array(
+                "uint32_t",
+                name,
+                self.sized("TURNS") + self.sized("STATES"),
+                flat,
+                "{" + ", ".join(map(list_of, indices)) + "}",
+            )
         return lines
 
     def rows(self):
-        """The arrays that hold the rows: one number a cell, or the first cells and the numbers of runs; those of a patrol turn by turn."""
+        """The arrays that hold the rows: one number a cell, or the first cells and the numbers of runs; those of a
+        patrol turn by turn."""
         codes, kind, rank_kind = self.codes, f"uint{self.codes.bits}_t", f"uint{self.codes.rank_bits}_t"
         if self.in_runs:
             firsts, numbers, ranks, begins = codes.runs(self.with_ranks)
-            size, lines = self.sized("RUNS"), [self.define("RUNS", len(firsts))] + self.array("uint32_t", "FIRST", self.sized("RUNS"), firsts)
+            size, lines = self.sized("RUNS"), [self.define("RUNS", len(firsts))] + self.array(
+                "uint32_t", "FIRST", self.sized("RUNS"), firsts
+            )
         else:
             numbers, ranks = ([number for part in parts for number in part] for parts in (codes.of_parts, codes.ranks))
             size, lines = f"[{self.before}TURNS * {self.before}CELLS]" if self.of_turns else f"[{len(numbers)}]", []
@@ -87,19 +117,29 @@ class Header:
         return lines
 
     def unit_lines(self):
-        """What the number 1 of each state and input stands for: a state is floor(value / UNIT), an input's value is number * INPUT_UNIT. As doubles, and as
-        fractions where they are numbers of 64 bits."""
+        """What the number 1 of each state and input stands for: a state is floor(value / UNIT), an input's value is
+        number * INPUT_UNIT. As doubles, and as fractions where they are numbers of 64 bits."""
         if not self.units:
             return []
         plant, units = self.plant, self.units
         words = ", ".join(units.label(name) for name in plant.names() if name in units.words)
         lines = [f"/* {words} */"] * bool(words)
-        for name, size, names in (("UNIT", self.sized("STATES"), [state[0] for state in plant.states]),
-                                  ("INPUT_UNIT", "[]", [name for name, _ in plant.inputs])):
+        for name, size, names in (
+            ("UNIT", self.sized("STATES"), [state[0] for state in plant.states]),
+            ("INPUT_UNIT", "[]", [name for name, _ in plant.inputs]),
+        ):
             sizes = [units.size(one) for one in names] or [0]
-            lines.append(f"static const double {self.before}{name}{size} = {list_of([double_of(one) for one in sizes])};")
+            lines.append(
+                f"static const double {self.before}{name}{size} = {list_of([double_of(one) for one in sizes])};"
+            )
             if None not in self.fractions:
                 pairs = [fraction_of(one) for one in sizes]
-                lines += self.array("int64_t", f"{name}_FRACTION", "[][2]", [number for pair in pairs for number in pair], f"{{{', '.join(map(list_of, pairs))}}}")
+                lines += self.array(
+                    "int64_t",
+                    f"{name}_FRACTION",
+                    "[][2]",
+                    [number for pair in pairs for number in pair],
+                    f"{{{', '.join(map(list_of, pairs))}}}",
+                )
         exact = [int(state[0] in self.exact) for state in plant.states]
         return lines + self.array("uint8_t", "EXACT", self.sized("STATES"), exact, list_of(exact))

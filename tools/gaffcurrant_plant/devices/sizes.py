@@ -4,11 +4,12 @@ from fractions import Fraction
 
 from ..plants.units import exactly
 
-TOP = 2 ** 63
+TOP = 2**63
 
 
 def double_of(value):
-    """A size as a number of a program, which the nearest double is read from: a decimal number, or 17 digits where that doesn't end."""
+    """A size as a number of a program, which the nearest double is read from: a decimal number, or 17 digits where that
+    doesn't end."""
     said = exactly(value)
     return f"{float(Fraction(value)):.17g}" if "/" in said else said
 

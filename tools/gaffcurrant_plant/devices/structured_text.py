@@ -1,11 +1,11 @@
-"""A text as a function block in structured text of IEC 61131-3, for programmable controllers: numbers of 32 bits, no pointers, no library but the
-conversions of numbers."""
+"""A text as a function block in structured text of IEC 61131-3, for programmable controllers: numbers of 32 bits, no
+pointers, no library but the conversions of numbers."""
 
 from ..faults import Trouble
 from .codes import WHAT, about, broken, target_indices
 from .sizes import double_of
 
-TOP = 2 ** 31
+TOP = 2**31
 
 
 class Block:
@@ -20,34 +20,73 @@ class Block:
         check_size(self.plant)
 
     def lines(self):
-        return self.comment() + [f"FUNCTION_BLOCK {self.name}"] + self.variables() + self.constants() + self.body() + ["END_FUNCTION_BLOCK"]
+        return (
+            self.comment()
+            + [f"FUNCTION_BLOCK {self.name}"]
+            + self.variables()
+            + self.constants()
+            + self.body()
+            + ["END_FUNCTION_BLOCK"]
+        )
 
     def comment(self):
-        lines = [f"(* {WHAT[self.text.kind]} of Gaffcurrant, made by tools/header --st."] + [f"   {line}" for line in about(self.text, self.checksum)]
-        lines.append("   Tested by a parser and interpreter of Gaffcurrant's own, not by a compiler of IEC 61131-3. Try this block before you rely on it.")
-        lines.append("   STATUS 1: apply INPUTS; 0: the state is in the target, nothing has to be applied; -1: there is no row, so nothing is promised.")
+        lines = [f"(* {WHAT[self.text.kind]} of Gaffcurrant, made by tools/header --st."] + [
+            f"   {line}" for line in about(self.text, self.checksum)
+        ]
+        lines.append(
+            "   Tested by a parser and interpreter of Gaffcurrant's own, not by a compiler of IEC 61131-3. Try "
+            "this block before you rely on it."
+        )
+        lines.append(
+            "   STATUS 1: apply INPUTS; 0: the state is in the target, nothing has to be applied; -1: there is "
+            "no row, so nothing is promised."
+        )
         if self.with_ranks:
-            lines.append("   FALLS is FALSE where the rank hasn't fallen as promised since the call before: a disturbance outside of its range, or a sensor.")
+            lines.append(
+                "   FALLS is FALSE where the rank hasn't fallen as promised since the call before: a disturbance "
+                "outside of its range, or a sensor."
+            )
         for name in self.plant.names() if self.units else ():
             if name in self.units.sizes:
-                lines.append(f"   the number 1 of {self.units.label(name)} is {double_of(self.units.size(name))}, exactly {self.units.size(name)}")
+                lines.append(
+                    f"   the number 1 of {self.units.label(name)} is {double_of(self.units.size(name))}, exactly "
+                    f"{self.units.size(name)}"
+                )
         return lines[:-1] + [lines[-1] + " *)"]
 
     def variables(self):
-        own = ["I, CELL, PLACE, NUMBER : DINT;"] + ["LOWEST, HIGHEST, MIDDLE : DINT;"] * self.in_runs \
-            + ["IS_INSIDE, HAS_BEGUN, IS_FIRST : BOOL;", "AFTER : DINT;"] * self.of_turns + ["RANK : DINT;", "LAST_RANK : DINT := -1;"] * self.with_ranks
-        outputs = ["STATUS : DINT;", f"INPUTS : ARRAY[0..{max(self.inputs, 1) - 1}] OF DINT;"] + ["FALLS : BOOL;"] * self.with_ranks \
+        own = (
+            ["I, CELL, PLACE, NUMBER : DINT;"]
+            + ["LOWEST, HIGHEST, MIDDLE : DINT;"] * self.in_runs
+            + ["IS_INSIDE, HAS_BEGUN, IS_FIRST : BOOL;", "AFTER : DINT;"] * self.of_turns
+            + ["RANK : DINT;", "LAST_RANK : DINT := -1;"] * self.with_ranks
+        )
+        outputs = (
+            ["STATUS : DINT;", f"INPUTS : ARRAY[0..{max(self.inputs, 1) - 1}] OF DINT;"]
+            + ["FALLS : BOOL;"] * self.with_ranks
             + ["TURN : DINT;"] * self.of_turns
-        return section("VAR_INPUT", [f"STATE : ARRAY[0..{self.count - 1}] OF DINT;"]) + section("VAR_OUTPUT", outputs) + section("VAR", own)
+        )
+        return (
+            section("VAR_INPUT", [f"STATE : ARRAY[0..{self.count - 1}] OF DINT;"])
+            + section("VAR_OUTPUT", outputs)
+            + section("VAR", own)
+        )
 
     def constants(self):
         """The arrays; of a patrol the rows of one turn behind those of the other."""
         plant, codes, kind = self.plant, self.codes, "USINT" if self.codes.bits == 8 else "UINT"
         lines = []
-        for name, values in (("LOW", [state[1] for state in plant.states]), ("HIGH", [state[2] for state in plant.states]),
-                             ("WIDTH", [state[3] for state in plant.states]), ("COUNT", plant.counts),
-                             ("VALUES", [len(values) for _, values in plant.inputs] or [1]),
-                             ("VALUE", [value for _, values in plant.inputs for value in values + [0] * (self.most - len(values))] or [0])):
+        for name, values in (
+            ("LOW", [state[1] for state in plant.states]),
+            ("HIGH", [state[2] for state in plant.states]),
+            ("WIDTH", [state[3] for state in plant.states]),
+            ("COUNT", plant.counts),
+            ("VALUES", [len(values) for _, values in plant.inputs] or [1]),
+            (
+                "VALUE",
+                [value for _, values in plant.inputs for value in values + [0] * (self.most - len(values))] or [0],
+            ),
+        ):
             lines += array(name, "DINT", values)
         if self.of_turns:
             for name, indices in zip(("TARGET_FIRST", "TARGET_LAST"), target_indices(self.text)):
@@ -66,18 +105,48 @@ class Block:
         head = ["STATUS := -1;"] + ["FALLS := FALSE;"] * self.with_ranks
         if self.of_turns:
             head += ["IS_FIRST := NOT HAS_BEGUN;", "HAS_BEGUN := TRUE;"]
-        return head + ["CELL := 0;", f"FOR I := 0 TO {self.count - 1} DO", "    IF (STATE[I] < LOW[I]) OR (STATE[I] > HIGH[I]) THEN", "        RETURN;",
-                       "    END_IF;", "    CELL := CELL * COUNT[I] + (STATE[I] - LOW[I]) / WIDTH[I];", "END_FOR;"] \
-            + (self.visit() if self.of_turns else []) + self.lookup("TURN") + ["IF NUMBER = " + str(self.codes.none) + " THEN", "    RETURN;", "END_IF;"] \
-            + (self.monitor() if self.with_ranks else []) + self.answer()
+        return (
+            head
+            + [
+                "CELL := 0;",
+                f"FOR I := 0 TO {self.count - 1} DO",
+                "    IF (STATE[I] < LOW[I]) OR (STATE[I] > HIGH[I]) THEN",
+                "        RETURN;",
+                "    END_IF;",
+                "    CELL := CELL * COUNT[I] + (STATE[I] - LOW[I]) / WIDTH[I];",
+                "END_FOR;",
+            ]
+            + (self.visit() if self.of_turns else [])
+            + self.lookup("TURN")
+            + ["IF NUMBER = " + str(self.codes.none) + " THEN", "    RETURN;", "END_IF;"]
+            + (self.monitor() if self.with_ranks else [])
+            + self.answer()
+        )
 
     def visit(self):
         """The next turn begins where the target of the turn was reached, and the cell has a row for it."""
-        inner = ["AFTER := (TURN + 1) MOD " + str(len(self.text.turns)) + ";"] + self.lookup("AFTER") \
-            + [f"IF NUMBER <> {self.codes.none} THEN", "    TURN := AFTER;"] + ["    LAST_RANK := -1;"] * self.with_ranks + ["END_IF;"]
-        return ["IS_INSIDE := NOT IS_FIRST;", f"FOR I := 0 TO {self.count - 1} DO", "    PLACE := (STATE[I] - LOW[I]) / WIDTH[I];",
-                f"    IF (PLACE < TARGET_FIRST[TURN * {self.count} + I]) OR (PLACE > TARGET_LAST[TURN * {self.count} + I]) THEN", "        IS_INSIDE := FALSE;",
-                "    END_IF;", "END_FOR;", "IF IS_INSIDE THEN"] + [f"    {line}" for line in inner] + ["END_IF;"]
+        inner = (
+            ["AFTER := (TURN + 1) MOD " + str(len(self.text.turns)) + ";"]
+            + self.lookup("AFTER")
+            + [f"IF NUMBER <> {self.codes.none} THEN", "    TURN := AFTER;"]
+            + ["    LAST_RANK := -1;"] * self.with_ranks
+            + ["END_IF;"]
+        )
+        return (
+            [
+                "IS_INSIDE := NOT IS_FIRST;",
+                f"FOR I := 0 TO {self.count - 1} DO",
+                "    PLACE := (STATE[I] - LOW[I]) / WIDTH[I];",
+                f"    IF (PLACE < TARGET_FIRST[TURN * {self.count} + I]) OR (PLACE > TARGET_LAST[TURN * "
+                f"{self.count} + I]) THEN",
+                "        IS_INSIDE := FALSE;",
+                "    END_IF;",
+                "END_FOR;",
+                "IF IS_INSIDE THEN",
+            ]
+            + [f"    {line}" for line in inner]
+            + ["END_IF;"]
+        )
 
     def lookup(self, turn):
         """Sets PLACE and NUMBER to the row of CELL."""
@@ -86,20 +155,40 @@ class Block:
         if not self.in_runs:
             return [f"PLACE := {f'{turn} * {self.plant.cells} + ' if self.of_turns else ''}CELL;"] + last
         at = turn if self.of_turns else "0"
-        return [f"LOWEST := BEGIN[{at}];", f"HIGHEST := BEGIN[{at} + 1];", "WHILE HIGHEST - LOWEST > 1 DO", "    MIDDLE := (LOWEST + HIGHEST) / 2;",
-                "    IF FIRST[MIDDLE] <= CELL THEN", "        LOWEST := MIDDLE;", "    ELSE", "        HIGHEST := MIDDLE;", "    END_IF;", "END_WHILE;",
-                "PLACE := LOWEST;"] + last
+        return [
+            f"LOWEST := BEGIN[{at}];",
+            f"HIGHEST := BEGIN[{at} + 1];",
+            "WHILE HIGHEST - LOWEST > 1 DO",
+            "    MIDDLE := (LOWEST + HIGHEST) / 2;",
+            "    IF FIRST[MIDDLE] <= CELL THEN",
+            "        LOWEST := MIDDLE;",
+            "    ELSE",
+            "        HIGHEST := MIDDLE;",
+            "    END_IF;",
+            "END_WHILE;",
+            "PLACE := LOWEST;",
+        ] + last
 
     def monitor(self):
         rank = "UINT_TO_DINT(RANKS[PLACE])" if self.codes.rank_bits == 16 else "RANKS[PLACE]"
-        return [f"RANK := {rank};", "FALLS := (LAST_RANK < 0) OR (RANK < LAST_RANK) OR ((RANK = 0) AND (LAST_RANK = 0));", "LAST_RANK := RANK;",
-                f"IF NUMBER = {self.codes.arrived} THEN", "    LAST_RANK := -1;", "END_IF;"]
+        return [
+            f"RANK := {rank};",
+            "FALLS := (LAST_RANK < 0) OR (RANK < LAST_RANK) OR ((RANK = 0) AND (LAST_RANK = 0));",
+            "LAST_RANK := RANK;",
+            f"IF NUMBER = {self.codes.arrived} THEN",
+            "    LAST_RANK := -1;",
+            "END_IF;",
+        ]
 
     def answer(self):
         lines = [f"IF NUMBER = {self.codes.arrived} THEN", "    STATUS := 0;", "    RETURN;", "END_IF;"]
         if self.inputs:
-            lines += [f"FOR I := {self.inputs - 1} TO 0 BY -1 DO", f"    INPUTS[I] := VALUE[I * {self.most} + (NUMBER MOD VALUES[I])];",
-                      "    NUMBER := NUMBER / VALUES[I];", "END_FOR;"]
+            lines += [
+                f"FOR I := {self.inputs - 1} TO 0 BY -1 DO",
+                f"    INPUTS[I] := VALUE[I * {self.most} + (NUMBER MOD VALUES[I])];",
+                "    NUMBER := NUMBER / VALUES[I];",
+                "END_FOR;",
+            ]
         return lines + ["STATUS := 1;"]
 
 
@@ -107,7 +196,9 @@ def check_size(plant):
     """Raises Trouble where a number doesn't fit into 32 bits."""
     for name, low, high, _ in plant.states:
         if not -TOP <= low <= high < TOP or high - low >= TOP:
-            raise Trouble(f"the range of {name}, {low} to {high}, doesn't fit into numbers of 32 bits; coarser units do")
+            raise Trouble(
+                f"the range of {name}, {low} to {high}, doesn't fit into numbers of 32 bits; coarser units do"
+            )
     for name, values in plant.inputs:
         if not all(-TOP <= value < TOP for value in values):
             raise Trouble(f"the values of {name} don't fit into numbers of 32 bits; coarser units do")

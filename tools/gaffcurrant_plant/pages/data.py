@@ -11,22 +11,26 @@ from ..plants.reader import lines_of, read_lines
 from ..plants.units import decimal, read_units
 
 # Doubles count whole numbers up to here.
-EXACT = 2 ** 53
+EXACT = 2**53
 
 
 # Plants
 
+
 def plant_data(plant):
     """A plant for the page. Its numbers are strings where doubles can't count all that steps and bounds come to."""
     number = str if widest(plant) >= EXACT else int
-    return {"version": plant.version, "goal": plant.goal,
-            "states": [[name, *map(number, rest)] for name, *rest in plant.states],
-            "inputs": [[name, list(map(number, values))] for name, values in plant.inputs],
-            "noises": [[name, *map(number, ends)] for name, *ends in plant.noises],
-            "equations": [tree(node, number) for node in plant.equations],
-            "targets": [box_data(plant, box, number) for box in plant.targets],
-            "obstacles": [box_data(plant, box, number) for box in plant.obstacles],
-            "comesRound": [period is not None for period in plant.periods]}
+    return {
+        "version": plant.version,
+        "goal": plant.goal,
+        "states": [[name, *map(number, rest)] for name, *rest in plant.states],
+        "inputs": [[name, list(map(number, values))] for name, values in plant.inputs],
+        "noises": [[name, *map(number, ends)] for name, *ends in plant.noises],
+        "equations": [tree(node, number) for node in plant.equations],
+        "targets": [box_data(plant, box, number) for box in plant.targets],
+        "obstacles": [box_data(plant, box, number) for box in plant.obstacles],
+        "comesRound": [period is not None for period in plant.periods],
+    }
 
 
 def box_data(plant, box, number):
@@ -89,6 +93,7 @@ def piece_size(point, next_point, moves):
 
 # Models
 
+
 def model_data(path, data, plant):
     """The units of a model or of a plant text with comments, and a model's differential equations; raises Trouble where
     it isn't of the plant."""
@@ -140,8 +145,11 @@ def flow_data(model):
     if not sides:
         return None
     names = model.names()
-    return {"time": float(model.sample), "sides": [real_tree(side, names) for side in sides],
-            "noises": [float((low + high) / 2) for _, low, high in model.noises]}
+    return {
+        "time": float(model.sample),
+        "sides": [real_tree(side, names) for side in sides],
+        "noises": [float((low + high) / 2) for _, low, high in model.noises],
+    }
 
 
 def linear_sides(model):

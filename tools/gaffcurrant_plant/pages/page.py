@@ -18,8 +18,30 @@ from .data import plant_data
 
 FILES = Path(__file__).resolve().parent / "parts"
 # In this order: a script names what stands in those before it.
-SCRIPTS = ("numbers", "expression", "plant", "rows", "causes", "runs", "way", "units", "colours", "layers", "map",
-           "tracks", "chart", "view", "said", "panel", "legend", "controls", "starting", "desk", "pointer", "start")
+SCRIPTS = (
+    "numbers",
+    "expression",
+    "plant",
+    "rows",
+    "causes",
+    "runs",
+    "way",
+    "units",
+    "colours",
+    "layers",
+    "map",
+    "tracks",
+    "chart",
+    "view",
+    "said",
+    "panel",
+    "legend",
+    "controls",
+    "starting",
+    "desk",
+    "pointer",
+    "start",
+)
 # Row lines of their form, whatever rules they break.
 CELL, WORD = "(?:0|[1-9][0-9]{0,7})", "(?:-|0|[1-9][0-9]{0,7})"
 ROWS = re.compile(rf"(?:{CELL} {CELL} {WORD} {WORD}(?:\n|\Z))*\Z")
@@ -62,7 +84,7 @@ def columns_at_once(lines, before):
     if not front.in_runs():
         return None
     count = lines.counted(before, f"`{before.strip()} N` is due here, with at most {front.plant.cells} lines behind it")
-    text = "\n".join(lines.lines[lines.at:lines.at + count])
+    text = "\n".join(lines.lines[lines.at : lines.at + count])
     lines.at += count
     if ROWS.match(text) and lines.at < len(lines.lines):
         numbers = list(map(int, text.replace("-", "-1").split()))
@@ -114,7 +136,7 @@ def packed(firsts, lasts, ranks, inputs):
 def narrow(numbers):
     """Numbers as an array of one, two or four bytes each, the least byte first."""
     most = max(numbers, default=0)
-    column = array("B" if most < 2 ** 8 else "H" if most < 2 ** 16 else "I", numbers)
+    column = array("B" if most < 2**8 else "H" if most < 2**16 else "I", numbers)
     if sys.byteorder == "big":
         column.byteswap()
     return column
@@ -123,9 +145,12 @@ def narrow(numbers):
 def page_of(texts, title, model):
     """The whole page as a text: its files in one, and the data that they show."""
     data = {"texts": [text.data() for text in texts], "units": None, "flow": None} | (model or {})
-    parts = {"@TITLE@": html.escape(title), "@STYLE@": file_of("page.css"),
-             "@SCRIPT@": "\n".join(file_of(f"{name}.js") for name in SCRIPTS),
-             "@DATA@": json.dumps(data, separators=(",", ":")).replace("<", "\\u003c")}
+    parts = {
+        "@TITLE@": html.escape(title),
+        "@STYLE@": file_of("page.css"),
+        "@SCRIPT@": "\n".join(file_of(f"{name}.js") for name in SCRIPTS),
+        "@DATA@": json.dumps(data, separators=(",", ":")).replace("<", "\\u003c"),
+    }
     return re.sub("@[A-Z]+@", lambda word: parts[word[0]], file_of("page.html"))
 
 

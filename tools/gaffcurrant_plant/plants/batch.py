@@ -11,19 +11,21 @@ from .expression import walk
 # The number in the place of a cell's where a state is outside of the domain.
 OUTSIDE = -1
 # Numbers up to here, and their sums, fit into 64 bits; plants with greater ones are worked out by Python's integers.
-SAFE = 2 ** 62
+SAFE = 2**62
 # Pairs that are worked out at once, so that the arrays stay in a processor's cache.
-BLOCK = 2 ** 17
+BLOCK = 2**17
 # From so many neighbours on layers are added one by one, which is faster than numpy's sum along an axis.
 LAYER = 256
 
 ARRAY_SHAPES = SHAPES | {"min": "minimum({1}, {2})", "max": "maximum({1}, {2})", "lut": "values_at({2}, {1})"}
 ARRAY_SPANS = SPANS | {
     "abs": "l{0}, h{0} = where(l{1} >= 0, l{1}, where(h{1} <= 0, -h{1}, 0)), maximum(-l{1}, h{1})",
-    "mul": "e, f, g, k = l{1} * l{2}, l{1} * h{2}, h{1} * l{2}, h{1} * h{2}; "
-           "l{0}, h{0} = minimum(minimum(e, f), minimum(g, k)), maximum(maximum(e, f), maximum(g, k))",
-    "min": "l{0}, h{0} = minimum(l{1}, l{2}), minimum(h{1}, h{2})", "max": "l{0}, h{0} = maximum(l{1}, l{2}), maximum(h{1}, h{2})",
-    "lut": "l{0}, h{0} = lut_span({2}, l{1}, h{1})"}
+    "mul": "e, f, g, k = l{1} * l{2}, l{1} * h{2}, h{1} * l{2}, h{1} * h{2}; l{0}, h{0} = minimum(minimum(e, f), "
+    "minimum(g, k)), maximum(maximum(e, f), maximum(g, k))",
+    "min": "l{0}, h{0} = minimum(l{1}, l{2}), minimum(h{1}, h{2})",
+    "max": "l{0}, h{0} = maximum(l{1}, l{2}), maximum(h{1}, h{2})",
+    "lut": "l{0}, h{0} = lut_span({2}, l{1}, h{1})",
+}
 
 
 def values_at(points, at):
@@ -42,7 +44,7 @@ def lut_span(points, low, high):
     least, most = numpy.minimum(*ends), numpy.maximum(*ends)
     ys = [y for _, y in points]
     for k, (x, y) in enumerate(points):
-        beside = ys[max(k - 1, 0):k] + ys[k + 1:k + 2]
+        beside = ys[max(k - 1, 0) : k] + ys[k + 1 : k + 2]
         # Points that no neighbour exceeds to either side are the only ones at which the values turn.
         if all(y <= other for other in beside):
             least = numpy.where((low <= x) & (x <= high), numpy.minimum(least, y), least)
@@ -51,12 +53,20 @@ def lut_span(points, low, high):
     return least, most
 
 
-ROOM = {"abs": abs, "minimum": numpy.minimum, "maximum": numpy.maximum, "where": numpy.where, "values_at": values_at, "lut_span": lut_span}
+ROOM = {
+    "abs": abs,
+    "minimum": numpy.minimum,
+    "maximum": numpy.maximum,
+    "where": numpy.where,
+    "values_at": values_at,
+    "lut_span": lut_span,
+}
 
 
 class Batch:
-    """The boxes of a plant's pairs. Cells are a column and input vectors a row, so that an equation that names no input is worked out
-    once for each cell: what is answered for each state is an array of one column, of one row, or of both."""
+    """The boxes of a plant's pairs. Cells are a column and input vectors a row, so that an equation that names no input
+    is worked out once for each cell: what is answered for each state is an array of one column, of one row, or of
+    both."""
 
     def __init__(self, plant):
         self.plant = plant
@@ -64,8 +74,11 @@ class Batch:
         self.functions = [compiled(node, ARRAY_SHAPES, ROOM) for node in plant.equations]
         self.spans = [compiled_span(node, ARRAY_SPANS, ROOM) for node in plant.equations]
         self.values = [self.numbers(column) for column in zip(*map(plant.vector, range(plant.vectors)))]
-        self.moves = [self.numbers([plant.bounds(i, vector)[2] for vector in range(plant.vectors)]) for i in range(len(plant.states))]
-        self.strides = [int(numpy.prod(plant.counts[i + 1:], dtype=numpy.int64)) for i in range(len(plant.counts))]
+        self.moves = [
+            self.numbers([plant.bounds(i, vector)[2] for vector in range(plant.vectors)])
+            for i in range(len(plant.states))
+        ]
+        self.strides = [int(numpy.prod(plant.counts[i + 1 :], dtype=numpy.int64)) for i in range(len(plant.counts))]
 
     def numbers(self, values):
         return numpy.array(values, dtype=self.kind)
@@ -80,7 +93,11 @@ class Batch:
 
     def middles(self, lows, vectors):
         """For each state the centre's step."""
-        variables = [low + radius for low, radius in zip(lows, self.plant.radii)] + [values[vectors] for values in self.values] + self.plant.rest
+        variables = (
+            [low + radius for low, radius in zip(lows, self.plant.radii)]
+            + [values[vectors] for values in self.values]
+            + self.plant.rest
+        )
         return [function(variables) for function in self.functions]
 
     def boxes(self, lows, vectors):
@@ -95,17 +112,25 @@ class Batch:
         low, high = middle - moves, middle + moves
         if self.plant.version > 1:
             area = [(low, low + state[3] - 1) for low, state in zip(lows, self.plant.states)]
-            least, most = self.spans[i](area + [(one, one) for one in values] + [noise[1:] for noise in self.plant.noises])
+            least, most = self.spans[i](
+                area + [(one, one) for one in values] + [noise[1:] for noise in self.plant.noises]
+            )
             low, high = numpy.maximum(low, least), numpy.minimum(high, most)
         return low, high
 
     def extents(self, ends, states=None):
-        """For each state, or for some, the first and the last index of boxes, clipped to the domain, and whether they lie in it."""
+        """For each state, or for some, the first and the last index of boxes, clipped to the domain, and whether they
+        lie in it."""
         extents, inside = [], numpy.array(True)
         for (low, high), i in zip(ends, states or range(len(ends))):
             (_, least, most, width), count = self.plant.states[i], self.plant.counts[i]
             inside = inside & numpy.asarray((low >= least) & (high <= most), dtype=bool)
-            extents.append([numpy.clip((numpy.asarray(end) - least) // width, 0, count - 1).astype(numpy.int64) for end in (low, high)])
+            extents.append(
+                [
+                    numpy.clip((numpy.asarray(end) - least) // width, 0, count - 1).astype(numpy.int64)
+                    for end in (low, high)
+                ]
+            )
         return extents, inside
 
     def blocks(self, cells):
@@ -113,10 +138,11 @@ class Batch:
         vectors = numpy.arange(self.plant.vectors)[None, :]
         step = max(1, BLOCK // self.plant.vectors)
         for begin in range(0, len(cells), step):
-            yield begin, cells[begin:begin + step, None], vectors
+            yield begin, cells[begin : begin + step, None], vectors
 
     def edges(self):
-        """The number of successors of all pairs: the sum over all indices and values of the product of the indices met along each axis."""
+        """The number of successors of all pairs: the sum over all indices and values of the product of the indices met
+        along each axis."""
         sizes = self.plant.counts + [len(values) for _, values in self.plant.inputs]
         factors = [factor for i in range(len(self.plant.states)) for factor in self.met(i, sizes)]
         unused = set(range(len(sizes))) - {name for names in factors[1::2] for name in names}
@@ -124,7 +150,8 @@ class Batch:
         return int(total) * math.prod(sizes[i] for i in unused)
 
     def met(self, i, sizes):
-        """How many indices boxes meet along one state, over the variables that its equation names, and these; 0 where a box leaves the domain."""
+        """How many indices boxes meet along one state, over the variables that its equation names, and these; 0 where a
+        box leaves the domain."""
         plant, wide = self.plant, len(self.plant.counts)
         names = [name for name in sorted(plant.uses[i]) if name < len(sizes)]
         met = numpy.zeros([sizes[name] for name in names], dtype=numpy.int64)
@@ -138,9 +165,9 @@ class Batch:
                     lows[name] = plant.states[name][1] + indices.astype(self.kind) * plant.states[name][3]
                 else:
                     values[name - wide] = self.numbers(plant.inputs[name - wide][1])[indices]
-                    numbers = numbers + indices * math.prod(sizes[name + 1:])
+                    numbers = numbers + indices * math.prod(sizes[name + 1 :])
             extents, inside = self.extents([self.box(i, lows, values, self.moves[i][numbers])], [i])
-            (met[begin:begin + step] if names else met)[...] = fans(extents) * inside
+            (met[begin : begin + step] if names else met)[...] = fans(extents) * inside
         return met, names
 
     def first_of(self, plant):
@@ -149,9 +176,14 @@ class Batch:
 
     def pairs(self, cells, vectors):
         """The two corners of the boxes of all pairs of some cells and vectors, as lists, cell by cell."""
-        ends = self.boxes(self.lows(self.indices(numpy.array(cells, dtype=numpy.int64)[:, None])), numpy.array(vectors, dtype=numpy.int64)[None, :])
+        ends = self.boxes(
+            self.lows(self.indices(numpy.array(cells, dtype=numpy.int64)[:, None])),
+            numpy.array(vectors, dtype=numpy.int64)[None, :],
+        )
         shape = (len(cells), len(vectors))
-        columns = [numpy.broadcast_to(numpy.asarray(end), shape).reshape(-1).tolist() for side in zip(*ends) for end in side]
+        columns = [
+            numpy.broadcast_to(numpy.asarray(end), shape).reshape(-1).tolist() for side in zip(*ends) for end in side
+        ]
         half = len(columns) // 2
         return list(zip(zip(*columns[:half]), zip(*columns[half:])))
 
@@ -172,12 +204,16 @@ def cells_in(plant, extents):
 
 def cells_that_meet(plant, boxes):
     """Which cells meet one of these boxes."""
-    return numpy.logical_or.reduce([numpy.zeros(plant.cells, dtype=bool), *(cells_in(plant, plant.met_extents(box)) for box in boxes)])
+    return numpy.logical_or.reduce(
+        [numpy.zeros(plant.cells, dtype=bool), *(cells_in(plant, plant.met_extents(box)) for box in boxes)]
+    )
 
 
 def cells_within(plant, boxes):
     """Which cells lie whole in one of these boxes."""
-    return numpy.logical_or.reduce([numpy.zeros(plant.cells, dtype=bool), *(cells_in(plant, plant.inner_extents(box)) for box in boxes)])
+    return numpy.logical_or.reduce(
+        [numpy.zeros(plant.cells, dtype=bool), *(cells_in(plant, plant.inner_extents(box)) for box in boxes)]
+    )
 
 
 def fans(extents):
@@ -192,7 +228,9 @@ def fits(plant):
     """Whether 64 bits hold what comes up in the equations over the domain."""
     area = [state[1:3] for state in plant.states] + [(min(values), max(values)) for _, values in plant.inputs]
     area += [noise[1:] for noise in plant.noises]
-    radii = plant.radii + [0] * len(plant.inputs) + [high - rest for (_, _, high), rest in zip(plant.noises, plant.rest)]
+    radii = (
+        plant.radii + [0] * len(plant.inputs) + [high - rest for (_, _, high), rest in zip(plant.noises, plant.rest)]
+    )
     for equation in plant.equations:
         for node in walk(equation):
             try:
@@ -210,7 +248,7 @@ def fits(plant):
 
 def summed(array, axis):
     """Sums an array up along an axis, in place."""
-    if math.prod(array.shape[axis + 1:]) < LAYER:
+    if math.prod(array.shape[axis + 1 :]) < LAYER:
         numpy.cumsum(array, axis=axis, out=array)
         return
     layers = numpy.moveaxis(array, axis, 0)
@@ -227,11 +265,15 @@ class Sums:
         for axis in range(len(counts)):
             summed(padded, axis)
         self.flat = padded.reshape(-1)
-        self.strides = [int(numpy.prod([count + 1 for count in counts[i + 1:]], dtype=numpy.int64)) for i in range(len(counts))]
+        self.strides = [
+            int(numpy.prod([count + 1 for count in counts[i + 1 :]], dtype=numpy.int64)) for i in range(len(counts))
+        ]
 
     def over(self, extents, i=0, index=0):
         """The sums over boxes from their first to their last indices."""
         if i == len(extents):
             return self.flat[index]
         first, last = extents[i]
-        return self.over(extents, i + 1, index + (last + 1) * self.strides[i]) - self.over(extents, i + 1, index + first * self.strides[i])
+        return self.over(extents, i + 1, index + (last + 1) * self.strides[i]) - self.over(
+            extents, i + 1, index + first * self.strides[i]
+        )

@@ -1,5 +1,5 @@
-"""Counts the edges of a plant exactly, axis by axis: how many indices a box meets along an axis rests on the variables of
-that state's equation alone, and the sum over all pairs of the products is taken variable by variable."""
+"""Counts the edges of a plant exactly, axis by axis: how many indices a box meets along an axis rests on the variables
+of that state's equation alone, and the sum over all pairs of the products is taken variable by variable."""
 
 import itertools
 
@@ -37,8 +37,11 @@ def _axis_table(plant, axis, sizes):
             vector = sum(vectors[i] * index for i, index in zip(names, indices) if i >= wide)
             moves[chosen] = plant.bounds(axis, vector)[2]
         for i, index in zip(names, indices):
-            values[i] = plant.inputs[i - wide][1][index] if i >= wide else \
-                plant.states[i][1] + index * plant.states[i][3] + plant.radii[i]
+            values[i] = (
+                plant.inputs[i - wide][1][index]
+                if i >= wide
+                else plant.states[i][1] + index * plant.states[i][3] + plant.radii[i]
+            )
         area = _area(plant, names, values) if plant.version > 1 else None
         low, high = plant.side(axis, function(values), moves[chosen], area)
         if low >= least and high <= most:
@@ -47,8 +50,8 @@ def _axis_table(plant, axis, sizes):
 
 
 def _area(plant, names, values):
-    """The cell's area where the variables that an equation names have these values, states at their centres; the others,
-    on which its span doesn't rest, have their whole ranges."""
+    """The cell's area where the variables that an equation names have these values, states at their centres; the
+    others, on which its span doesn't rest, have their whole ranges."""
     wide = len(plant.states)
     area = [state[1:3] for state in plant.states] + [(min(choices), max(choices)) for _, choices in plant.inputs]
     area += [noise[1:] for noise in plant.noises]
@@ -88,9 +91,9 @@ def _without(variable, tables, sizes):
     at = names.index(variable)
     summed = {}
     for indices, count in table.items():
-        left = indices[:at] + indices[at + 1:]
+        left = indices[:at] + indices[at + 1 :]
         summed[left] = summed.get(left, 0) + count
-    return rest + [(names[:at] + names[at + 1:], summed)]
+    return rest + [(names[:at] + names[at + 1 :], summed)]
 
 
 def _product(first, second, sizes):

@@ -1,7 +1,7 @@
 """Expressions over whole numbers: reading and writing (docs/FORMATS.md). Their values and bounds are in `bounds`.
 
-A node is a tuple that begins with its kind: ('num', k), ('var', i), ('neg', a), ('abs', a), ('add', a, b),
-('sub', a, b), ('mul', a, b), ('min', a, b), ('max', a, b), ('div', a, k), ('lut', a, points) with the points as pairs."""
+A node is a tuple that begins with its kind: ('num', k), ('var', i), ('neg', a), ('abs', a), ('add', a, b), ('sub', a,
+b), ('mul', a, b), ('min', a, b), ('max', a, b), ('div', a, k), ('lut', a, points) with the points as pairs."""
 
 import re
 
@@ -69,7 +69,9 @@ class _Reader:
         said = f"`{token}`" if token is not None else "nothing"
         if token in self.names:
             said += ", which varies"
-        raise Fault(f"the divisor behind `/` is {said}; it has to be a whole number of at least 1 written out in digits")
+        raise Fault(
+            f"the divisor behind `/` is {said}; it has to be a whole number of at least 1 written out in digits"
+        )
 
     def literal(self, token):
         if len(token) > 1 and token[0] == "0":
@@ -176,8 +178,10 @@ class _Reader:
 
     def unknown(self, token):
         if token in ("sin", "cos", "tan", "sqrt", "exp", "log", "floor", "mod", "pow"):
-            return f"`{token}` isn't known: there are min, max and abs, and lut in version 2; tools/scale makes them of sines " \
-                   "and quotients"
+            return (
+                f"`{token}` isn't known: there are min, max and abs, and lut in version 2; tools/scale makes them "
+                "of sines and quotients"
+            )
         if re.match(r"[A-Za-z]", token):
             known = ", ".join(self.names)
             return f"`{token}` is no state, input or noise of this plant (they are {known})"

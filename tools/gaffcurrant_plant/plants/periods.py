@@ -1,5 +1,5 @@
-"""Which states of a plant come round, as an angle does: those whose equation brings each value back into the state's range, by `lut` with a saw's teeth,
-as tools/scale writes it, or by a quotient that takes whole turns away."""
+"""Which states of a plant come round, as an angle does: those whose equation brings each value back into the state's
+range, by `lut` with a saw's teeth, as tools/scale writes it, or by a quotient that takes whole turns away."""
 
 from collections import Counter
 
@@ -7,13 +7,17 @@ from .bounds import bounds_of
 
 
 def periods_of(plant):
-    """For each state after how many numbers it comes round, which is the size of its range; None of a state that doesn't."""
-    return [high - low + 1 if inner_of(node, low, high - low + 1) else None for node, (_, low, high, _) in zip(plant.equations, plant.states)]
+    """For each state after how many numbers it comes round, which is the size of its range; None of a state that
+    doesn't."""
+    return [
+        high - low + 1 if inner_of(node, low, high - low + 1) else None
+        for node, (_, low, high, _) in zip(plant.equations, plant.states)
+    ]
 
 
 def rolled_out(plant):
-    """A plant's equations without what brings values back into their ranges. An equation with a quotient that adds to its deviation is left as it is,
-    since such a quotient makes the boxes wide."""
+    """A plant's equations without what brings values back into their ranges. An equation with a quotient that adds to
+    its deviation is left as it is, since such a quotient makes the boxes wide."""
     return [unbent(plant, node, *state) for node, state in zip(plant.equations, plant.states)]
 
 
@@ -26,8 +30,14 @@ def unbent(plant, node, _, low, high, width):
 
 def deviation_of(plant, node):
     """The deviation of a sum over the whole domain."""
-    area = [state[1:3] for state in plant.states] + [(min(values), max(values)) for _, values in plant.inputs] + [noise[1:] for noise in plant.noises]
-    radii = plant.radii + [0] * len(plant.inputs) + [high - rest for (_, _, high), rest in zip(plant.noises, plant.rest)]
+    area = (
+        [state[1:3] for state in plant.states]
+        + [(min(values), max(values)) for _, values in plant.inputs]
+        + [noise[1:] for noise in plant.noises]
+    )
+    radii = (
+        plant.radii + [0] * len(plant.inputs) + [high - rest for (_, _, high), rest in zip(plant.noises, plant.rest)]
+    )
     return bounds_of(node, area, radii)[2]
 
 
@@ -41,9 +51,14 @@ def inner_of(node, low, size):
 
 
 def is_saw(points, low, size):
-    """Whether points are those of two teeth or more that each rise over a turn from the lowest number to the highest. One alone holds values at its ends."""
+    """Whether points are those of two teeth or more that each rise over a turn from the lowest number to the highest.
+    One alone holds values at its ends."""
     first = points[0][0]
-    teeth = [point for begin in range(first, first + size * (len(points) // 2), size) for point in ((begin, low), (begin + size - 1, low + size - 1))]
+    teeth = [
+        point
+        for begin in range(first, first + size * (len(points) // 2), size)
+        for point in ((begin, low), (begin + size - 1, low + size - 1))
+    ]
     return len(teeth) > 2 and (first - low) % size == 0 and list(points) == teeth
 
 

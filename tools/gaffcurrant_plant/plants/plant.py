@@ -12,7 +12,7 @@ from .expression import text_of, uses_of
 from .periods import periods_of, rolled_out
 from .units import Units
 
-CELLS, VECTORS, PAIRS, EDGES = 2 ** 20, 4096, 2 ** 22, 2 ** 25
+CELLS, VECTORS, PAIRS, EDGES = 2**20, 4096, 2**22, 2**25
 
 
 class Plant:
@@ -61,7 +61,8 @@ class Plant:
 
     @cached_property
     def rolled(self):
-        """The same plant with states that come round counted on behind their ranges' ends; the plant itself where there are none."""
+        """The same plant with states that come round counted on behind their ranges' ends; the plant itself where there
+        are none."""
         equations = rolled_out(self)
         return self if equations == self.equations else Rolled(self, equations)
 
@@ -82,10 +83,14 @@ class Plant:
 
     def ranges_said(self, low, high):
         """Two corners in words: p 200 to 209, v 80 to 89; or in the model's units."""
-        return ", ".join(f"{state[0]} {self.range_said(state, period, *ends)}" for state, period, *ends in zip(self.states, self.periods, low, high))
+        return ", ".join(
+            f"{state[0]} {self.range_said(state, period, *ends)}"
+            for state, period, *ends in zip(self.states, self.periods, low, high)
+        )
 
     def range_said(self, state, period, low, high):
-        """A state's numbers from low to high; of a state that comes round `170 to -170 round the end` where they lie across its range's end."""
+        """A state's numbers from low to high; of a state that comes round `170 to -170 round the end` where they lie
+        across its range's end."""
         name, least, most, _ = state
         if period is None or least <= low <= high <= most:
             return self.units.span_said(name, low, high)
@@ -140,14 +145,20 @@ class Plant:
         return any(holds(box, low, high) for box in self.targets) and not self.is_obstacle(cell)
 
     def met_extents(self, box):
-        """For each state the first and the last index of the cells that meet a box; the first is above the last where there are none."""
-        return [((max(low, least) - least) // width, (min(high, most) - least) // width)
-                for (low, high), (_, least, most, width) in zip(box, self.states)]
+        """For each state the first and the last index of the cells that meet a box; the first is above the last where
+        there are none."""
+        return [
+            ((max(low, least) - least) // width, (min(high, most) - least) // width)
+            for (low, high), (_, least, most, width) in zip(box, self.states)
+        ]
 
     def inner_extents(self, box):
-        """For each state the first and the last index of the cells that lie whole in a box; the first is above the last where there are none."""
-        return [(-((least - max(low, least)) // width), (min(high, most) + 1 - least) // width - 1)
-                for (low, high), (_, least, most, width) in zip(box, self.states)]
+        """For each state the first and the last index of the cells that lie whole in a box; the first is above the last
+        where there are none."""
+        return [
+            (-((least - max(low, least)) // width), (min(high, most) + 1 - least) // width - 1)
+            for (low, high), (_, least, most, width) in zip(box, self.states)
+        ]
 
     # Boxes
 
@@ -185,12 +196,17 @@ class Plant:
         return corners([span(area) for span in self.spans])
 
     def cell_area(self, lows, values):
-        """The ends of each variable's range over a cell, given by its least point, and under the values of the inputs."""
-        return [(low, low + state[3] - 1) for low, state in zip(lows, self.states)] + [(value, value) for value in values] \
+        """The ends of each variable's range over a cell, given by its least point, and under the values of the
+        inputs."""
+        return (
+            [(low, low + state[3] - 1) for low, state in zip(lows, self.states)]
+            + [(value, value) for value in values]
             + [noise[1:] for noise in self.noises]
+        )
 
     def side(self, equation, middle, moves, area):
-        """The ends of a box along one state: about the middle, and from version 2 on within the span over the cell's area."""
+        """The ends of a box along one state: about the middle, and from version 2 on within the span over the cell's
+        area."""
         low, high = middle - moves, middle + moves
         if self.version > 1:
             least, most = self.spans[equation](area)
@@ -203,8 +219,10 @@ class Plant:
 
     def extents(self, low, high):
         """The first and the last index of a box in the domain, in each state."""
-        return [((low[i] - first) // width, (high[i] - first) // width)
-                for i, (_, first, _, width) in enumerate(self.states)]
+        return [
+            ((low[i] - first) // width, (high[i] - first) // width)
+            for i, (_, first, _, width) in enumerate(self.states)
+        ]
 
     def fan(self, low, high):
         """How many cells meet a box in the domain."""
@@ -221,22 +239,29 @@ class Plant:
         return cells
 
     def boxes(self, cells, vectors):
-        """The boxes of all pairs of some cells and input vectors, cell by cell: by numpy where it is there, else one by one."""
+        """The boxes of all pairs of some cells and input vectors, cell by cell: by numpy where it is there, else one by
+        one."""
         batch = self.batch()
-        return batch.pairs(cells, vectors) if batch else [self.box(cell, vector) for cell in cells for vector in vectors]
+        return (
+            batch.pairs(cells, vectors) if batch else [self.box(cell, vector) for cell in cells for vector in vectors]
+        )
 
     def batch(self):
         """What works out many boxes at once; None without numpy."""
         if self._batch is None and importlib.util.find_spec("numpy"):
             from .batch import Batch
+
             self._batch = Batch(self)
         return self._batch
 
     # Limits
 
     def check_limits(self, refused):
-        for what, size, most in (("vectors", self.vectors, VECTORS), ("cells", self.cells, CELLS),
-                                 ("pairs", self.pairs, PAIRS)):
+        for what, size, most in (
+            ("vectors", self.vectors, VECTORS),
+            ("cells", self.cells, CELLS),
+            ("pairs", self.pairs, PAIRS),
+        ):
             if size > most:
                 raise refused(f"limit: {what}", f"{size} {what}, and {most} are the most")
 
@@ -245,7 +270,9 @@ class Plant:
         do under each input vector, since a wider area gives wider bounds."""
         area = [(low, high) for _, low, high, _ in self.states]
         area += [(min(values), max(values)) for _, values in self.inputs] + [noise[1:] for noise in self.noises]
-        radii = self.radii + [0] * len(self.inputs) + [high - rest for (_, _, high), rest in zip(self.noises, self.rest)]
+        radii = (
+            self.radii + [0] * len(self.inputs) + [high - rest for (_, _, high), rest in zip(self.noises, self.rest)]
+        )
         try:
             low, high, moves = bounds_of(self.equations[equation], area, radii)
         except Overflow:
@@ -262,12 +289,15 @@ class Plant:
                     if low - moves < -TOP or high + moves > TOP:
                         raise Overflow
                 except Overflow:
-                    raise refused(f"overflow: equation {equation} input {vector}",
-                                  f"the equation of {self.states[equation][0]} under {self.input_said(vector)} "
-                                  "leaves the range of 127 bits and a sign: choose coarser units or fewer digits") from None
+                    raise refused(
+                        f"overflow: equation {equation} input {vector}",
+                        f"the equation of {self.states[equation][0]} under {self.input_said(vector)} leaves the "
+                        "range of 127 bits and a sign: choose coarser units or fewer digits",
+                    ) from None
 
     def edges(self, sample=20000):
-        """The number of successors of all pairs, and whether it is exact or, without numpy, estimated from a sample of pairs."""
+        """The number of successors of all pairs, and whether it is exact or, without numpy, estimated from a sample of
+        pairs."""
         if batch := self.batch():
             return batch.edges(), True
         try:
@@ -283,10 +313,20 @@ class Plant:
 
 
 class Rolled(Plant):
-    """A plant whose states that come round are counted on behind their ranges' ends: there its boxes leave no domain."""
+    """A plant whose states that come round are counted on behind their ranges' ends: there its boxes leave no
+    domain."""
 
     def __init__(self, plant, equations):
-        super().__init__(plant.states, plant.inputs, plant.noises, equations, plant.targets, plant.obstacles, plant.goal, plant.version)
+        super().__init__(
+            plant.states,
+            plant.inputs,
+            plant.noises,
+            equations,
+            plant.targets,
+            plant.obstacles,
+            plant.goal,
+            plant.version,
+        )
         self.periods = plant.periods
         self.is_rolled = [one is not other for one, other in zip(equations, plant.equations)]
 

@@ -178,8 +178,9 @@ class Draft:
 
     def words(self, keyword, rest, count):
         if len(rest) != count:
-            raise Fault(f"`{FORMS[keyword]}` has {count} words behind `{keyword}`, here are {len(rest)}"
-                        + comment_in(rest))
+            raise Fault(
+                f"`{FORMS[keyword]}` has {count} words behind `{keyword}`, here are {len(rest)}" + comment_in(rest)
+            )
 
     def room(self, keyword, entries):
         if len(entries) >= MOST[keyword]:
@@ -203,8 +204,11 @@ class Draft:
         if size % width:
             fewer, more = low + size // width * width - 1, low + (size // width + 1) * width - 1
             near = [f"`state {name} {low} {end} {width}`" for end in (fewer, more) if end >= low]
-            raise Fault(f"{low} to {high} are {size} numbers, both ends included, and no multiple of {width}: "
-                        + " or ".join(near) + " would be one")
+            raise Fault(
+                f"{low} to {high} are {size} numbers, both ends included, and no multiple of {width}: "
+                + " or ".join(near)
+                + " would be one"
+            )
         self.states.append((name, low, high, width))
 
     def read_input(self, rest):
@@ -240,8 +244,9 @@ class Draft:
         self.room(keyword, entries)
         if len(rest) != 2 * len(self.states):
             names = " ".join(f"LO_{name} HI_{name}" for name, *_ in self.states)
-            raise Fault(f"two numbers for each state are due, `{keyword} {names}`, here are {len(rest)}"
-                        + comment_in(rest))
+            raise Fault(
+                f"two numbers for each state are due, `{keyword} {names}`, here are {len(rest)}" + comment_in(rest)
+            )
         numbers = [number_of(word) for word in rest]
         box = list(zip(numbers[::2], numbers[1::2]))
         for (low, high), (name, *_) in zip(box, self.states):
@@ -259,8 +264,10 @@ class Draft:
         if rest not in (["reach"], ["keep"]):
             raise Fault("the goal is `goal reach` or `goal keep`" + comment_in(rest))
         if rest == ["keep"] and self.targets:
-            raise Fault("`goal keep` has no targets: it keeps the plant off the obstacles; take the `target` lines "
-                        "away, or let `goal reach` bring the plant into them")
+            raise Fault(
+                "`goal keep` has no targets: it keeps the plant off the obstacles; take the `target` lines away, "
+                "or let `goal reach` bring the plant into them"
+            )
         self.goal = rest[0]
 
     def read_end(self, rest):
@@ -270,7 +277,9 @@ class Draft:
 
     def made(self):
         """The plant, once all lines were read."""
-        return Plant(self.states, self.inputs, self.noises, self.equations, self.targets, self.obstacles, self.goal, self.plant)
+        return Plant(
+            self.states, self.inputs, self.noises, self.equations, self.targets, self.obstacles, self.goal, self.plant
+        )
 
 
 def comment_in(words):
@@ -299,6 +308,7 @@ def read_lines(lines):
             raise Refused(f"malformed: line {number}", str(fault), number) from None
     if not draft.ended:
         due = draft.said(draft.due())
-        raise Refused(f"malformed: line {len(lines) + 1}", f"the text ends before its `end` line; {due} is due",
-                      len(lines) + 1)
+        raise Refused(
+            f"malformed: line {len(lines) + 1}", f"the text ends before its `end` line; {due} is due", len(lines) + 1
+        )
     return draft.made()

@@ -1,5 +1,5 @@
-"""Units of a plant's numbers: what the number 1 of a state or an input stands for in the model's own units, by the model or by the
-comments that tools/scale writes into a plant text."""
+"""Units of a plant's numbers: what the number 1 of a state or an input stands for in the model's own units, by the
+model or by the comments that tools/scale writes into a plant text."""
 
 import math
 import re
@@ -15,8 +15,8 @@ BY_ITSELF = ": a whole number by itself"
 
 
 class Units:
-    """sizes: for a name what its number 1 stands for; words: what the model's unit is called, where it is; exact: the states that are whole numbers
-    of units by themselves."""
+    """sizes: for a name what its number 1 stands for; words: what the model's unit is called, where it is; exact: the
+    states that are whole numbers of units by themselves."""
 
     def __init__(self, sizes=None, words=None, exact=()):
         self.sizes, self.words, self.exact = sizes or {}, words or {}, exact
@@ -47,12 +47,16 @@ class Units:
         return short(whole * self.size(name)) + self.word(name)
 
     def span_said(self, name, low, high):
-        """The whole numbers from low to high: `390 to 399`, or `3.9 to 4 m`, since a real value lies between a whole number and the next, if it isn't
-        one by itself."""
+        """The whole numbers from low to high: `390 to 399`, or `3.9 to 4 m`, since a real value lies between a whole
+        number and the next, if it isn't one by itself."""
         if not self.sizes:
             return str(low) if low == high else f"{low} to {high}"
         if name in self.exact:
-            return self.size_said(name, low) if low == high else f"{short(low * self.size(name))} to {self.size_said(name, high)}"
+            return (
+                self.size_said(name, low)
+                if low == high
+                else f"{short(low * self.size(name))} to {self.size_said(name, high)}"
+            )
         return f"{short(low * self.size(name))} to {short((high + 1) * self.size(name))}{self.word(name)}"
 
     def label(self, name):
@@ -66,7 +70,11 @@ class Units:
 
 def units_of(model):
     """The units of a model."""
-    return Units({state[0]: state[4] for state in model.states} | {name: unit for name, unit, _ in model.inputs}, model.words, model.exact)
+    return Units(
+        {state[0]: state[4] for state in model.states} | {name: unit for name, unit, _ in model.inputs},
+        model.words,
+        model.exact,
+    )
 
 
 def short(value):
@@ -75,14 +83,19 @@ def short(value):
     return said if len(said) <= 12 else f"{float(value):.6g}"
 
 
-MODEL_HELP = "the model, or the plant text that tools/scale made of it: states, widths and inputs are in its units, in the words and in what is printed"
+MODEL_HELP = (
+    "the model, or the plant text that tools/scale made of it: states, widths and inputs are in its units, "
+    "in the words and in what is printed"
+)
 
 
 def units_for(path, plant):
-    """The units of a plant by the file that --model names, none without one; raises Trouble where it is of another plant."""
+    """The units of a plant by the file that --model names, none without one; raises Trouble where it is of another
+    plant."""
     if path is None:
         return Units()
     from ..models.agreement import check_variables_of
+
     data = read_bytes(path)
     units = read_units(path, data)
     check_variables_of(path, data, plant)
@@ -97,17 +110,27 @@ def state_of(plant, words, units):
     if units.sizes:
         return [units.whole(name, word) for (name, *_), word in zip(plant.states, words)]
     if wrong := [word for word in words if not NUMBER.match(word)]:
-        raise Trouble(f"`{wrong[0][:60]}` is no whole number; a state is given in the plant's whole units, floor(value / unit), or with --model MODEL in "
-                      "the model's own", 2)
+        raise Trouble(
+            f"`{wrong[0][:60]}` is no whole number; a state is given in the plant's whole units, floor(value / "
+            "unit), or with --model MODEL in the model's own",
+            2,
+        )
     return [int(word) for word in words]
 
 
 def outside_said(plant, state, units):
-    """In which states a state is outside of the domain, and in which numbers it was understood; None where it is in it."""
-    out = [f"{name} = {units.size_said(name, value)} is outside {units.span_said(name, low, high)}"
-           for value, (name, low, high, _) in zip(state, plant.states) if not low <= value <= high]
-    told = "; without --model these are whole numbers of the plant's units" if not units.sizes else \
-        "; with --model these are numbers in the model's units, and none of the plant's"
+    """In which states a state is outside of the domain, and in which numbers it was understood; None where it is in
+    it."""
+    out = [
+        f"{name} = {units.size_said(name, value)} is outside {units.span_said(name, low, high)}"
+        for value, (name, low, high, _) in zip(state, plant.states)
+        if not low <= value <= high
+    ]
+    told = (
+        "; without --model these are whole numbers of the plant's units"
+        if not units.sizes
+        else "; with --model these are numbers in the model's units, and none of the plant's"
+    )
     return ", ".join(out) + told if out else None
 
 
@@ -115,7 +138,7 @@ def decimal(value):
     """A fraction whose denominator divides a power of ten, as a decimal number; others to twelve digits."""
     value = Fraction(value)
     for places in range(41):
-        if (value * 10 ** places).denominator == 1:
+        if (value * 10**places).denominator == 1:
             digits = f"{abs(value.numerator * 10 ** places // value.denominator):0{places + 1}d}"
             said = digits[:-places] + "." + digits[-places:] if places else digits
             return "-" * (value < 0) + said
@@ -129,11 +152,13 @@ def exactly(value):
 
 
 def read_units(path, data):
-    """The units by the text of a model, or of a plant that tools/scale has made; raises Trouble where there are none."""
+    """The units by the text of a model, or of a plant that tools/scale has made; raises Trouble where there are
+    none."""
     lines = [line.strip() for line in data.decode("utf-8", "replace").lstrip("\ufeff").splitlines()]
     first = next((line for line in lines if line and not line.startswith("#")), "")
     if first.split()[:1] not in (["plant"], ["table"]):
         from ..models.model import read_model
+
         try:
             model = read_model(data)
         except Trouble as trouble:
@@ -144,6 +169,10 @@ def read_units(path, data):
     if not found:
         raise Trouble(f"{path}: the text has no comments `# unit NAME SIZE`, which tools/scale writes; give the model")
     try:
-        return Units({name: Fraction(size) if "/" in size else number_of(size) for name, size, _ in found}, {name: word for name, _, word in found if word}, exact)
+        return Units(
+            {name: Fraction(size) if "/" in size else number_of(size) for name, size, _ in found},
+            {name: word for name, _, word in found if word},
+            exact,
+        )
     except Fault as fault:
         raise Trouble(f"{path}: {fault}") from None

@@ -9,18 +9,24 @@ COMPARED, TRIED = 256, 200
 
 
 class Boxes:
-    """The indices that the boxes under one input vector meet along each state, as arrays over the grid, of one index along states that the
-    equation doesn't name."""
+    """The indices that the boxes under one input vector meet along each state, as arrays over the grid, of one index
+    along states that the equation doesn't name."""
 
     def __init__(self, batch, vector):
         plant, wide = batch.plant, len(batch.plant.counts)
         values, self.extents, self.inside = [column[vector] for column in batch.values], [], numpy.array(True)
         for i in range(wide):
-            lows = [low + numpy.arange(count if j in plant.uses[i] else 1).reshape([-1 if k == j else 1 for k in range(wide)]) * width
-                    for j, ((_, low, _, width), count) in enumerate(zip(plant.states, plant.counts))]
+            lows = [
+                low
+                + numpy.arange(count if j in plant.uses[i] else 1).reshape([-1 if k == j else 1 for k in range(wide)])
+                * width
+                for j, ((_, low, _, width), count) in enumerate(zip(plant.states, plant.counts))
+            ]
             (extent,), inside = batch.extents([batch.box(i, lows, values, batch.moves[i][vector])], [i])
-            kind = numpy.int16 if max(plant.counts) < 2 ** 15 else numpy.int32
-            self.extents.append([numpy.broadcast_to(end, numpy.broadcast_shapes(end.shape, (1,) * wide)).astype(kind) for end in extent])
+            kind = numpy.int16 if max(plant.counts) < 2**15 else numpy.int32
+            self.extents.append(
+                [numpy.broadcast_to(end, numpy.broadcast_shapes(end.shape, (1,) * wide)).astype(kind) for end in extent]
+            )
             self.inside = self.inside & inside
 
     def back(self, counts):
@@ -40,8 +46,8 @@ class Boxes:
 
 
 def useless(plant):
-    """The numbers of the vectors that never help: those that lead back into the cell or leave the domain everywhere, and those dominated by another
-    one, whose boxes lie within theirs wherever they are enabled."""
+    """The numbers of the vectors that never help: those that lead back into the cell or leave the domain everywhere,
+    and those dominated by another one, whose boxes lie within theirs wherever they are enabled."""
     batch = plant.batch()
     boxes = [Boxes(batch, vector) for vector in range(plant.vectors)]
     fixed = (cells_that_meet(plant, plant.obstacles) | cells_within(plant, plant.targets)).reshape(plant.counts)
@@ -70,8 +76,10 @@ def dominated(boxes, wanted, left):
 
 def does_at(boxes, vector, other, cells):
     """Whether the boxes of another vector lie within at some cells."""
-    return all(numpy.all(at(first, cells) <= at(start, cells)) and numpy.all(at(end, cells) <= at(last, cells))
-               for (first, last), (start, end) in zip(boxes[vector].extents, boxes[other].extents))
+    return all(
+        numpy.all(at(first, cells) <= at(start, cells)) and numpy.all(at(end, cells) <= at(last, cells))
+        for (first, last), (start, end) in zip(boxes[vector].extents, boxes[other].extents)
+    )
 
 
 def at(array, cells):

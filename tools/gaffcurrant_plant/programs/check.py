@@ -1,4 +1,5 @@
-"""Says whether a stay text or a patrol text is the one of its plant, by solving it again; of a table what the program's `check` says."""
+"""Says whether a stay text or a patrol text is the one of its plant, by solving it again; of a table what the program's
+`check` says."""
 
 import subprocess
 from functools import partial
@@ -14,18 +15,26 @@ def check_table(data, path):
     """The program's `check` of a table."""
     done = subprocess.run([program(), "check"], input=data, capture_output=True, check=False)
     if done.returncode:
-        said = (done.stderr.decode("utf-8", "replace").strip().splitlines() or [f"the program ended with status {done.returncode}"])[-1]
+        said = (
+            done.stderr.decode("utf-8", "replace").strip().splitlines()
+            or [f"the program ended with status {done.returncode}"]
+        )[-1]
         raise Trouble(f"{path}: {said}")
     return done.stdout.decode()
 
 
 def check_text(text, data, workers):
-    """Whether a stay or a patrol text is what the program writes of its plant; raises Trouble with the first cell that differs."""
+    """Whether a stay or a patrol text is what the program writes of its plant; raises Trouble with the first cell that
+    differs."""
     right = written(text.kind, text.plant.text(), workers)
     if right == data:
         return "valid\n"
     other = read_text(right)
-    parts = [("", text, other)] if text.kind == "stay" else [(f"turn {k} ", *turns) for k, turns in enumerate(zip(text.turns, other.turns))]
+    parts = (
+        [("", text, other)]
+        if text.kind == "stay"
+        else [(f"turn {k} ", *turns) for k, turns in enumerate(zip(text.turns, other.turns))]
+    )
     for turn, given, due in parts:
         wrong = [cell for cell in given.rows.keys() | due.rows.keys() if given.rows.get(cell) != due.rows.get(cell)]
         if wrong:
@@ -34,9 +43,13 @@ def check_text(text, data, workers):
 
 
 def main(words):
-    parser = Words(prog="check", description=__doc__, epilog="It prints `valid`, or on standard error the first cell whose row isn't right. The program is "
-                   "./gaffcurrant, or what the environment variable GAFFCURRANT names. Status 0: valid; 1: it isn't, or the text isn't readable; "
-                   "2: wrong words.")
+    parser = Words(
+        prog="check",
+        description=__doc__,
+        epilog="It prints `valid`, or on standard error the first cell whose row isn't right. The program is "
+        "./gaffcurrant, or what the environment variable GAFFCURRANT names. Status 0: valid; 1: it isn't, or "
+        "the text isn't readable; 2: wrong words.",
+    )
     parser.add_argument("text", metavar="TEXT", help="a table, a stay text or a patrol text, `-` for standard input")
     parser.add_argument("--workers", metavar="N", type=int, default=1, help="workers that solve the game")
     given = parser.parse_args(words)

@@ -1,5 +1,5 @@
-"""Compares two tables, stay texts or patrol texts over one grid: which cells are won or kept by one and not by the other, their ranks and their
-inputs; patrols turn by turn."""
+"""Compares two tables, stay texts or patrol texts over one grid: which cells are won or kept by one and not by the
+other, their ranks and their inputs; patrols turn by turn."""
 
 
 from functools import partial
@@ -21,7 +21,9 @@ def text_of(path):
 
 
 def cells_said(plant, cells):
-    return [f"  {plant.cell_said(cell)}" for cell in cells[:SHOWN]] + [f"  and {len(cells) - SHOWN} more"] * (len(cells) > SHOWN)
+    return [f"  {plant.cell_said(cell)}" for cell in cells[:SHOWN]] + [f"  and {len(cells) - SHOWN} more"] * (
+        len(cells) > SHOWN
+    )
 
 
 def pairs_of(one, other):
@@ -30,7 +32,10 @@ def pairs_of(one, other):
         kinds = f"a {one.kind} and a {other.kind}: " if one.kind != other.kind else ""
         return [(kinds, one, other)]
     if one.kind != other.kind:
-        raise Trouble(f"a patrol text is compared with a patrol text alone, and not with a {other.kind if one.kind == 'patrol' else one.kind}")
+        raise Trouble(
+            "a patrol text is compared with a patrol text alone, and not with a "
+            f"{other.kind if one.kind == 'patrol' else one.kind}"
+        )
     if len(one.turns) != len(other.turns):
         raise Trouble(f"the patrols have {len(one.turns)} and {len(other.turns)} turns")
     return [(f"turn {number}: ", *turns) for number, turns in enumerate(zip(one.turns, other.turns))]
@@ -52,9 +57,14 @@ def ranks_compared(one, other, both):
         return []
     steps = [one.rows[cell][0] - other.rows[cell][0] for cell in both]
     less, more = [step for step in steps if step < 0], [step for step in steps if step > 0]
-    by = [f" (by up to {max(map(abs, part))}, {sum(map(abs, part)) / len(part):.3g} on the average)" if part else "" for part in (less, more)]
-    return [f"ranks in both: {len(both)}; the same at {len(both) - len(less) - len(more)}, lesser in the first at {len(less)}{by[0]}, "
-            f"lesser in the second at {len(more)}{by[1]}"]
+    by = [
+        f" (by up to {max(map(abs, part))}, {sum(map(abs, part)) / len(part):.3g} on the average)" if part else ""
+        for part in (less, more)
+    ]
+    return [
+        f"ranks in both: {len(both)}; the same at {len(both) - len(less) - len(more)}, lesser in the first at "
+        f"{len(less)}{by[0]}, lesser in the second at {len(more)}{by[1]}"
+    ]
 
 
 def inputs_compared(one, other, both):
@@ -64,9 +74,15 @@ def inputs_compared(one, other, both):
 
 
 def main(words):
-    parser = Words(prog="diff", description=__doc__, epilog="Status 0: compared, whether they differ or not; 1: a table isn't readable, or "
-                   "the grids differ; 2: wrong words.")
-    parser.add_argument("tables", metavar="TEXT", nargs=2, help="a table, a stay text or a patrol text, `-` for standard input")
+    parser = Words(
+        prog="diff",
+        description=__doc__,
+        epilog="Status 0: compared, whether they differ or not; 1: a table isn't readable, or the grids differ; 2: "
+        "wrong words.",
+    )
+    parser.add_argument(
+        "tables", metavar="TEXT", nargs=2, help="a table, a stay text or a patrol text, `-` for standard input"
+    )
     parser.add_argument("--model", metavar="FILE", help=MODEL_HELP)
     given = parser.parse_args(words)
     with Progress("diff").during("comparing"):
@@ -83,7 +99,11 @@ def lines_of(given):
     lines = []
     for head, *pair in pairs_of(one, other):
         first, *rest = compared(*pair)
-        lines += [head + first] + ([plants_said(one.plant, other.plant)] if not lines and one.plant.text() != other.plant.text() else []) + rest
+        lines += (
+            [head + first]
+            + ([plants_said(one.plant, other.plant)] if not lines and one.plant.text() != other.plant.text() else [])
+            + rest
+        )
     return lines
 
 

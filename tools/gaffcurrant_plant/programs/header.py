@@ -1,5 +1,5 @@
-"""Writes a table, a stay text or a patrol text for a device: as a C header of constant arrays for the few lines of examples/device/control.c, as
-structured text of IEC 61131-3, or as a function file of MATLAB."""
+"""Writes a table, a stay text or a patrol text for a device: as a C header of constant arrays for the few lines of
+examples/device/control.c, as structured text of IEC 61131-3, or as a function file of MATLAB."""
 
 import re
 import zlib
@@ -19,18 +19,45 @@ PREFIX = re.compile(r"[A-Za-z][A-Za-z0-9_]{0,30}\Z")
 
 
 def main(words):
-    parser = Words(prog="header", description=__doc__, epilog="A cell takes one byte, or two where there are more than 254 "
-                   "input vectors; with --runs a run takes four bytes more, and control.c looks for it by halving; a rank takes two bytes. "
-                   "Status 0: written; 1: the table isn't readable, or the model isn't its own; 2: wrong words.")
+    parser = Words(
+        prog="header",
+        description=__doc__,
+        epilog="A cell takes one byte, or two where there are more than 254 input vectors; with --runs a run takes "
+        "four bytes more, and control.c looks for it by halving; a rank takes two bytes. Status 0: written; "
+        "1: the table isn't readable, or the model isn't its own; 2: wrong words.",
+    )
     parser.add_argument("table", metavar="TABLE", help="the table, stay or patrol text, `-` for standard input")
-    parser.add_argument("--runs", action="store_true", help="runs of cells with one row in place of a number for each cell")
-    parser.add_argument("--ranks", action="store_true", help="adds the ranks, by which control.c tells whether they fall as the table promises")
-    parser.add_argument("--prefix", metavar="NAME", default="", help="begin each name with NAME_, so that several tables go into one program")
-    parser.add_argument("--model", metavar="FILE", help="the model, or the plant text that tools/scale made of it: adds UNIT[], what the number "
-                        "1 of each state stands for, and INPUT_UNIT[], also as fractions; refused where it isn't the table's")
+    parser.add_argument(
+        "--runs", action="store_true", help="runs of cells with one row in place of a number for each cell"
+    )
+    parser.add_argument(
+        "--ranks",
+        action="store_true",
+        help="adds the ranks, by which control.c tells whether they fall as the table promises",
+    )
+    parser.add_argument(
+        "--prefix",
+        metavar="NAME",
+        default="",
+        help="begin each name with NAME_, so that several tables go into one program",
+    )
+    parser.add_argument(
+        "--model",
+        metavar="FILE",
+        help="the model, or the plant text that tools/scale made of it: adds UNIT[], what the number 1 of each state "
+        "stands for, and INPUT_UNIT[], also as fractions; refused where it isn't the table's",
+    )
     kind = parser.add_mutually_exclusive_group()
-    kind.add_argument("--st", action="store_true", help="write a function block in structured text of IEC 61131-3, with numbers of 32 bits")
-    kind.add_argument("--matlab", action="store_true", help="write a function file of MATLAB and Octave, `[status, input] = NAME(state)`")
+    kind.add_argument(
+        "--st",
+        action="store_true",
+        help="write a function block in structured text of IEC 61131-3, with numbers of 32 bits",
+    )
+    kind.add_argument(
+        "--matlab",
+        action="store_true",
+        help="write a function file of MATLAB and Octave, `[status, input] = NAME(state)`",
+    )
     given = parser.parse_args(words)
     check_words(given)
     if given.model is not None:

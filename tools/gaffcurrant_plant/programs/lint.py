@@ -49,8 +49,10 @@ def quotients(plant):
     for (name, *_), equation in zip(plant.states, plant.equations):
         for node in walk(equation):
             if node[0] == "div" and (value := constant(node[1])) is not None and value % node[2]:
-                yield f"equation of {name}: `{text_of(node, names)}` is {value // node[2]}, since quotients round down; " \
-                      f"multiply first and divide last, as in 2 * v / {node[2]}"
+                yield (
+                    f"equation of {name}: `{text_of(node, names)}` is {value // node[2]}, since quotients round "
+                    f"down; multiply first and divide last, as in 2 * v / {node[2]}"
+                )
             if node[0] == "mul" and any(magnifies(plant, *pair) for pair in (node[1:], node[:0:-1])):
                 yield f"equation of {name}: `{text_of(node, names)}` {ROUNDED}; multiply first and divide last"
 
@@ -75,8 +77,10 @@ def repeats(plant):
     for (name, *_), uses in zip(plant.states, plant.rolled.uses):
         often = [names[i] for i, count in uses.items() if count > 1 and radius_of(plant, i)]
         if often:
-            yield f"equation of {name}: {', '.join(often)} stands in it more than once, and each place may add to the " \
-                  "deviation"
+            yield (
+                f"equation of {name}: {', '.join(often)} stands in it more than once, and each place may add to "
+                "the deviation"
+            )
 
 
 def radius_of(plant, variable):
@@ -115,8 +119,10 @@ def goals(plant):
         for (low, high), (first, last), (name, least, most, width) in zip(box, fitting, plant.states):
             inside = least + first * width, least + (last + 1) * width - 1
             if first > last:
-                yield f"target {number}: no cell of {name} lies between {low} and {high}; cells begin at {least} + " \
-                      f"{width} * k and have {width} numbers"
+                yield (
+                    f"target {number}: no cell of {name} lies between {low} and {high}; cells begin at {least} + "
+                    f"{width} * k and have {width} numbers"
+                )
             elif (low > inside[0] - width and low > least and low != inside[0]) or (high < most and high != inside[1]):
                 yield f"target {number}: of {low} to {high} the cells of {name} fill {inside[0]} to {inside[1]} alone"
         if plant.obstacles and all(first <= last for first, last in fitting) and is_hidden(plant, fitting):
@@ -124,13 +130,19 @@ def goals(plant):
 
 
 def narrow_target(plant):
-    """Whether the one target has fewer indices along a state than each sampled box: then nothing is won from outside."""
+    """Whether the one target has fewer indices along a state than each sampled box: then nothing is won from
+    outside."""
     met = indices_met(plant, min) if plant.goal == "reach" and len(plant.targets) == 1 else None
-    for (first, last), (name, *_), fewest in zip(plant.inner_extents(plant.targets[0]), plant.states, met) if met else ():
+    for (first, last), (name, *_), fewest in (
+        zip(plant.inner_extents(plant.targets[0]), plant.states, met) if met else ()
+    ):
         count = last - first + 1
         if 0 < count < fewest:
-            yield f"the target has {count} place{'s' * (count > 1)} along {name}, and each sampled box meets {fewest} at least: mostly nothing is won from " \
-                  "outside; a wider target, a smaller noise or narrower cells help"
+            yield (
+                f"the target has {count} place{'s' * (count > 1)} along {name}, and each sampled box meets "
+                f"{fewest} at least: mostly nothing is won from outside; a wider target, a smaller noise or "
+                "narrower cells help"
+            )
 
 
 def is_hidden(plant, fitting, most=4000):
@@ -153,19 +165,22 @@ def sampled(plant):
     dead, stuck = 0, 0
     found = plant.boxes(cells, vectors)
     for number, cell in enumerate(cells):
-        boxes = found[number * len(vectors):(number + 1) * len(vectors)]
+        boxes = found[number * len(vectors) : (number + 1) * len(vectors)]
         boxes = [box for box in boxes if not plant.leaves(*box)]
         indices = plant.indices_of(cell)
         dead += not boxes
         stuck += bool(boxes) and all(
-            all(first <= index <= last for (first, last), index in zip(plant.extents(*box), indices)) for box in boxes)
+            all(first <= index <= last for (first, last), index in zip(plant.extents(*box), indices)) for box in boxes
+        )
     of = f"{len(cells)} {'' if every else 'sampled '}cells that are neither goal nor obstacle"
     inputs = "every input" if plant.vectors <= 32 else "each of 32 sampled inputs"
     if dead:
         yield f"at {dead} of {of} the box of {inputs} leaves the domain"
     if stuck and plant.goal == "reach":
-        yield f"at {stuck} of {of} {inputs} that is enabled may lead back into the cell itself, and such a cell isn't " \
-              "won; a longer sampling time, a smaller deviation or narrower cells help"
+        yield (
+            f"at {stuck} of {of} {inputs} that is enabled may lead back into the cell itself, and such a cell "
+            "isn't won; a longer sampling time, a smaller deviation or narrower cells help"
+        )
 
 
 def of_no_use(plant):
@@ -173,6 +188,7 @@ def of_no_use(plant):
     if not plant.batch() or plant.vectors < 2:
         return
     from ..plants.useless_inputs import useless
+
     idle, beaten = useless(plant)
     if not idle and not beaten:
         return
@@ -180,19 +196,29 @@ def of_no_use(plant):
     leads = "back into the cell or out of the domain" if plant.goal == "reach" else "out of the domain"
     said = [f"{len(idle)} lead{'s' * (len(idle) == 1)} {leads} everywhere ({vectors_said(plant, idle)})"] * bool(idle)
     boxes = "has boxes" if len(beaten) == 1 else "have boxes"
-    said += [f"{len(beaten)} {boxes} that hold those of another one everywhere ({vectors_said(plant, beaten)})"] * bool(beaten)
+    said += [f"{len(beaten)} {boxes} that hold those of another one everywhere ({vectors_said(plant, beaten)})"] * bool(
+        beaten
+    )
     stays = "; `stay` may need what leads back" if plant.goal == "reach" and idle else ""
-    yield f"{count} of {plant.vectors} input vectors {'is' if count == 1 else 'are'} of no use: {' and '.join(said)}. {'It takes' if count == 1 else 'They take'} " \
-          f"{100 * count / plant.vectors:.3g} per cent of the pairs, and without {'it' if count == 1 else 'them'} the same cells are " \
-          f"{'won with the same ranks' if plant.goal == 'reach' else 'kept'}{stays}"
+    yield (
+        f"{count} of {plant.vectors} input vectors {'is' if count == 1 else 'are'} of no use: "
+        f"{' and '.join(said)}. {'It takes' if count == 1 else 'They take'} {100 * count / plant.vectors:.3g} "
+        f"per cent of the pairs, and without {'it' if count == 1 else 'them'} the same cells are "
+        f"{'won with the same ranks' if plant.goal == 'reach' else 'kept'}{stays}"
+    )
 
 
 def vectors_said(plant, vectors):
-    """Some input vectors in words: the values of each input that all of them have together, where they are all that have these; else the first ones."""
+    """Some input vectors in words: the values of each input that all of them have together, where they are all that
+    have these; else the first ones."""
     shared = [{plant.vector(vector)[i] for vector in vectors} for i in range(len(plant.inputs))]
     if math.prod(map(len, shared)) == len(vectors):
-        said = [f"{name} = {' or '.join(short(value * plant.units.size(name)) for value in sorted(part))}{plant.units.word(name)}"
-                for (name, values), part in zip(plant.inputs, shared) if len(part) < len(set(values))]
+        said = [
+            f"{name} = "
+            f"{' or '.join(short(value * plant.units.size(name)) for value in sorted(part))}{plant.units.word(name)}"
+            for (name, values), part in zip(plant.inputs, shared)
+            if len(part) < len(set(values))
+        ]
         if said:
             return ", ".join(said)
     more = f" and {len(vectors) - 3} more" if len(vectors) > 3 else ""
@@ -200,8 +226,9 @@ def vectors_said(plant, vectors):
 
 
 def growth(plant):
-    """The deviations beside half a cell, and how many indices a box meets: in version 2, where boxes may be less than the deviation makes
-    them, those of sampled pairs too. Of a state that comes round both are those about the middle, wherever its range ends."""
+    """The deviations beside half a cell, and how many indices a box meets: in version 2, where boxes may be less than
+    the deviation makes them, those of sampled pairs too. Of a state that comes round both are those about the middle,
+    wherever its range ends."""
     met = indices_met(plant) if plant.version > 1 else None
     for equation, (name, *_, width) in enumerate(plant.states):
         moves = [plant.rolled.bounds(equation, vector)[2] for vector in range(plant.vectors)]
@@ -209,31 +236,42 @@ def growth(plant):
         said = between(plant, name, least, most)
         count = min(2 * most // width + (2 if 2 * most % width else 1), plant.counts[equation])
         sampled_ones = f", of sampled boxes up to {met[equation]}" if met else ""
-        yield f"deviation of {name}: {said}; half a cell is {plant.units.size_said(name, width // 2)}; a box meets up to {count} place{'s' * (count > 1)}{sampled_ones}" \
-            + end_said(plant, equation, count)
+        yield (
+            f"deviation of {name}: {said}; half a cell is {plant.units.size_said(name, width // 2)}; a box meets "
+            f"up to {count} place{'s' * (count > 1)}{sampled_ones}" + end_said(plant, equation, count)
+        )
 
 
 def end_said(plant, equation, count):
-    """What boxes of a state meet that reach across the end of its range, where it comes round and they meet more than others."""
+    """What boxes of a state meet that reach across the end of its range, where it comes round and they meet more than
+    others."""
     is_wide = plant.rolled.equations[equation] is not plant.equations[equation] and most_across(plant, equation) > count
     return f", and all {plant.counts[equation]} across the range's end" if is_wide else ""
 
 
 def most_across(plant, equation):
-    """The most indices that sampled boxes meet along a state which comes round, those across its range's end among them."""
+    """The most indices that sampled boxes meet along a state which comes round, those across its range's end among
+    them."""
     extents = [plant.extents(*box)[equation] for box in plant.boxes(*sampled_pairs(plant)) if not plant.leaves(*box)]
     return max((last - first + 1 for first, last in extents), default=0)
 
 
 def indices_met(plant, end=max):
-    """The most indices, or the fewest, that boxes of sampled pairs in the domain meet along each state; None where there is no such box."""
-    extents = [plant.extents(*box) for box in plant.rolled.boxes(*sampled_pairs(plant)) if not plant.rolled.leaves(*box)]
+    """The most indices, or the fewest, that boxes of sampled pairs in the domain meet along each state; None where
+    there is no such box."""
+    extents = [
+        plant.extents(*box) for box in plant.rolled.boxes(*sampled_pairs(plant)) if not plant.rolled.leaves(*box)
+    ]
     return [end(last - first + 1 for first, last in of_state) for of_state in zip(*extents)] or None
 
 
 def bare_steps(plant, exact):
     """States that are measured, without noise, and that an input moves by whole cells wherever they are."""
-    vectors = list(range(plant.vectors) if plant.vectors <= EDGE_SAMPLE else sorted(random.Random(2).sample(range(plant.vectors), EDGE_SAMPLE)))
+    vectors = list(
+        range(plant.vectors)
+        if plant.vectors <= EDGE_SAMPLE
+        else sorted(random.Random(2).sample(range(plant.vectors), EDGE_SAMPLE))
+    )
     centres = [plant.centre(cell) for cell in random.Random(4).choices(range(plant.cells), k=BARE_SAMPLE)]
     first_noise = len(plant.states) + len(plant.inputs)
     for i, (name, *_, width) in enumerate(plant.states):
@@ -242,8 +280,12 @@ def bare_steps(plant, exact):
         for vector in vectors:
             moves = {plant.rolled.step(centre, plant.vector(vector), plant.rest)[i] - centre[i] for centre in centres}
             if len(moves) == 1 and (move := moves.pop()) and move % width == 0:
-                yield f"{name} has no noise, and moves by whole cells, by {plant.units.size_said(name, move)} under {plant.input_said(vector)}: a measurement " \
-                      "that is a rounding beside a cell's bound counts for the next cell; add a noise of -1 to 1, unless the state is a whole number by itself"
+                yield (
+                    f"{name} has no noise, and moves by whole cells, by {plant.units.size_said(name, move)} "
+                    f"under {plant.input_said(vector)}: a measurement that is a rounding beside a cell's bound "
+                    "counts for the next cell; add a noise of -1 to 1, unless the state is a whole number by "
+                    "itself"
+                )
                 break
 
 
@@ -256,22 +298,35 @@ def thin_obstacles(plant):
         if not plant.rolled.leaves(low, high):
             moves = [max(move, abs(first - bottom), abs(last - top)) for move, first, last, bottom, top in ends]
     for i, (name, least, most, _) in enumerate(plant.states):
-        widths = [high - low + 1 if low > least and high < most else moves[i] for low, high in (box[i] for box in plant.obstacles)]
+        widths = [
+            high - low + 1 if low > least and high < most else moves[i]
+            for low, high in (box[i] for box in plant.obstacles)
+        ]
         thin = [number for number, width in enumerate(widths, 1) if width < moves[i]]
         if thin:
             more = f", and so {'is' if len(thin) == 2 else 'are'} {len(thin) - 1} more" if len(thin) > 1 else ""
             wide, move = (plant.units.size_said(name, size) for size in (widths[thin[0] - 1], moves[i]))
-            yield f"obstacle {thin[0]} is {wide} wide along {name}, and a sample goes up to {move}{more}: the plant may pass it between two " \
-                  "samples; make it wider, or let tools/between look at the ways"
+            yield (
+                f"obstacle {thin[0]} is {wide} wide along {name}, and a sample goes up to {move}{more}: the "
+                "plant may pass it between two samples; make it wider, or let tools/between look at the ways"
+            )
 
 
 def steps(plant):
-    """How far the inputs move the middles of sampled cells, beside the width of a cell; a state that comes round is counted on behind its range's end."""
+    """How far the inputs move the middles of sampled cells, beside the width of a cell; a state that comes round is
+    counted on behind its range's end."""
     draws = random.Random(2)
     cells = range(plant.cells) if plant.cells <= EDGE_SAMPLE else draws.sample(range(plant.cells), EDGE_SAMPLE)
-    vectors = range(plant.vectors) if plant.vectors <= EDGE_SAMPLE else sorted(draws.sample(range(plant.vectors), EDGE_SAMPLE))
+    vectors = (
+        range(plant.vectors)
+        if plant.vectors <= EDGE_SAMPLE
+        else sorted(draws.sample(range(plant.vectors), EDGE_SAMPLE))
+    )
     centres = [plant.centre(cell) for cell in cells]
-    moved = {vector: [plant.rolled.step(centre, plant.vector(vector), plant.rest) for centre in centres] for vector in vectors}
+    moved = {
+        vector: [plant.rolled.step(centre, plant.vector(vector), plant.rest) for centre in centres]
+        for vector in vectors
+    }
     for i, (name, *_, width) in enumerate(plant.states):
         ends = {}
         for vector in vectors:
@@ -293,12 +348,15 @@ def steps_said(plant, name, ends):
 def between(plant, name, low, high):
     """Numbers from one to another, in the plant's units."""
     unit = plant.units
-    return unit.size_said(name, low) if low == high else f"{short(low * unit.size(name))} to {unit.size_said(name, high)}"
+    return (
+        unit.size_said(name, low) if low == high else f"{short(low * unit.size(name))} to {unit.size_said(name, high)}"
+    )
 
 
 def sure_moves(plant):
-    """With goal keep: the states in which no sampled input moves a cell for sure to one side. Nothing is regained there at an edge.
-    A step grows with the sampling time, while what it has to exceed mostly grows less: so there is a shortest sampling time."""
+    """With goal keep: the states in which no sampled input moves a cell for sure to one side. Nothing is regained there
+    at an edge. A step grows with the sampling time, while what it has to exceed mostly grows less: so there is a
+    shortest sampling time."""
     if plant.goal != "keep":
         return
     cells, vectors = sampled_pairs(plant)
@@ -312,8 +370,12 @@ def sure_moves(plant):
             step, needed = max((move[i] for move in moves[side]), key=lambda one: one[0] - one[1])
             if step < needed:
                 longer = f"; a sampling time about {needed / step:.1f} times as long may do" if step > 0 else ""
-                yield f"no sampled input moves {name} {word} for sure, out of its cell: that takes a step of {plant.units.size_said(name, needed)}, and the best is " \
-                      f"{plant.units.size_said(name, step)}; what comes near an edge may never come back, and mostly nothing is kept{longer}"
+                yield (
+                    f"no sampled input moves {name} {word} for sure, out of its cell: that takes a step of "
+                    f"{plant.units.size_said(name, needed)}, and the best is "
+                    f"{plant.units.size_said(name, step)}; what comes near an edge may never come back, and "
+                    f"mostly nothing is kept{longer}"
+                )
 
 
 def sampled_pairs(plant):
@@ -325,7 +387,14 @@ def sampled_pairs(plant):
 
 def sides_of(plant, cell, vector, low, high, side):
     """For each state the middle's step to a side, and the step with which the box would be beside the cell."""
-    ends = zip(plant.step(plant.centre(cell), plant.vector(vector), plant.rest), plant.centre(cell), low, high, plant.low(cell), plant.high(cell))
+    ends = zip(
+        plant.step(plant.centre(cell), plant.vector(vector), plant.rest),
+        plant.centre(cell),
+        low,
+        high,
+        plant.low(cell),
+        plant.high(cell),
+    )
     moves = []
     for middle, centre, first, last, bottom, top in ends:
         step = (middle - centre) * side
@@ -338,24 +407,47 @@ def sizes(plant):
     total, exact = plant.edges()
     about = "" if exact else "about "
     share = 100 * total / EDGES
-    said = f"{share:.2g} per cent" if 0.01 <= share < 100 else "under 0.01 per cent" if share < 0.01 else f"{total / EDGES:.1f} times"
-    yield f"{plant.cells} cells, {plant.vectors} input vectors, {plant.pairs} pairs, {about}{total} edges: {said} of the " \
-          f"{EDGES} that are the most"
+    said = (
+        f"{share:.2g} per cent"
+        if 0.01 <= share < 100
+        else "under 0.01 per cent"
+        if share < 0.01
+        else f"{total / EDGES:.1f} times"
+    )
+    yield (
+        f"{plant.cells} cells, {plant.vectors} input vectors, {plant.pairs} pairs, {about}{total} edges: {said} "
+        f"of the {EDGES} that are the most"
+    )
 
 
 def second_version(plant):
     """How many edges fewer a small plant of version 1 would have in version 2, where they are a twentieth or more."""
     if plant.version > 1 or plant.pairs > COUNTED_PAIRS:
         return
-    other = Plant(plant.states, plant.inputs, plant.noises, plant.equations, plant.targets, plant.obstacles, plant.goal, 2)
+    other = Plant(
+        plant.states, plant.inputs, plant.noises, plant.equations, plant.targets, plant.obstacles, plant.goal, 2
+    )
     (first, first_exact), (second, second_exact) = plant.edges(), other.edges()
     if first_exact and second_exact and second * 20 <= first * 19:
         yield f"with `plant 2` as the first line the boxes would have {second} edges in place of {first}"
 
 
 def notes(plant):
-    for kind, part in (("note", goals), ("note", narrow_target), ("note", unused), ("note", quotients), ("note", repeats), ("note", sampled), ("note", thin_obstacles),
-                       ("note", sure_moves), ("note", second_version), ("note", of_no_use), ("size", growth), ("size", steps), ("size", sizes)):
+    for kind, part in (
+        ("note", goals),
+        ("note", narrow_target),
+        ("note", unused),
+        ("note", quotients),
+        ("note", repeats),
+        ("note", sampled),
+        ("note", thin_obstacles),
+        ("note", sure_moves),
+        ("note", second_version),
+        ("note", of_no_use),
+        ("size", growth),
+        ("size", steps),
+        ("size", sizes),
+    ):
         for said in part(plant):
             yield f"{kind}: {said}"
 
@@ -368,9 +460,19 @@ def other_text(data):
         return f"the text is a {kind}; a plant text begins with `plant 1` or `plant 2`"
     if not data:
         return "the text is empty; a plant text begins with `plant 1` or `plant 2`"
-    first = next((line.split() for line in data.decode("latin-1").splitlines() if line.split() and not line.split()[0].startswith("#")), [""])
+    first = next(
+        (
+            line.split()
+            for line in data.decode("latin-1").splitlines()
+            if line.split() and not line.split()[0].startswith("#")
+        ),
+        [""],
+    )
     if first[0] in MODEL_WORDS or first[0] == "state" and len(first) == 6 or first[0] == "state" and "cells" in first:
-        return "the text is a model, it seems: `tools/scale MODEL > NAME.plant` makes a plant text of it, which begins with `plant 1` or `plant 2`"
+        return (
+            "the text is a model, it seems: `tools/scale MODEL > NAME.plant` makes a plant text of it, which "
+            "begins with `plant 1` or `plant 2`"
+        )
     return None
 
 
@@ -387,8 +489,10 @@ def lint(data):
         return ["limit: edges", f"why: {total} edges, and {EDGES} are the most"], True
     lines = ["accepted"]
     if total > EDGES:
-        lines.append(f"note: about {total} edges by a sample of pairs, and {EDGES} are the most: `limit: edges` is likely; "
-                     "wider cells, fewer inputs or a smaller deviation help")
+        lines.append(
+            f"note: about {total} edges by a sample of pairs, and {EDGES} are the most: `limit: edges` is "
+            "likely; wider cells, fewer inputs or a smaller deviation help"
+        )
     exact = {name.decode() for name in EXACT.findall(data)}
     lines += [f"note: {said}" for said in bare_steps(plant, exact)]
     is_made = data.startswith(MADE)
@@ -396,9 +500,13 @@ def lint(data):
 
 
 def main(words):
-    parser = Words(prog="lint", description=__doc__, epilog="The first line is `accepted`, or what the program "
-                   "answers to the text, with the reason in the second. Behind `note:` stands what is hardly meant, behind "
-                   "`size:` how large the abstraction is. Status 0: accepted; 1: refused or not readable; 2: wrong words.")
+    parser = Words(
+        prog="lint",
+        description=__doc__,
+        epilog="The first line is `accepted`, or what the program answers to the text, with the reason in the "
+        "second. Behind `note:` stands what is hardly meant, behind `size:` how large the abstraction is. "
+        "Status 0: accepted; 1: refused or not readable; 2: wrong words.",
+    )
     parser.add_argument("plant", metavar="PLANT", help="the plant text, `-` for standard input")
     given = parser.parse_args(words)
     prefer("numpy")

@@ -11,8 +11,10 @@ from ..pages.page import Text, page_of
 from ..progress import Progress
 
 MOST_TEXTS = 8
-MODEL = "the model, or the plant text with the comments of tools/scale: for its units, and for the way between " \
-        "samples by its differential equations"
+MODEL = (
+    "the model, or the plant text with the comments of tools/scale: for its units, and for the way between "
+    "samples by its differential equations"
+)
 FORMAT = """The page needs no network, and a browser of 2023 or later. Two texts are shown side by side, with their
 difference; of more, the page chooses two. The part of its address behind `#` keeps what is looked at.
 Status 0: the page was written; 1: a text or the model isn't readable, or they don't fit each other; 2: wrong words."""

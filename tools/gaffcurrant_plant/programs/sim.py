@@ -1,4 +1,5 @@
-"""Drives a plant by a stay text or a patrol text, and writes what happens; of a table what the program's `sim` writes. With --real it drives
+"""Drives a plant by a stay text or a patrol text, and writes what happens; of a table what the program's `sim` \
+writes. With --real it drives
 the model's own equations in doubles, from many states, and counts the promises that are broken."""
 
 import argparse
@@ -12,24 +13,35 @@ from ..texts.loop import noises
 from ..texts.table import read_text
 
 # Runs of --real, and the most of them.
-RUNS, MOST_RUNS = 2000, 10 ** 6
+RUNS, MOST_RUNS = 2000, 10**6
 
-FORMAT = """A line of a sample is T X1 .. Xn RANK INPUT, and of a patrol T TURN X1 .. Xn RANK INPUT: the time from 0, the turn whose target the plant
-is on its way to, the state, and the row. Before the sample that has come to the target of a turn stands `visited TURN T`. The last line is
-`stopped T`; `arrived T` of a table with goal reach; or `lost T X1 .. Xn` where the state has no row. Disturbances are those that the program draws
-from the seed; `--worst` takes an end of each range, by the seed. With `--model` the first state is in the model's units, and so are the states and
-the inputs that are printed: a first line names them, and a sample's line has the values to apply where the trace has INPUT.
+FORMAT = """A line of a sample is T X1 .. Xn RANK INPUT, and of a patrol T TURN X1 .. Xn RANK INPUT: the time from 0, \
+the turn whose target the plant
+is on its way to, the state, and the row. Before the sample that has come to the target of a turn stands `visited TURN \
+T`. The last line is
+`stopped T`; `arrived T` of a table with goal reach; or `lost T X1 .. Xn` where the state has no row. Disturbances are \
+those that the program draws
+from the seed; `--worst` takes an end of each range, by the seed. With `--model` the first state is in the model's \
+units, and so are the states and
+the inputs that are printed: a first line names them, and a sample's line has the values to apply where the trace has \
+INPUT.
 
   sim --real MODEL TEXT [N [SEED [X1 .. Xm]]]
 
-drives the model in doubles: `d` lines by fine steps of Runge and Kutta's method, what is measured by floor(value / unit). The runs begin within cells,
-on their corners, on whole units and with states at 0, or all at X1 .. Xm in the model's units; disturbances are random, at the ends of their
-ranges, held there, switching or still. The lines tell how many runs broke a promise (a row for each sample, the rank falls, no sample in an obstacle, rank
-0 in a target, turn for turn), how many of the runs begin in which way, and how many ways between samples touched an obstacle or left the domain; behind the
+drives the model in doubles: `d` lines by fine steps of Runge and Kutta's method, what is measured by floor(value / \
+unit). The runs begin within cells,
+on their corners, on whole units and with states at 0, or all at X1 .. Xm in the model's units; disturbances are \
+random, at the ends of their
+ranges, held there, switching or still. The lines tell how many runs broke a promise (a row for each sample, the rank \
+falls, no sample in an obstacle, rank
+0 in a target, turn for turn), how many of the runs begin in which way, and how many ways between samples touched an \
+obstacle or left the domain; behind the
 first broken promise stands its run.
-The ways of `next` lines aren't known, and taken as straight. --log FILE writes what a data logger would: time, states and inputs in the model's units, for
+The ways of `next` lines aren't known, and taken as straight. --log FILE writes what a data logger would: time, states \
+and inputs in the model's units, for
 tools/conform. This needs numpy (Debian: apt-get install python3-numpy).
-Status 0: the trace was written, or no promise was broken; 1: the text isn't readable, the first state has no row, or a promise was broken; 2: wrong words."""
+Status 0: the trace was written, or no promise was broken; 1: the text isn't readable, the first state has no row, or \
+a promise was broken; 2: wrong words."""
 
 
 def row_of(table, turn, state):
@@ -44,7 +56,11 @@ def reals(plant, kinds, values):
 
 def sample_said(plant, time, turn, state, row):
     rank, choice = row
-    said = " ".join(reals(plant, plant.inputs, plant.vector(choice))) if plant.units.sizes and choice is not None else choice
+    said = (
+        " ".join(reals(plant, plant.inputs, plant.vector(choice)))
+        if plant.units.sizes and choice is not None
+        else choice
+    )
     words = [time, *([] if turn is None else [turn]), *reals(plant, plant.states, state), rank, said]
     return " ".join("-" if word is None else str(word) for word in words)
 
@@ -87,13 +103,25 @@ def worst(plant, seed):
 def main(words):
     parser = Words(prog="sim", description=__doc__, epilog=FORMAT, formatter_class=argparse.RawDescriptionHelpFormatter)
     parser.add_argument("text", metavar="TEXT", help="a table, a stay text or a patrol text, `-` for standard input")
-    parser.add_argument("samples", metavar="N", type=int, nargs="?", help="the most samples; with --real, where left out, as many as the ranks ask for")
-    parser.add_argument("seed", metavar="SEED", type=int, nargs="?", help="what draws the disturbances; with --real, where left out, 1")
-    parser.add_argument("state", metavar="X", nargs="*", help="the first state, one number for each of the plant's states")
+    parser.add_argument(
+        "samples",
+        metavar="N",
+        type=int,
+        nargs="?",
+        help="the most samples; with --real, where left out, as many as the ranks ask for",
+    )
+    parser.add_argument(
+        "seed", metavar="SEED", type=int, nargs="?", help="what draws the disturbances; with --real, where left out, 1"
+    )
+    parser.add_argument(
+        "state", metavar="X", nargs="*", help="the first state, one number for each of the plant's states"
+    )
     parser.add_argument("--turn", metavar="J", type=int, help="the turn with which a patrol begins, from 0 (0)")
     parser.add_argument("--worst", action="store_true", help="disturbances at the ends of their ranges")
     parser.add_argument("--model", metavar="FILE", help=MODEL_HELP)
-    parser.add_argument("--real", metavar="MODEL", help="drive the equations of this model in doubles, from many states")
+    parser.add_argument(
+        "--real", metavar="MODEL", help="drive the equations of this model in doubles, from many states"
+    )
     parser.add_argument("--runs", metavar="R", type=int, help="with --real, so many runs (2000)")
     parser.add_argument("--log", metavar="FILE", help="with --real, write a log of the runs as CSV")
     given = parser.parse_intermixed_args(words)
@@ -118,7 +146,7 @@ def check_words(given):
         raise Trouble("--log goes with --real", 2)
     if given.real is not None and given.model is not None:
         raise Trouble("--real has the model already; --model is for runs of the plant", 2)
-    if (given.samples or 0) < 0 or not 0 <= (given.seed or 0) < 2 ** 64:
+    if (given.samples or 0) < 0 or not 0 <= (given.seed or 0) < 2**64:
         raise Trouble("N is at least 0, and SEED from 0 to 2^64 - 1", 2)
     if given.runs is not None and not 1 <= given.runs <= MOST_RUNS:
         raise Trouble(f"--runs takes a number from 1 to {MOST_RUNS}", 2)
@@ -127,7 +155,9 @@ def check_words(given):
 def check_count(table, state):
     if len(state) != len(table.plant.states):
         names = " ".join(name for name, *_ in table.plant.states)
-        raise Trouble(f"a state of this plant has {len(table.plant.states)} numbers ({names}), here are {len(state)}", 2)
+        raise Trouble(
+            f"a state of this plant has {len(table.plant.states)} numbers ({names}), here are {len(state)}", 2
+        )
 
 
 def drive_plant(given, table, turn):
@@ -148,6 +178,7 @@ def drive_model(given, table):
     """Drives the model in doubles, and writes what was seen."""
     from ..models.agreement import check_model, model_at
     from ..ways.real_runs import real_runs
+
     model = model_at(given.real)
     try:
         state = [number_of(word) for word in given.state] or None
@@ -174,7 +205,9 @@ def seen(model, table, outcome):
     for what, count in outcome.violations.most_common():
         yield f"  {what}: {count}"
     if outcome.starts:
-        yield "begun " + "; ".join(f"{kind}: {count} runs, {outcome.broken[kind]} broken" for kind, count in sorted(outcome.starts.items()))
+        yield "begun " + "; ".join(
+            f"{kind}: {count} runs, {outcome.broken[kind]} broken" for kind, count in sorted(outcome.starts.items())
+        )
     yield f"between samples: {outcome.touched} runs touch an obstacle, {outcome.left} leave the domain"
     if outcome.touch:
         time, state, run = outcome.touch
@@ -182,7 +215,12 @@ def seen(model, table, outcome):
     if outcome.first:
         yield f"first violation: {outcome.first}"
         for time, turn, state, rank, choice in outcome.trace:
-            row = "" if rank is None else f" rank {'-' if rank < 0 else rank}, " + (table.plant.input_said(choice) if choice >= 0 else "no input")
+            row = (
+                ""
+                if rank is None
+                else f" rank {'-' if rank < 0 else rank}, "
+                + (table.plant.input_said(choice) if choice >= 0 else "no input")
+            )
             yield f"  {time}{'' if turn is None else f' turn {turn}'}: {named(model, state)}{row}"
 
 

@@ -1,5 +1,6 @@
-"""Solves a model at several sampling times, orders, numbers of steps and widths of cells, and prints a line for each: cells, pairs, edges, what is won,
-the greatest rank, seconds. By --stay or --patrol as the program's words of that name do."""
+"""Solves a model at several sampling times, orders, numbers of steps and widths of cells, and prints a line for each:
+cells, pairs, edges, what is won, the greatest rank, seconds. By --stay or --patrol as the program's words of that name
+do."""
 
 import itertools
 import time
@@ -33,7 +34,8 @@ def positive(words, option):
 
 
 class Variant:
-    """Values in the place of a model's own: its sampling time, order and steps, None for those that stay, and what widths are multiplied by."""
+    """Values in the place of a model's own: its sampling time, order and steps, None for those that stay, and what
+    widths are multiplied by."""
 
     def __init__(self, time, order, steps, width):
         self.swept = {"sample": time, "order": order, "steps": steps}
@@ -50,24 +52,43 @@ class Variant:
                 yield self.state(words, parameters)
             else:
                 yield line
-        yield from (f"{keyword} {decimal(value)}" for keyword, value in self.swept.items() if value is not None and keyword not in own)
+        yield from (
+            f"{keyword} {decimal(value)}"
+            for keyword, value in self.swept.items()
+            if value is not None and keyword not in own
+        )
 
     def state(self, words, parameters):
         """A line `state` with other widths, and with a finer unit where the line's own doesn't divide them."""
         low, high = (number_in(word, parameters) for word in words[2:4])
         by_number = words[4] == "cells"
-        width = self.width * ((high - low) / number_in(words[5], parameters) if by_number else number_in(words[4], parameters))
+        width = self.width * (
+            (high - low) / number_in(words[5], parameters) if by_number else number_in(words[4], parameters)
+        )
         if by_number and (high - low) % width:
-            raise Trouble(f"the {words[5]} cells of {words[1]} can't be {decimal(self.width)} times as wide: that would be {short((high - low) / width)}")
+            raise Trouble(
+                f"the {words[5]} cells of {words[1]} can't be {decimal(self.width)} times as wide: that would be "
+                f"{short((high - low) / width)}"
+            )
         if by_number and len(words) == 6:
             return " ".join(words[:5] + [decimal((high - low) / width)])
         unit = common_unit([low, width, number_in(words[6 if by_number else 5], parameters)])
-        return f"state {words[1]} {words[2]} {words[3]} " + (f"cells {decimal((high - low) / width)} {decimal(unit)}" if by_number else f"{decimal(width)} {decimal(unit)}")
+        return f"state {words[1]} {words[2]} {words[3]} " + (
+            f"cells {decimal((high - low) / width)} {decimal(unit)}"
+            if by_number
+            else f"{decimal(width)} {decimal(unit)}"
+        )
 
 
 def number_in(word, parameters):
     """The number of a word, which may be a parameter."""
-    return parameters[word] if word in parameters else -parameters[word[1:]] if word[:1] == "-" and word[1:] in parameters else number_of(word)
+    return (
+        parameters[word]
+        if word in parameters
+        else -parameters[word[1:]]
+        if word[:1] == "-" and word[1:] in parameters
+        else number_of(word)
+    )
 
 
 def won_of(text):
@@ -97,23 +118,48 @@ def row_of(lines, parameters, variant, workers, solver):
 
 
 def main(words):
-    parser = Words(prog="sweep", description=__doc__, epilog="A model past a limit isn't solved: its line tells the limit and the number. "
-                   "`~` stands before edges that are counted by a sample of pairs. A line `between` of the model isn't followed: the obstacles are the model's own. With goal keep `won` counts what is kept. The program is "
-                   "./gaffcurrant, or what the environment variable GAFFCURRANT names. Status 0: all lines were printed; 1: the model can't be "
-                   "read; 2: wrong words.")
+    parser = Words(
+        prog="sweep",
+        description=__doc__,
+        epilog="A model past a limit isn't solved: its line tells the limit and the number. `~` stands before edges "
+        "that are counted by a sample of pairs. A line `between` of the model isn't followed: the obstacles "
+        "are the model's own. With goal keep `won` counts what is kept. The program is ./gaffcurrant, or what "
+        "the environment variable GAFFCURRANT names. Status 0: all lines were printed; 1: the model can't be "
+        "read; 2: wrong words.",
+    )
     parser.add_argument("model", metavar="MODEL", help="a model of tools/scale, `-` for standard input")
-    parser.add_argument("--times", metavar="T", nargs="+", default=[], help="sampling times; the model has a line `sample`")
-    parser.add_argument("--orders", metavar="K", nargs="+", default=[], help="orders of the Taylor polynomials; the model has lines `d`")
-    parser.add_argument("--steps", metavar="N", nargs="+", default=[], help="numbers of steps of a sample; the model has lines `d`")
-    parser.add_argument("--widths", metavar="FACTOR", nargs="+", default=["1"], help="what the widths of all cells are multiplied by; a state gets a finer unit where it needs one")
+    parser.add_argument(
+        "--times", metavar="T", nargs="+", default=[], help="sampling times; the model has a line `sample`"
+    )
+    parser.add_argument(
+        "--orders", metavar="K", nargs="+", default=[], help="orders of the Taylor polynomials; the model has lines `d`"
+    )
+    parser.add_argument(
+        "--steps", metavar="N", nargs="+", default=[], help="numbers of steps of a sample; the model has lines `d`"
+    )
+    parser.add_argument(
+        "--widths",
+        metavar="FACTOR",
+        nargs="+",
+        default=["1"],
+        help="what the widths of all cells are multiplied by; a state gets a finer unit where it needs one",
+    )
     parser.add_argument("--workers", metavar="N", type=int, default=1, help="workers that solve the game")
     which = parser.add_mutually_exclusive_group()
-    which.add_argument("--stay", action="store_true", help="solve by `stay`: what comes to the target and stays there; rank 0 is held")
-    which.add_argument("--patrol", action="store_true", help="solve by `patrol`; what is won and the greatest rank stand for each turn, as 120/80")
+    which.add_argument(
+        "--stay", action="store_true", help="solve by `stay`: what comes to the target and stays there; rank 0 is held"
+    )
+    which.add_argument(
+        "--patrol",
+        action="store_true",
+        help="solve by `patrol`; what is won and the greatest rank stand for each turn, as 120/80",
+    )
     given = parser.parse_args(words)
     solver = stay if given.stay else patrol if given.patrol else solve
     prefer("mpmath", "numpy")
-    times, orders, steps, widths = (positive(getattr(given, name), f"--{name}") for name in ("times", "orders", "steps", "widths"))
+    times, orders, steps, widths = (
+        positive(getattr(given, name), f"--{name}") for name in ("times", "orders", "steps", "widths")
+    )
     if not 1 <= given.workers <= 64:
         raise Trouble("--workers takes a number from 1 to 64", 2)
     data = read_bytes(given.model)
@@ -134,7 +180,9 @@ def main(words):
     for number, values in enumerate(variants, 1):
         with progress.during(f"{number} of {len(variants)}"):
             row = row_of(lines, model.parameters, Variant(*values), given.workers, solver)
-        print_row([decimal(value) if value else "-" for name, value in zip(SWEPT, values) if name in shown] + row, columns)
+        print_row(
+            [decimal(value) if value else "-" for name, value in zip(SWEPT, values) if name in shown] + row, columns
+        )
 
 
 def print_row(row, columns):

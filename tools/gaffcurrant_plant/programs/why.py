@@ -84,10 +84,16 @@ GOOD = {"table": "wins", "stay": "comes to held cells", "turn": "arrives"}
 def input_said(table, cell, vector):
     plant = table.plant
     low, high = plant.box(cell, vector)
-    moves = ", ".join(f"{name} {plant.units.size_said(name, move)}"
-                      for (name, *_), move in zip(plant.states, plant.rolled.deviations(vector)))
-    lines = [f"input {vector} ({plant.input_said(vector)})",
-             f"  deviation: {moves}", *parts_said(plant, cell, vector), f"  successor box: {plant.ranges_said(low, high)}{across_said(plant, cell, low, high, vector)}"]
+    moves = ", ".join(
+        f"{name} {plant.units.size_said(name, move)}"
+        for (name, *_), move in zip(plant.states, plant.rolled.deviations(vector))
+    )
+    lines = [
+        f"input {vector} ({plant.input_said(vector)})",
+        f"  deviation: {moves}",
+        *parts_said(plant, cell, vector),
+        f"  successor box: {plant.ranges_said(low, high)}{across_said(plant, cell, low, high, vector)}",
+    ]
     if plant.leaves(low, high):
         return lines + ["  " + leaving(plant, low, high)]
     cells = plant.successors(cell, vector)
@@ -98,14 +104,20 @@ def parts_said(plant, cell, vector):
     """In version 2, what the box is the common part of."""
     if plant.version > 1:
         rolled = plant.rolled
-        yield f"  growth bound: {plant.ranges_said(*rolled.growth(cell, vector))}; span over the cell: {plant.ranges_said(*rolled.span(cell, vector))}"
+        yield (
+            f"  growth bound: {plant.ranges_said(*rolled.growth(cell, vector))}; span over the cell: "
+            f"{plant.ranges_said(*rolled.span(cell, vector))}"
+        )
 
 
 def across_said(plant, cell, low, high, vector):
     """The states that come round whose whole range the box has since it reaches across the range's end."""
     rolled = zip(*plant.rolled.box(cell, vector))
-    names = [name for (name, *_), ends, (first, last), period in zip(plant.states, zip(low, high), rolled, plant.periods)
-             if period and ends != (first, last) and ends[1] - ends[0] + 1 == period > last - first + 1]
+    names = [
+        name
+        for (name, *_), ends, (first, last), period in zip(plant.states, zip(low, high), rolled, plant.periods)
+        if period and ends != (first, last) and ends[1] - ends[0] + 1 == period > last - first + 1
+    ]
     return f" (the whole of {' and '.join(names)}, since it reaches across the range's end)" if names else ""
 
 
@@ -116,15 +128,20 @@ WAY = 12
 
 def said_of(cause):
     """A cause in words."""
-    return {"edge": "the edge: the box leaves the domain", "obstacle": "an obstacle: the box meets it",
-            "still": "no input moves the cell farther than its box overhangs", "itself": "the input may come back to the cell itself",
-            "onward": "nothing that was met"}[cause]
+    return {
+        "edge": "the edge: the box leaves the domain",
+        "obstacle": "an obstacle: the box meets it",
+        "still": "no input moves the cell farther than its box overhangs",
+        "itself": "the input may come back to the cell itself",
+        "onward": "nothing that was met",
+    }[cause]
 
 
 def deep_said(text, table, cell):
-    """The nearest causes behind a lost cell, or the round in which it falls, and what stops the cells next to those with a row; of a patrol without rows at
-    which target it fails."""
+    """The nearest causes behind a lost cell, or the round in which it falls, and what stops the cells next to those
+    with a row; of a patrol without rows at which target it fails."""
     from ..texts import causes
+
     progress = Progress("why")
     lost, lines = causes.Lost(table, progress), []
     if text.kind == "patrol" and not any(turn.rows for turn in text.turns):
@@ -141,16 +158,28 @@ def round_said(found):
     """At which target a patrol without rows fails."""
     first, count = found.first_without(), len(found.alone)
     if first is not None:
-        where = f"from none of its {found.cells[first]} cells" if found.cells[first] else "since no cell lies in it whole and off the obstacles"
-        return [f"no turn has a row: target {first} of 0 to {count - 1} is the first that can't be reached from itself, {where}"]
+        where = (
+            f"from none of its {found.cells[first]} cells"
+            if found.cells[first]
+            else "since no cell lies in it whole and off the obstacles"
+        )
+        return [
+            f"no turn has a row: target {first} of 0 to {count - 1} is the first that can't be reached from "
+            f"itself, {where}"
+        ]
     apart = found.first_apart()
-    said = "each target can be reached from itself, and the next from it, but not all in turn" if apart is None else \
-        f"each target can be reached from itself, but from target {apart} no way leads to target {(apart + 1) % count} for sure"
+    said = (
+        "each target can be reached from itself, and the next from it, but not all in turn"
+        if apart is None
+        else f"each target can be reached from itself, but from target {apart} no way leads to target "
+        f"{(apart + 1) % count} for sure"
+    )
     return [f"no turn has a row: {said}"]
 
 
 def nearest_said(lost, cell):
     from ..texts.causes import CAUSES
+
     found, seen = lost.nearest(cell)
     lines = [f"the nearest causes, going from lost cell to lost cell ({seen} looked at):"]
     for cause in filter(found.get, CAUSES):
@@ -168,13 +197,16 @@ def fall_said(rounds, cell):
     way = rounds.way(cell)
     behind = "; the last of its inputs is cut by the cell below, and so on:" if numbers[cell] else ""
     lines = [f"it falls in round {numbers[cell]} of {max(numbers)}{behind}"]
-    for one, vector in way[1:WAY + 1]:
+    for one, vector in way[1 : WAY + 1]:
         lines.append(f"  by input {vector} ({plant.input_said(vector)}): {plant.cell_said(one)}, round {numbers[one]}")
     if len(way) > WAY + 1:
         lines.append(f"  and {len(way) - WAY - 1} more")
     last = way[-1][0]
     first = "it meets an obstacle" if plant.is_obstacle(last) else "every input leaves the domain there"
-    return lines + [f"  round 0: {first}", "cells that fall in round 0, 1, ..: " + ", ".join(map(str, rounds.counts()[:WAY]))]
+    return lines + [
+        f"  round 0: {first}",
+        "cells that fall in round 0, 1, ..: " + ", ".join(map(str, rounds.counts()[:WAY])),
+    ]
 
 
 def frontier_said(frontier, table):
@@ -219,15 +251,22 @@ def name_said(table, cell):
 
 
 def main(words):
-    parser = Words(prog="why", description=__doc__, epilog="Status 0: answered; 1: the table isn't readable or the state "
-                   "is outside the domain; 2: wrong words.")
+    parser = Words(
+        prog="why",
+        description=__doc__,
+        epilog="Status 0: answered; 1: the table isn't readable or the state is outside the domain; 2: wrong words.",
+    )
     parser.add_argument("table", metavar="TABLE", help="the table, stay or patrol text, `-` for standard input")
     parser.add_argument("state", metavar="X", nargs="*", help="the state, one number for each of the plant's states")
     parser.add_argument("--model", metavar="FILE", help=MODEL_HELP)
     parser.add_argument("--cell", type=int, metavar="C", help="a cell by its number, instead of a state")
     parser.add_argument("--input", type=int, metavar="U", help="this input vector alone")
-    parser.add_argument("--deep", action="store_true", help="follow lost cells to the nearest causes, count what stops the cells next to "
-                        "those with a row, and with goal keep tell the round in which the cell falls")
+    parser.add_argument(
+        "--deep",
+        action="store_true",
+        help="follow lost cells to the nearest causes, count what stops the cells next to those with a row, and with "
+        "goal keep tell the round in which the cell falls",
+    )
     parser.add_argument("--turn", type=int, metavar="J", help="this turn of a patrol text, from 0 (0)")
     given = parser.parse_args(words)
     if given.deep:

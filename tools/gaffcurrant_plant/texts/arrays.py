@@ -17,8 +17,8 @@ KINDS = tuple(VERSIONS)
 
 
 class RowArrays:
-    """The rows of a text, of a patrol text those of one turn, over the cells. won: whether a cell has a row; ranks and inputs: NONE where there is no
-    row, no rank or no input."""
+    """The rows of a text, of a patrol text those of one turn, over the cells. won: whether a cell has a row; ranks and
+    inputs: NONE where there is no row, no rank or no input."""
 
     def __init__(self, plant, cells, ranks, inputs):
         self.plant = plant
@@ -39,17 +39,24 @@ class RowArrays:
 
 
 class Rows:
-    """The rows of all turns of a Table, a Stay or a Patrol: RowArrays with a line for each turn, and a cell OUTSIDE without a row behind the last one."""
+    """The rows of all turns of a Table, a Stay or a Patrol: RowArrays with a line for each turn, and a cell OUTSIDE
+    without a row behind the last one."""
 
     def __init__(self, text):
         self.plant, self.kind = text.plant, text.kind
         self.keeps = text.kind == "table" and text.keeps
         parts = [RowArrays.of(part) for part in (text.turns if self.kind == "patrol" else [text])]
-        self.won, self.arrivals = (numpy.stack([numpy.append(one, False) for one in some]) for some in
-                                   ([part.won for part in parts], [part.arrivals for part in parts]))
-        self.ranks, self.inputs = (numpy.stack([numpy.append(one, NONE) for one in some]) for some in
-                                   ([part.ranks for part in parts], [part.inputs for part in parts]))
-        self.low, self.high, self.width = (numpy.array([state[k] for state in self.plant.states]).reshape(-1, 1) for k in (1, 2, 3))
+        self.won, self.arrivals = (
+            numpy.stack([numpy.append(one, False) for one in some])
+            for some in ([part.won for part in parts], [part.arrivals for part in parts])
+        )
+        self.ranks, self.inputs = (
+            numpy.stack([numpy.append(one, NONE) for one in some])
+            for some in ([part.ranks for part in parts], [part.inputs for part in parts])
+        )
+        self.low, self.high, self.width = (
+            numpy.array([state[k] for state in self.plant.states]).reshape(-1, 1) for k in (1, 2, 3)
+        )
 
     def cell_of(self, whole):
         """The cells of columns of whole numbers, OUTSIDE where one is outside of the domain."""
@@ -91,10 +98,13 @@ class Cells(RowArrays):
         return numpy.where(cells == OUTSIDE, NONE, self.ranks[cells])
 
     def choice(self, states):
-        """The values to apply at states, a line for each, masked where there is no row, and in the target of a table."""
+        """The values to apply at states, a line for each, masked where there is no row, and in the target of a
+        table."""
         cells = self.cell_of(states)
         numbers = numpy.where(cells == OUTSIDE, NONE, self.inputs[cells])
-        vectors = numpy.array([self.plant.vector(number) for number in range(self.plant.vectors)], dtype=numpy.int64).reshape(self.plant.vectors, -1)
+        vectors = numpy.array(
+            [self.plant.vector(number) for number in range(self.plant.vectors)], dtype=numpy.int64
+        ).reshape(self.plant.vectors, -1)
         mask = numpy.broadcast_to((numbers == NONE)[:, None], (len(numbers), vectors.shape[1]))
         return numpy.ma.masked_array(vectors[numbers], mask)
 
@@ -109,7 +119,8 @@ class Cells(RowArrays):
         return is_inside and bool(self.of_turn(turn_after(turn, True, len(plant.targets))).won[cell])
 
     def arranged(self, values, axes, fixed):
-        """Values of cells over the indices of some axes, and behind them over those of the other states that aren't fixed."""
+        """Values of cells over the indices of some axes, and behind them over those of the other states that aren't
+        fixed."""
         counts = self.plant.counts
         others = [i for i in range(len(counts)) if i not in axes]
         chosen = tuple([slice(None)] * len(axes) + [fixed.get(i, slice(None)) for i in others])
@@ -117,8 +128,8 @@ class Cells(RowArrays):
         return part.reshape([counts[i] for i in axes] + [-1])
 
     def seen(self, axes, fixed):
-        """Rank, input and whether there is a row, over the indices of some axes. The other states are fixed at an index, or the cell
-        of the least rank is taken over all of their indices."""
+        """Rank, input and whether there is a row, over the indices of some axes. The other states are fixed at an
+        index, or the cell of the least rank is taken over all of their indices."""
         won = self.arranged(self.won, axes, fixed)
         ranks = self.arranged(self.ranks, axes, fixed)
         best = numpy.where(won, ranks, numpy.iinfo(numpy.int64).max).argmin(axis=-1)[..., None]
@@ -131,13 +142,16 @@ class Cells(RowArrays):
 
 
 def whole_states(plant, units, states):
-    """The whole numbers of real states, an array of one line each, in a model's units. A value within 10^-9 of a unit's end counts as at that end."""
+    """The whole numbers of real states, an array of one line each, in a model's units. A value within 10^-9 of a unit's
+    end counts as at that end."""
     sizes = numpy.array([float(units.size(name)) for name, *_ in plant.states])
     return numpy.floor(numpy.asarray(states, dtype=float) / sizes + 1e-9).astype(numpy.int64)
 
 
 class Run(NamedTuple):
-    """A run as arrays: the times, the states and the inputs, a line each, and the ranks and turns, NONE where there is none."""
+    """A run as arrays: the times, the states and the inputs, a line each, and the ranks and turns, NONE where there is
+    none."""
+
     times: numpy.ndarray
     states: numpy.ndarray
     ranks: numpy.ndarray
@@ -146,15 +160,21 @@ class Run(NamedTuple):
 
 
 def run_of(samples, units=None, plant=None):
-    """The Run of what `simulate` gives. With a plant's units states and inputs are in these: states at the middles of their units, what is a whole number by
-    itself as it is."""
+    """The Run of what `simulate` gives. With a plant's units states and inputs are in these: states at the middles of
+    their units, what is a whole number by itself as it is."""
     states = numpy.array([sample.state for sample in samples])
     wide = max((len(sample.inputs) for sample in samples if sample.inputs is not None), default=0)
-    inputs = numpy.ma.masked_array([sample.inputs or (0,) * wide for sample in samples], [[sample.inputs is None] * wide for sample in samples])
-    ranks, turns = (numpy.array([NONE if value is None else value for value in column]) for column in
-                    ([sample.rank for sample in samples], [sample.turn for sample in samples]))
+    inputs = numpy.ma.masked_array(
+        [sample.inputs or (0,) * wide for sample in samples], [[sample.inputs is None] * wide for sample in samples]
+    )
+    ranks, turns = (
+        numpy.array([NONE if value is None else value for value in column])
+        for column in ([sample.rank for sample in samples], [sample.turn for sample in samples])
+    )
     if units:
-        states = (states + [0.5 * (name not in units.exact) for name, *_ in plant.states]) * [float(units.size(name)) for name, *_ in plant.states]
+        states = (states + [0.5 * (name not in units.exact) for name, *_ in plant.states]) * [
+            float(units.size(name)) for name, *_ in plant.states
+        ]
         inputs = inputs * numpy.array([float(units.size(name)) for name, _ in plant.inputs][:wide])
     return Run(numpy.array([sample.time for sample in samples]), states, ranks, inputs, turns)
 
@@ -210,8 +230,15 @@ def columns_of(data, front, turn):
         raise Refused(f"malformed: line {line + count}", f"{count} row lines are due")
     columns = numbers.reshape(-1, wide).T
     firsts, lasts, ranks, inputs = columns[0], columns[wide - 3], columns[-2], columns[-1]
-    if count and (numpy.any(firsts[1:] <= lasts[:-1]) or numpy.any(lasts < firsts) or firsts[0] < 0
-                  or lasts[-1] >= front.plant.cells or numpy.any(inputs >= front.plant.vectors)):
-        raise Refused(f"malformed: line {line}", "the cells of the row lines don't rise below the number of cells, or "
-                      "an input is none")
+    if count and (
+        numpy.any(firsts[1:] <= lasts[:-1])
+        or numpy.any(lasts < firsts)
+        or firsts[0] < 0
+        or lasts[-1] >= front.plant.cells
+        or numpy.any(inputs >= front.plant.vectors)
+    ):
+        raise Refused(
+            f"malformed: line {line}",
+            "the cells of the row lines don't rise below the number of cells, or an input is none",
+        )
     return firsts, lasts, ranks, inputs

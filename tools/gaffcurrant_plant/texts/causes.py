@@ -1,5 +1,6 @@
-"""Why cells of a table have no row: what stops each input of the lost cells, the nearest causes behind them, what stops the cells next to
-those that are won, and the rounds in which cells fall that are to be kept. All lost cells are worked out at once; needs numpy."""
+"""Why cells of a table have no row: what stops each input of the lost cells, the nearest causes behind them, what stops
+the cells next to those that are won, and the rounds in which cells fall that are to be kept. All lost cells are worked
+out at once; needs numpy."""
 
 import numpy
 
@@ -19,9 +20,10 @@ def number_of(cause):
 
 
 class Lost:
-    """The cells without a row that are no obstacles, with what stops each of their inputs. `stops` has for each of these cells and each input
-    vector a number; `lost` and `fan` how many successors have no row and how many there are; `promising` whether the input leads the cell's
-    middle into a cell with a row; `causes` for each of CAUSES whether it lies at the cell itself."""
+    """The cells without a row that are no obstacles, with what stops each of their inputs. `stops` has for each of
+    these cells and each input vector a number; `lost` and `fan` how many successors have no row and how many there are;
+    `promising` whether the input leads the cell's middle into a cell with a row; `causes` for each of CAUSES whether it
+    lies at the cell itself."""
 
     def __init__(self, table, progress=None):
         self.table, self.plant, self.batch = table, table.plant, table.plant.batch()
@@ -35,14 +37,19 @@ class Lost:
         self.stops, self.promising = numpy.zeros(shape, dtype=numpy.int8), numpy.zeros(shape, dtype=bool)
         self.lost, self.fan = numpy.zeros(shape, dtype=numpy.int32), numpy.zeros(shape, dtype=numpy.int32)
         self.is_still = numpy.zeros(len(self.cells), dtype=bool)
-        self.ends = [numpy.zeros((2, *shape), dtype=numpy.int16 if count < 2 ** 15 else numpy.int32) for count in self.plant.counts]
+        self.ends = [
+            numpy.zeros((2, *shape), dtype=numpy.int16 if count < 2**15 else numpy.int32)
+            for count in self.plant.counts
+        ]
         counts = self.plant.counts
         sums = Sums(self.has, counts), Sums(self.blocked & ~self.has, counts)
         for begin, cells, vectors in self.batch.blocks(self.cells):
             self.look(begin, cells, vectors, *sums)
             if progress:
                 progress.show(begin / max(1, len(self.cells)))
-        self.causes = [self.is_still if cause == STILL else numpy.any(self.stops == number_of(cause), axis=1) for cause in CAUSES]
+        self.causes = [
+            self.is_still if cause == STILL else numpy.any(self.stops == number_of(cause), axis=1) for cause in CAUSES
+        ]
 
     def look(self, begin, cells, vectors, won, blocked):
         """Works out a block of cells."""
@@ -63,13 +70,18 @@ class Lost:
         stops = numpy.where(blocked.over(extents) > 0, number_of(OBSTACLE), stops)
         self.stops[part] = numpy.where(inside, numpy.where(lost > 0, stops, FREE), number_of(EDGE))
         if not self.table.keeps:
-            self.is_still[part] = numpy.any(inside, axis=-1).reshape(-1) & numpy.all(comes_back | ~inside, axis=-1).reshape(-1) & numpy.ones(len(cells), bool)
+            self.is_still[part] = (
+                numpy.any(inside, axis=-1).reshape(-1)
+                & numpy.all(comes_back | ~inside, axis=-1).reshape(-1)
+                & numpy.ones(len(cells), bool)
+            )
         middles, within = self.batch.extents([(middle, middle) for middle in self.batch.middles(lows, vectors)])
         cell = sum(index * stride for (index, _), stride in zip(middles, self.batch.strides))
         self.promising[part] = within & self.has[cell]
 
     def extents(self, chosen):
-        """For each state the first and last indices of the boxes of chosen pairs, which a subscript of `stops` selects."""
+        """For each state the first and last indices of the boxes of chosen pairs, which a subscript of `stops`
+        selects."""
         return [(ends[0][chosen].astype(numpy.int64), ends[1][chosen].astype(numpy.int64)) for ends in self.ends]
 
     def marks(self, numbers):
@@ -80,7 +92,9 @@ class Lost:
 
     def vector_of(self, at, cause):
         """The first input with a cause at a cell."""
-        return int(numpy.argmax(self.stops[at] != number_of(EDGE) if cause == STILL else self.stops[at] == number_of(cause)))
+        return int(
+            numpy.argmax(self.stops[at] != number_of(EDGE) if cause == STILL else self.stops[at] == number_of(cause))
+        )
 
     # From lost cell to lost cell
 
@@ -102,8 +116,8 @@ class Lost:
         return (paint[tuple(slice(count) for count in self.plant.counts)].reshape(-1) > 0) & ~self.has
 
     def nearest(self, start):
-        """For each kind of cause the nearest lost cell with it, as (how many steps away, the cell, the input), going from lost cell to lost
-        cell; and how many cells were looked at."""
+        """For each kind of cause the nearest lost cell with it, as (how many steps away, the cell, the input), going
+        from lost cell to lost cell; and how many cells were looked at."""
         found, seen, ring, steps = {}, numpy.zeros(self.plant.cells, dtype=bool), numpy.array([start]), 0
         while len(ring):
             seen[ring] = True
@@ -119,8 +133,8 @@ class Lost:
         return found, int(numpy.count_nonzero(seen))
 
     def behind(self):
-        """For each lost cell the number of the cause behind it: of a cell without one itself, that which is most frequent among the cells with the
-        nearest ones to which its inputs may lead."""
+        """For each lost cell the number of the cause behind it: of a cell without one itself, that which is most
+        frequent among the cells with the nearest ones to which its inputs may lead."""
         label = numpy.zeros(len(self.cells), dtype=numpy.int64)
         new = numpy.zeros(len(self.cells), dtype=bool)
         for number in range(len(CAUSES), 0, -1):
@@ -141,7 +155,10 @@ class Lost:
         """Those of some lost cells whose boxes, taken together, meet a cell that is marked."""
         if not len(rows):
             return rows
-        extents = [(numpy.min(ends[0][rows], axis=1).astype(numpy.int64), numpy.max(ends[1][rows], axis=1).astype(numpy.int64)) for ends in self.ends]
+        extents = [
+            (numpy.min(ends[0][rows], axis=1).astype(numpy.int64), numpy.max(ends[1][rows], axis=1).astype(numpy.int64))
+            for ends in self.ends
+        ]
         return rows[marks.over(extents) > 0]
 
     def total(self, rows, marks):
@@ -152,9 +169,9 @@ class Lost:
 
 
 class Frontier:
-    """The lost cells at which an input's middle leads into a cell with a row, counted by what stops the input of them that has the
-    least share of successors without one; where these are other lost cells alone, by the nearest cause behind them. A count's key is
-    the cause, and whether it lies farther on."""
+    """The lost cells at which an input's middle leads into a cell with a row, counted by what stops the input of them
+    that has the least share of successors without one; where these are other lost cells alone, by the nearest cause
+    behind them. A count's key is the cause, and whether it lies farther on."""
 
     def __init__(self, lost):
         self.counts = {}
@@ -186,7 +203,10 @@ class Frontier:
         if not hasattr(self, "found"):
             label, chosen = lost.behind(), numpy.zeros(len(rows), dtype=numpy.int64)
             extents = lost.extents((rows, vectors))
-            for marks in ([lost.marks(has) for has in lost.causes], [lost.marks(label == number) for number in range(1, len(CAUSES) + 1)]):
+            for marks in (
+                [lost.marks(has) for has in lost.causes],
+                [lost.marks(label == number) for number in range(1, len(CAUSES) + 1)],
+            ):
                 counts = numpy.stack([mark.over(extents) for mark in marks])
                 chosen = numpy.where((chosen == 0) & (counts.max(axis=0) > 0), counts.argmax(axis=0) + 1, chosen)
             self.found = chosen
@@ -194,8 +214,9 @@ class Frontier:
 
 
 class Rounds:
-    """For each cell of a keep table without a row the round in which it falls. Obstacles and cells without an enabled input fall in round 0,
-    and a cell behind the round in which the last of its inputs is cut. `number` has NEVER for other cells."""
+    """For each cell of a keep table without a row the round in which it falls. Obstacles and cells without an enabled
+    input fall in round 0, and a cell behind the round in which the last of its inputs is cut. `number` has NEVER for
+    other cells."""
 
     def __init__(self, lost, progress=None):
         self.lost, self.plant = lost, lost.plant
@@ -222,12 +243,15 @@ class Rounds:
         return numpy.bincount(self.number[self.number != NEVER]).tolist()
 
     def way(self, cell):
-        """The cells behind a fallen one, each with the input of the one before that was cut last, down to one that fell in round 0."""
+        """The cells behind a fallen one, each with the input of the one before that was cut last, down to one that fell
+        in round 0."""
         way, grid = [(cell, None)], self.number.reshape(self.plant.counts)
         while self.number[cell]:
             cuts = []
             for vector in numpy.flatnonzero(self.lost.fan[self.lost.at[cell]] > 0):
-                part = tuple(slice(int(first), int(last) + 1) for first, last in self.lost.extents((self.lost.at[cell], vector)))
+                part = tuple(
+                    slice(int(first), int(last) + 1) for first, last in self.lost.extents((self.lost.at[cell], vector))
+                )
                 numbers = grid[part]
                 least = numbers[numbers != NEVER].min(initial=numpy.iinfo(numbers.dtype).max)
                 if least <= self.number[cell]:
@@ -239,8 +263,8 @@ class Rounds:
 
 
 class Round:
-    """Why a patrol without rows has none. alone: for each target which of its cells can be left, and reached again for sure; cells: how many lie in it
-    whole and in no obstacle."""
+    """Why a patrol without rows has none. alone: for each target which of its cells can be left, and reached again for
+    sure; cells: how many lie in it whole and in no obstacle."""
 
     def __init__(self, lost, progress=None):
         self.lost, self.plant, self.progress = lost, lost.plant, progress
@@ -249,7 +273,8 @@ class Round:
         self.alone = [self.returning(goal) for goal in goals]
 
     def returning(self, goal):
-        """Which cells of a goal have a strategy that leads back to such cells again and again, after a sample or more each time."""
+        """Which cells of a goal have a strategy that leads back to such cells again and again, after a sample or more
+        each time."""
         while numpy.any(goal):
             kept = goal & self.led(goal)
             if numpy.array_equal(kept, goal):
@@ -263,7 +288,11 @@ class Round:
         standing = numpy.flatnonzero(numpy.any(self.lost.fan > 0, axis=1))
         while numpy.any(new):
             met = self.lost.touching(standing, Sums(new, self.plant.counts))
-            inside = Sums(reached, self.plant.counts).over(self.lost.extents(met)) if len(met) else numpy.zeros((0, self.plant.vectors))
+            inside = (
+                Sums(reached, self.plant.counts).over(self.lost.extents(met))
+                if len(met)
+                else numpy.zeros((0, self.plant.vectors))
+            )
             found = met[numpy.any((inside == self.lost.fan[met]) & (self.lost.fan[met] > 0), axis=1)]
             led[self.lost.cells[found]] = True
             new = led & ~reached
@@ -278,6 +307,14 @@ class Round:
         return next((number for number, cells in enumerate(self.alone) if not numpy.any(cells)), None)
 
     def first_apart(self):
-        """The first target from whose cells, of those that can be reached again, the next target's can't be reached, or None."""
+        """The first target from whose cells, of those that can be reached again, the next target's can't be reached, or
+        None."""
         behind = self.alone[1:] + self.alone[:1]
-        return next((number for number, (cells, others) in enumerate(zip(self.alone, behind)) if not numpy.any(cells & self.led(others))), None)
+        return next(
+            (
+                number
+                for number, (cells, others) in enumerate(zip(self.alone, behind))
+                if not numpy.any(cells & self.led(others))
+            ),
+            None,
+        )

@@ -1,5 +1,5 @@
-"""A controller by a table, a stay text or a patrol text: the proved library of crates/controller_c by ctypes where its shared object is found
-(tools/library makes it), else the module's own reader."""
+"""A controller by a table, a stay text or a patrol text: the proved library of crates/controller_c by ctypes where its
+shared object is found (tools/library makes it), else the module's own reader."""
 
 from __future__ import annotations
 
@@ -20,19 +20,20 @@ FOLLOWED = 1
 FAULTS = {1: "malformed: line {}", 2: "limit", 3: "no memory"}
 
 # A state past 64 bits is outside every plant's ranges, as these are.
-FARTHEST = 2 ** 63 - 1
+FARTHEST = 2**63 - 1
 
 Values = Optional[tuple[int, ...]]
 
 
 class Held(ctypes.Structure):
     """The struct gaffcurrant."""
+
     _fields_ = [("is_open", ctypes.c_bool), ("text", ctypes.c_void_p)]
 
 
 def library_path() -> Optional[str]:
-    """The shared object: what GAFFCURRANT_LIBRARY names, else the one of the repository in which this module lies, where it is built, else the one that
-    was installed with the module."""
+    """The shared object: what GAFFCURRANT_LIBRARY names, else the one of the repository in which this module lies,
+    where it is built, else the one that was installed with the module."""
     if named := os.environ.get("GAFFCURRANT_LIBRARY"):
         return named
     for built in (TOOLS.parent / "crates/controller_c/out/libgaffcurrant.so", TOOLS.parent / "libgaffcurrant.so"):
@@ -45,9 +46,17 @@ def library_at(path: str) -> ctypes.CDLL:
     library = ctypes.CDLL(path)
     held, numbers, replies = ctypes.POINTER(Held), ctypes.POINTER(ctypes.c_int64), ctypes.POINTER(ctypes.c_int32)
     number, size = ctypes.POINTER(ctypes.c_uint32), ctypes.c_size_t
-    for name, words in (("open", [ctypes.c_char_p, size, number]), ("control", [numbers, size, numbers, size]), ("sizes", [number, number]),
-                        ("control_each", [numbers, size, numbers, size, replies, size]), ("rank", [numbers, size, number]),
-                        ("visit", [numbers, size, number]), ("begin_turn", [ctypes.c_uint32]), ("follows", [numbers, size] * 3), ("close", [])):
+    for name, words in (
+        ("open", [ctypes.c_char_p, size, number]),
+        ("control", [numbers, size, numbers, size]),
+        ("sizes", [number, number]),
+        ("control_each", [numbers, size, numbers, size, replies, size]),
+        ("rank", [numbers, size, number]),
+        ("visit", [numbers, size, number]),
+        ("begin_turn", [ctypes.c_uint32]),
+        ("follows", [numbers, size] * 3),
+        ("close", []),
+    ):
         call = getattr(library, f"gaffcurrant_{name}")
         call.argtypes, call.restype = [held, *words], None if name == "close" else ctypes.c_int32
     return library
@@ -71,12 +80,19 @@ class Library:
     def replies(self, states: Sequence[Sequence[int]]) -> list[tuple[int, Values]]:
         count = len(states)
         numbers = [value for state in states for value in state]
-        asked, values, replies = (ctypes.c_int64 * len(numbers))(*numbers), (ctypes.c_int64 * (count * self.inputs))(), (ctypes.c_int32 * count)()
+        asked, values, replies = (
+            (ctypes.c_int64 * len(numbers))(*numbers),
+            (ctypes.c_int64 * (count * self.inputs))(),
+            (ctypes.c_int32 * count)(),
+        )
         status = self.calls.gaffcurrant_control_each(self.held, asked, len(asked), values, len(values), replies, count)
         if status:
             raise ValueError("the controller is closed" if status == CLOSED else f"a state has {self.states} numbers")
         starts = range(0, count * self.inputs, self.inputs) if self.inputs else [0] * count
-        return [(reply, tuple(values[at:at + self.inputs]) if reply == APPLY else None) for reply, at in zip(replies, starts)]
+        return [
+            (reply, tuple(values[at : at + self.inputs]) if reply == APPLY else None)
+            for reply, at in zip(replies, starts)
+        ]
 
     def rank(self, state: Sequence[int]) -> Optional[int]:
         rank = ctypes.c_uint32()
@@ -94,7 +110,7 @@ class Library:
         return status == 1
 
     def begin_turn(self, turn: int) -> None:
-        status = self.calls.gaffcurrant_begin_turn(self.held, turn) if 0 <= turn < 2 ** 32 else WRONG_SIZE
+        status = self.calls.gaffcurrant_begin_turn(self.held, turn) if 0 <= turn < 2**32 else WRONG_SIZE
         if status < 0:
             raise ValueError("the controller is closed" if status == CLOSED else f"there is no turn {turn}")
         self.turn = turn
@@ -103,7 +119,11 @@ class Library:
         arrays = [(ctypes.c_int64 * len(numbers))(*numbers) for numbers in (state, values, after)]
         reply = self.calls.gaffcurrant_follows(self.held, *(part for array in arrays for part in (array, len(array))))
         if reply in (WRONG_SIZE, CLOSED):
-            raise ValueError("the controller is closed" if reply == CLOSED else f"a state has {self.states} numbers, and there are {self.inputs} inputs")
+            raise ValueError(
+                "the controller is closed"
+                if reply == CLOSED
+                else f"a state has {self.states} numbers, and there are {self.inputs} inputs"
+            )
         return reply
 
     def close(self) -> None:
@@ -149,14 +169,23 @@ class Rows:
         plant = self.opened().plant
         if len(values) != len(plant.inputs):
             raise ValueError(f"there are {len(plant.inputs)} inputs")
-        cell, there, vectors = plant.cell_of(state), plant.cell_of(after), [k for k in range(plant.vectors) if tuple(plant.vector(k)) == tuple(values)]
+        cell, there, vectors = (
+            plant.cell_of(state),
+            plant.cell_of(after),
+            [k for k in range(plant.vectors) if tuple(plant.vector(k)) == tuple(values)],
+        )
         if cell is None or not vectors:
             return NO_ROW
         plant.check_overflow(Refused)
         low, high = plant.box(cell, vectors[0])
         if there is None or plant.leaves(low, high):
             return 0
-        return int(all(first <= index <= last for (first, last), index in zip(plant.extents(low, high), plant.indices_of(there))))
+        return int(
+            all(
+                first <= index <= last
+                for (first, last), index in zip(plant.extents(low, high), plant.indices_of(there))
+            )
+        )
 
     def due(self) -> Any:
         """The rows of the turn that is due."""
@@ -175,11 +204,13 @@ class Rows:
 
 
 class Controller:
-    """What a table, a stay text or a patrol text applies at states in whole units. is_proved: whether the library answers. Raises Refused where the
-    bytes are no such text. Of a patrol `visit` is called at each sample but the first, before the inputs are asked for.
+    """What a table, a stay text or a patrol text applies at states in whole units. is_proved: whether the library
+    answers. Raises Refused where the bytes are no such text. Of a patrol `visit` is called at each sample but the
+    first, before the inputs are asked for.
 
-    library names the shared object; it is looked for where that is left out, and '' is for the module's own reader. A controller is closed by
-    `close`, at the end of a `with`, or when it is collected; after that it raises ValueError, as at a state of a wrong size."""
+    library names the shared object; it is looked for where that is left out, and '' is for the module's own reader. A
+    controller is closed by `close`, at the end of a `with`, or when it is collected; after that it raises ValueError,
+    as at a state of a wrong size."""
 
     def __init__(self, text: Union[str, bytes], library: Optional[str] = None) -> None:
         data = text.encode() if isinstance(text, str) else bytes(text)
@@ -188,9 +219,10 @@ class Controller:
         self._rows: Union[Library, Rows] = Library(path, data) if path else Rows(data)
 
     def choice(self, state: Iterable[Any]) -> Values:
-        """The values to apply at a state, one for each input, or None in a target, where nothing has to be; raises NoRow."""
+        """The values to apply at a state, one for each input, or None in a target, where nothing has to be; raises
+        NoRow."""
         whole = self.whole(state)
-        (reply, values), = self._rows.replies([whole])
+        ((reply, values),) = self._rows.replies([whole])
         if reply == NO_ROW:
             raise NoRow(f"{whole} has no row")
         return values
@@ -208,9 +240,9 @@ class Controller:
         return rank
 
     def follows(self, state: Iterable[Any], values: Iterable[Any], after: Iterable[Any]) -> bool:
-        """Whether the next state lies in the successor box of the state's cell under these values of the inputs, as it does of a plant that obeys
-        its equations. Raises NoRow where the state is outside the ranges or the values are no input vector, Refused where a number of
-        the plant leaves the range."""
+        """Whether the next state lies in the successor box of the state's cell under these values of the inputs, as it
+        does of a plant that obeys its equations. Raises NoRow where the state is outside the ranges or the values are
+        no input vector, Refused where a number of the plant leaves the range."""
         whole, inputs = self.whole(state), [whole_of(value) for value in values]
         reply = self._rows.follows(whole, inputs, self.whole(after))
         if reply == NO_ROW:
@@ -225,15 +257,18 @@ class Controller:
         return self._rows.turn
 
     def visit(self, state: Iterable[Any]) -> bool:
-        """Whether the next turn of a patrol begins at a state: where the state has come to the target of the turn that is due."""
+        """Whether the next turn of a patrol begins at a state: where the state has come to the target of the turn that
+        is due."""
         return self._rows.visit(self.whole(state))
 
     def begin_turn(self, turn: int) -> None:
-        """Makes a turn of a patrol due, as after a restart of the loop; raises ValueError where there is no such turn."""
+        """Makes a turn of a patrol due, as after a restart of the loop; raises ValueError where there is no such
+        turn."""
         self._rows.begin_turn(turn)
 
     def whole(self, state: Iterable[Any]) -> list[int]:
-        """A state as whole numbers of 64 bits; raises ValueError where it is none, or has too few or too many numbers."""
+        """A state as whole numbers of 64 bits; raises ValueError where it is none, or has too few or too many
+        numbers."""
         whole = [max(-FARTHEST, min(FARTHEST, whole_of(value))) for value in state]
         if len(whole) != self._rows.states:
             raise ValueError(f"a state has {self._rows.states} numbers, here are {len(whole)}")

@@ -13,7 +13,7 @@ def noises(plant, seed):
     while True:
         sample = []
         for _, low, high in plant.noises:
-            state = (state * MULTIPLIER + INCREMENT) % 2 ** 64
+            state = (state * MULTIPLIER + INCREMENT) % 2**64
             sample.append(low + (state >> 33) % (high - low + 1))
         yield sample
 
@@ -32,8 +32,8 @@ def run(plant, row_of, start, seed, most):
 
 
 def patrol_run(plant, row_of, arrives, start, seed, most, turn=0):
-    """The samples of a run by a patrol as (turn, state), from a turn: until a cell without a row, or `most` steps. row_of gives the row of a
-    cell in a turn, or None; arrives tells whether a cell is an arrival of a turn."""
+    """The samples of a run by a patrol as (turn, state), from a turn: until a cell without a row, or `most` steps.
+    row_of gives the row of a cell in a turn, or None; arrives tells whether a cell is an arrival of a turn."""
     samples, state = [(turn, list(start))], list(start)
     for _, noise in zip(range(most), noises(plant, seed)):
         cell = plant.cell_of(state)
@@ -71,12 +71,13 @@ def read_trace(data, plant):
             break
         try:
             at = 2 if words[0] == "lost" else 1
-            states.append([int(word) for word in words[at:at + wide]])
+            states.append([int(word) for word in words[at : at + wide]])
             if len(states[-1]) < wide or len(words) != wide + (2 if at == 2 else 3):
                 raise ValueError
         except ValueError:
-            raise Refused(f"malformed: line {number}", f"a sample has its time, {wide} states, a rank and an input",
-                          number) from None
+            raise Refused(
+                f"malformed: line {number}", f"a sample has its time, {wide} states, a rank and an input", number
+            ) from None
     if not states:
         raise Refused("malformed: line 2", "the trace has no sample", 2)
     return states

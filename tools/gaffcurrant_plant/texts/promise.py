@@ -6,7 +6,8 @@ from typing import Any
 
 
 def turn_after(turn: Any, has_arrived: Any, turns: int) -> Any:
-    """The turn of a patrol after a sample: the next one of so many where the sample is an arrival of the turn, else the same."""
+    """The turn of a patrol after a sample: the next one of so many where the sample is an arrival of the turn, else the
+    same."""
     return (turn + has_arrived) % turns
 
 

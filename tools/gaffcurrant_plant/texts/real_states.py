@@ -14,7 +14,8 @@ if TYPE_CHECKING:
 
 
 class Real:
-    """The rows of a table, a stay text or a turn of a patrol, asked with real states. A float counts as the decimal number that it is printed as."""
+    """The rows of a table, a stay text or a turn of a patrol, asked with real states. A float counts as the decimal
+    number that it is printed as."""
 
     def __init__(self, table: Table, units: Units) -> None:
         self.table, self.units = table, units
@@ -28,8 +29,12 @@ class Real:
         return [math.floor(exact(value) / self.units.size(name)) for value, name in zip(values, names)]
 
     def middle(self, whole: Iterable[int]) -> tuple[float, ...]:
-        """A state in the model's units: the middles of the units of its whole numbers, and what is a whole number by itself as it is."""
-        return tuple(float((2 * number + (name not in self.units.exact)) * self.units.size(name) / 2) for number, (name, *_) in zip(whole, self.table.plant.states))
+        """A state in the model's units: the middles of the units of its whole numbers, and what is a whole number by
+        itself as it is."""
+        return tuple(
+            float((2 * number + (name not in self.units.exact)) * self.units.size(name) / 2)
+            for number, (name, *_) in zip(whole, self.table.plant.states)
+        )
 
     def rank(self, state: Iterable[Any]) -> Optional[int]:
         """The number of samples that suffice from a real state, or None with goal keep; raises NoRow."""
@@ -41,7 +46,9 @@ class Real:
         if number is None:
             return None
         plant = self.table.plant
-        return tuple(float(value * self.units.size(name)) for value, (name, _) in zip(plant.vector(number), plant.inputs))
+        return tuple(
+            float(value * self.units.size(name)) for value, (name, _) in zip(plant.vector(number), plant.inputs)
+        )
 
     def row(self, state: Iterable[Any]) -> Row:
         """Rank and input of the row of a real state's cell; raises NoRow, which says the state in the model's units."""
@@ -60,12 +67,14 @@ class RealPatrol:
         self.patrol, self.turns = patrol, [Real(turn, units) for turn in patrol.turns]
 
     def turn_after(self, number: int, state: Iterable[Any]) -> int:
-        """The turn after a sample in a real state: the next one where the state has come to the turn's target, else the same."""
+        """The turn after a sample in a real state: the next one where the state has come to the turn's target, else the
+        same."""
         return self.patrol.turn_after(number, self.turns[number].whole(state))
 
 
 def exact(value: Any) -> Fraction:
-    """A number as a fraction; a float as the decimal number that it is printed as. NaN and infinities are a ValueError."""
+    """A number as a fraction; a float as the decimal number that it is printed as. NaN and infinities are a
+    ValueError."""
     if isinstance(value, (int, Fraction)):
         return Fraction(value)
     if not math.isfinite(value):

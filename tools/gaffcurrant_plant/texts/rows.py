@@ -1,4 +1,5 @@
-"""Reads the lines behind the plant of a table, of a stay text and of a patrol text: which rows they give to which cells."""
+"""Reads the lines behind the plant of a table, of a stay text and of a patrol text: which rows they give to which
+cells."""
 
 import re
 from operator import le, lt
@@ -34,7 +35,7 @@ def front_of(data, kinds=("table",)):
     found = re.search(rb"^end\n", data, re.MULTILINE)
     if not found:
         raise Refused(f"malformed: line {len(lines_of(data)) + 1}", f"the plant of the {kind} has no end")
-    front = lines_of(data[:found.end()])
+    front = lines_of(data[: found.end()])
     try:
         plant = read_lines(front[1:])
     except Refused as refusal:
@@ -64,7 +65,7 @@ class Lines:
     """The lines behind a front, one by one."""
 
     def __init__(self, data, front):
-        self.front, self.lines, self.at = front, lines_of(data[front.at:]), 0
+        self.front, self.lines, self.at = front, lines_of(data[front.at :]), 0
         self.is_whole = data.endswith(b"\n")
 
     def refuse(self, reason, back=0):
@@ -89,7 +90,9 @@ class Lines:
     def rows(self, before):
         """The rows by the row lines behind a line of the words `before` and their number."""
         count = self.row_count(before)
-        quick = quick_rows(self.lines[self.at:self.at + count], self.front) if self.at + count < len(self.lines) else None
+        quick = (
+            quick_rows(self.lines[self.at : self.at + count], self.front) if self.at + count < len(self.lines) else None
+        )
         if quick is not None:
             self.at += count
             return quick
@@ -100,11 +103,14 @@ class Lines:
         return rows
 
     def runs(self, before):
-        """The first and last cell, rank and input of each row line behind a line of the words `before` and their number."""
+        """The first and last cell, rank and input of each row line behind a line of the words `before` and their
+        number."""
         return self.run_lines(before, self.row_count(before))
 
     def row_count(self, before):
-        return self.counted(before, f"`{before.strip()} N` is due here, with at most {self.front.plant.cells} lines behind it")
+        return self.counted(
+            before, f"`{before.strip()} N` is due here, with at most {self.front.plant.cells} lines behind it"
+        )
 
     def run_lines(self, before, count):
         """The first and last cell, rank and input of each of so many row lines."""
@@ -131,13 +137,22 @@ def quick_rows(lines, front):
     if not (IN_RUNS if wide == 4 else SINGLE).fullmatch(text):
         return None
     numbers = list(map(int, text.replace("-", "-1").split()))
-    firsts, lasts, ranks, inputs = numbers[::wide], numbers[wide - 3::wide], numbers[wide - 2::wide], numbers[wide - 1::wide]
+    firsts, lasts, ranks, inputs = (
+        numbers[::wide],
+        numbers[wide - 3 :: wide],
+        numbers[wide - 2 :: wide],
+        numbers[wide - 1 :: wide],
+    )
     pairs = list(zip(ranks, inputs))
-    if not (all(map(le, firsts, lasts)) and all(map(lt, lasts, firsts[1:])) and (not lasts or lasts[-1] < front.plant.cells)):
+    if not (
+        all(map(le, firsts, lasts)) and all(map(lt, lasts, firsts[1:])) and (not lasts or lasts[-1] < front.plant.cells)
+    ):
         return None
     if any(is_wrong_pair(*pair, front) for pair in set(pairs)):
         return None
-    if wide == 4 and any(first == last + 1 and pair == before for first, last, pair, before in zip(firsts[1:], lasts, pairs[1:], pairs)):
+    if wide == 4 and any(
+        first == last + 1 and pair == before for first, last, pair, before in zip(firsts[1:], lasts, pairs[1:], pairs)
+    ):
         return None
     rows = {}
     for first, last, (rank, choice) in zip(firsts, lasts, pairs):
@@ -155,9 +170,10 @@ def is_wrong_pair(rank, choice, front):
 
 
 def row_fault(words, front, last, row):
-    """Why the words are no row line behind the one before, which had this last cell and these words for rank and input; or None."""
+    """Why the words are no row line behind the one before, which had this last cell and these words for rank and input;
+    or None."""
     runs = front.in_runs()
-    if len(words) != 3 + runs or not all(map(NUMBER.match, words[:1 + runs])):
+    if len(words) != 3 + runs or not all(map(NUMBER.match, words[: 1 + runs])):
         return "a row line has the words FIRST LAST RANK INPUT" if runs else "a row has the words CELL RANK INPUT"
     first, end = int(words[0]), int(words[-3])
     if end >= front.plant.cells:

@@ -20,8 +20,9 @@ Disturbance = Callable[[int, tuple[int, ...], tuple[int, ...]], Sequence[Any]]
 
 
 class Sample(NamedTuple):
-    """One sample of a run: its time, the state, the rank (None with goal keep), the values applied (None in the target of a table
-    with goal reach), and of a patrol the turn, whose target the plant is on its way to."""
+    """One sample of a run: its time, the state, the rank (None with goal keep), the values applied (None in the target
+    of a table with goal reach), and of a patrol the turn, whose target the plant is on its way to."""
+
     time: int
     state: tuple[int, ...]
     rank: Optional[int]
@@ -30,8 +31,9 @@ class Sample(NamedTuple):
 
 
 def program() -> str:
-    """The program: what GAFFCURRANT names, else the launcher of the repository in which this module lies or from which it was installed, which
-    builds it where that is due, else the one that was installed with the module, else `gaffcurrant` as the shell finds it."""
+    """The program: what GAFFCURRANT names, else the launcher of the repository in which this module lies or from which
+    it was installed, which builds it where that is due, else the one that was installed with the module, else
+    `gaffcurrant` as the shell finds it."""
     if named := os.environ.get("GAFFCURRANT"):
         if not shutil.which(named):
             raise Trouble(f"the environment variable GAFFCURRANT names `{named}`, and there is no such program")
@@ -48,11 +50,13 @@ def scale(model_text: Union[str, bytes], version: Optional[int] = None) -> str:
     """The plant text of a model, as tools/scale makes it; raises Trouble where the model can't be read or scaled."""
     from ..models.model import read_model
     from ..models.best_plant import planted
+
     model = read_model(model_text.encode() if isinstance(model_text, str) else bytes(model_text))
     model.version = version or model.version
     planting = planted(model)
     if model.between:
         from ..ways.wider_obstacles import text_between
+
         return str(text_between(planting, model.between, model.has_bounds, Progress("scale")))
     return str(planting.text)
 
@@ -87,12 +91,19 @@ def written(word: str, plant_text: Union[str, bytes], workers: int) -> bytes:
     raise Refused(answer, f"the program ended with status {done.returncode}")
 
 
-def simulate(table: Union[Table, Patrol], state: Iterable[Any], disturbance: Optional[Disturbance] = None, samples: int = 1000, seed: int = 0,
-             turn: int = 0) -> list[Sample]:
-    """A run of a plant from a state by its Table, Stay or Patrol, as a list of Samples: until the target of a table is reached, or for so
-    many steps. disturbance is called with the time, the state and the inputs' values, and answers the noises of that sample, each within its
-    range; where it is left out, they are those that the program's `sim` draws from the seed. A patrol begins with a turn, and goes over to
-    the next where a later sample has come to the turn's target. Raises NoRow where a state has no row."""
+def simulate(
+    table: Union[Table, Patrol],
+    state: Iterable[Any],
+    disturbance: Optional[Disturbance] = None,
+    samples: int = 1000,
+    seed: int = 0,
+    turn: int = 0,
+) -> list[Sample]:
+    """A run of a plant from a state by its Table, Stay or Patrol, as a list of Samples: until the target of a table is
+    reached, or for so many steps. disturbance is called with the time, the state and the inputs' values, and answers
+    the noises of that sample, each within its range; where it is left out, they are those that the program's `sim`
+    draws from the seed. A patrol begins with a turn, and goes over to the next where a later sample has come to the
+    turn's target. Raises NoRow where a state has no row."""
     plant, run = table.plant, list[Sample]()
     whole = [int(value) for value in state]
     drawn: Iterable[Any] = noises(plant, seed) if disturbance is None else repeat(None)
@@ -116,7 +127,9 @@ def simulate(table: Union[Table, Patrol], state: Iterable[Any], disturbance: Opt
 def checked(plant: Any, noise: Iterable[Any]) -> list[int]:
     """The noises of a sample as whole numbers; raises ValueError where they aren't what the plant allows."""
     whole = [int(value) for value in noise]
-    if len(whole) != len(plant.noises) or any(not low <= value <= high for value, (_, low, high) in zip(whole, plant.noises)):
+    if len(whole) != len(plant.noises) or any(
+        not low <= value <= high for value, (_, low, high) in zip(whole, plant.noises)
+    ):
         wanted = ", ".join(f"{name} {low} to {high}" for name, low, high in plant.noises)
         raise ValueError(f"the disturbance {whole} isn't one of the plant's ({wanted or 'it has none'})")
     return whole

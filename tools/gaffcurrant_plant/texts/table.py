@@ -1,5 +1,6 @@
-"""What the program writes of a plant, to be asked for rows, ranks and inputs: a table, a stay text that brings the plant into its target and
-keeps it there, and a patrol text that visits the targets in turn. docs/FORMATS.md gives the texts."""
+"""What the program writes of a plant, to be asked for rows, ranks and inputs: a table, a stay text that brings the
+plant into its target and keeps it there, and a patrol text that visits the targets in turn. docs/FORMATS.md gives the
+texts."""
 
 from __future__ import annotations
 
@@ -32,7 +33,8 @@ def whole_of(value: Any) -> int:
 
 
 def whole_state(plant: Plant, state: Iterable[Any]) -> list[int]:
-    """The numbers of a state as ints; raises ValueError where one is no whole number, or where there isn't one for each of the plant's states."""
+    """The numbers of a state as ints; raises ValueError where one is no whole number, or where there isn't one for each
+    of the plant's states."""
     whole = [whole_of(value) for value in state]
     if len(whole) != len(plant.states):
         names = ", ".join(name for name, *_ in plant.states)
@@ -54,7 +56,8 @@ class Table:
         return self.plant.goal == "keep"
 
     def row(self, state: Iterable[Any]) -> Row:
-        """Rank and input of the row of a state's cell; raises NoRow. A state has a whole number for each of the plant's."""
+        """Rank and input of the row of a state's cell; raises NoRow. A state has a whole number for each of the
+        plant's."""
         whole = whole_state(self.plant, state)
         row = self.rows.get(self.plant.cell_of(whole))
         if row is None:
@@ -66,13 +69,15 @@ class Table:
         return self.row(state)[0]
 
     def choice(self, state: Iterable[Any]) -> Optional[tuple[int, ...]]:
-        """The values to apply at a state, one for each input, or None in a target, where nothing has to be; raises NoRow."""
+        """The values to apply at a state, one for each input, or None in a target, where nothing has to be; raises
+        NoRow."""
         number = self.row(state)[1]
         return None if number is None else tuple(self.plant.vector(number))
 
     def in_units(self, units: Units) -> Real:
         """The same rows, asked in a model's units, by what `read_units` reads."""
         from .real_states import Real
+
         return Real(self, units)
 
     def has(self, cell: Optional[int]) -> bool:
@@ -114,12 +119,15 @@ class Patrol:
     def __init__(self, plant: Plant, rows: Sequence[dict[int, Row]], version: int = 1) -> None:
         self.plant, self.version = plant, version
         count = len(rows)
-        arrivals = [arrivals_of(plant, box, rows[turn_after(turn, True, count)]) for turn, box in enumerate(plant.targets)]
+        arrivals = [
+            arrivals_of(plant, box, rows[turn_after(turn, True, count)]) for turn, box in enumerate(plant.targets)
+        ]
         self.turns = [Turn(plant, *entry) for entry in zip(rows, range(count), arrivals)]
 
     def in_units(self, units: Units) -> RealPatrol:
         """The same turns, asked in a model's units, by what `read_units` reads."""
         from .real_states import RealPatrol
+
         return RealPatrol(self, units)
 
     def turn_after(self, number: int, state: Sequence[int]) -> int:
@@ -144,7 +152,8 @@ def read_table(data: bytes) -> Table:
 
 
 def read_text(data: bytes, kinds: Sequence[str] = ("table", "stay", "patrol")) -> Any:
-    """What the bytes spell, a Table, a Stay or a Patrol, or raises Refused for the first line that is none of such a text."""
+    """What the bytes spell, a Table, a Stay or a Patrol, or raises Refused for the first line that is none of such a
+    text."""
     front = front_of(data, kinds)
     lines = Lines(data, front)
     if front.kind == "patrol":

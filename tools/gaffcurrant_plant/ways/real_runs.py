@@ -1,5 +1,5 @@
-"""Drives a model's own equations in doubles by a table, a stay text or a patrol text, many runs at once, and watches what the text promises.
-Needs numpy."""
+"""Drives a model's own equations in doubles by a table, a stay text or a patrol text, many runs at once, and watches
+what the text promises. Needs numpy."""
 
 from collections import Counter
 
@@ -11,9 +11,10 @@ from ..texts.table import read_text
 from .doubles import NEAR, RealPlant, column, numpy
 from .starts import PUSHES, STARTS, Pushes, Starts
 
-# Samples behind the greatest rank in which a plant is watched in its targets, those with goal keep, and the most of any run.
+# Samples behind the greatest rank in which a plant is watched in its targets, those with goal keep, and the most of any
+# run.
 STAYED, KEPT, MOST = 50, 200, 2000
-MOST_RUNS = 10 ** 6
+MOST_RUNS = 10**6
 
 
 def longest(rows):
@@ -26,10 +27,11 @@ def longest(rows):
 
 
 class Outcome:
-    """What was seen of so many runs. violations counts the runs that broke a promise, by what they broke; first says what the first one broke, and trace
-    has its samples (time, turn, state, rank, input). starts counts the runs by where they begin, and broken those of them that broke a promise; both are
-    empty where the first state was given. touched and left count the runs whose way between samples lay in an obstacle or outside of the domain; touch
-    has the time, the state and the run's number where that came first."""
+    """What was seen of so many runs. violations counts the runs that broke a promise, by what they broke; first says
+    what the first one broke, and trace has its samples (time, turn, state, rank, input). starts counts the runs by
+    where they begin, and broken those of them that broke a promise; both are empty where the first state was given.
+    touched and left count the runs whose way between samples lay in an obstacle or outside of the domain; touch has the
+    time, the state and the run's number where that came first."""
 
     def __init__(self, runs):
         self.runs, self.samples, self.violations = runs, 0, Counter()
@@ -39,8 +41,8 @@ class Outcome:
 
 
 class Record:
-    """What a data logger writes of runs: each sample's time, state and applied input, and the state behind the last one. parts: of each sample the runs, the states,
-    the numbers of the input vectors, and the states behind it."""
+    """What a data logger writes of runs: each sample's time, state and applied input, and the state behind the last
+    one. parts: of each sample the runs, the states, the numbers of the input vectors, and the states behind it."""
 
     def __init__(self, real, vectors):
         self.real, self.vectors, self.parts = real, vectors, []
@@ -65,7 +67,10 @@ class Record:
 
 def fields(time, state, inputs):
     """A line of a log."""
-    return ",".join(one if isinstance(one, str) else repr(float(one)).removesuffix(".0") for one in [float(f"{time:.12g}"), *state, *inputs])
+    return ",".join(
+        one if isinstance(one, str) else repr(float(one)).removesuffix(".0")
+        for one in [float(f"{time:.12g}"), *state, *inputs]
+    )
 
 
 class Loop:
@@ -74,11 +79,19 @@ class Loop:
     def __init__(self, model, text, runs, seed):
         self.real, self.outcome = RealPlant(model), Outcome(runs)
         from ..texts.arrays import Rows
+
         self.rows = Rows(text)
-        self.exact, self.comes_round = (numpy.array([name in some for name in self.real.names]).reshape(-1, 1) for some in (model.exact, model.wraps))
+        self.exact, self.comes_round = (
+            numpy.array([name in some for name in self.real.names]).reshape(-1, 1)
+            for some in (model.exact, model.wraps)
+        )
         sizes = [unit for _, unit, _ in model.inputs]
         vectors = [self.rows.plant.vector(k) for k in range(self.rows.plant.vectors)]
-        self.vectors = numpy.array([[float(value * size) for value, size in zip(vector, sizes)] for vector in vectors]).reshape(len(vectors), -1).T
+        self.vectors = (
+            numpy.array([[float(value * size) for value, size in zip(vector, sizes)] for vector in vectors])
+            .reshape(len(vectors), -1)
+            .T
+        )
         draws = numpy.random.default_rng(seed)
         # Each turn has runs of each kind of start and of disturbance.
         self.turns = numpy.arange(runs) // (len(STARTS) * len(PUSHES)) % len(self.rows.won)
@@ -87,11 +100,11 @@ class Loop:
         self.history, self.record = [], None
 
     def measured(self, states):
-        """The whole numbers that a device finds in doubles: those of the units that the values lie in; of an exact state the nearest. Those of a state
-        that comes round are brought back into its range."""
+        """The whole numbers that a device finds in doubles: those of the units that the values lie in; of an exact
+        state the nearest. Those of a state that comes round are brought back into its range."""
         scaled = states / self.real.units
         whole = numpy.where(self.exact, numpy.round(scaled), numpy.floor(scaled))
-        whole = numpy.nan_to_num(numpy.clip(whole, -2.0 ** 52, 2.0 ** 52), nan=-2.0 ** 52).astype(int)
+        whole = numpy.nan_to_num(numpy.clip(whole, -(2.0**52), 2.0**52), nan=-(2.0**52)).astype(int)
         low, turn = self.rows.low, self.rows.high + 1 - self.rows.low
         return numpy.where(self.comes_round, low + (whole - low) % turn, whole)
 
@@ -119,7 +132,10 @@ class Loop:
             runs, states, cells = runs[go_on], states[:, go_on], cells[go_on]
         self.outcome.touched, self.outcome.left = int(self.has_touched.sum()), int(self.has_left.sum())
         if not is_given:
-            for kinds, counts in ((self.begins.kinds, self.outcome.starts), (self.begins.kinds[self.has_broken], self.outcome.broken)):
+            for kinds, counts in (
+                (self.begins.kinds, self.outcome.starts),
+                (self.begins.kinds[self.has_broken], self.outcome.broken),
+            ):
                 counts.update(STARTS[kind] for kind in kinds.tolist())
         return self.outcome
 
@@ -141,15 +157,20 @@ class Loop:
         rows, real = self.rows, self.real
         good = self.noted(time, "a sample lies in an obstacle", runs, states, real.touches(states))
         if rows.kind == "table" and not rows.keeps:
-            good &= self.noted(time, "the state of rank 0 is in no target", runs, states, (inputs < 0) & ~real.is_in_target(states))
+            good &= self.noted(
+                time, "the state of rank 0 is in no target", runs, states, (inputs < 0) & ~real.is_in_target(states)
+            )
         elif rows.kind == "stay":
             held = self.history[-1][3] == 0
-            good &= self.noted(time, "the state of rank 0 is in no target", runs, states, held & ~real.is_in_target(states))
+            good &= self.noted(
+                time, "the state of rank 0 is in no target", runs, states, held & ~real.is_in_target(states)
+            )
         off = self.exact & (abs(states / real.units - numpy.round(states / real.units)) > NEAR)
         return good & self.noted(time, "an exact state is no whole number of units", runs, states, off.any(axis=0))
 
     def follows(self, time, runs, states, ranks, cells):
-        """Which runs have a row at a rank below the one before; a patrol's turn goes on where its target was reached."""
+        """Which runs have a row at a rank below the one before; a patrol's turn goes on where its target was
+        reached."""
         rows, turns = self.rows, self.turns[runs]
         arrived = rows.arrivals[turns, cells]
         for turn in range(len(rows.won)) if rows.kind == "patrol" else ():
@@ -178,15 +199,24 @@ class Loop:
         samples = []
         for before, (runs, turns, states, ranks, inputs) in enumerate(self.history[:time]):
             at = int(numpy.searchsorted(runs, run))
-            samples.append((before, int(turns[at]) if self.rows.kind == "patrol" else None, states[:, at].tolist(), int(ranks[at]), int(inputs[at])))
+            samples.append(
+                (
+                    before,
+                    int(turns[at]) if self.rows.kind == "patrol" else None,
+                    states[:, at].tolist(),
+                    int(ranks[at]),
+                    int(inputs[at]),
+                )
+            )
         return samples + [(time, None, state.tolist(), None, None)]
 
 
 def real_runs(model, text, runs=2000, samples=None, seed=1, state=None, turn=None, log=None):
-    """The Outcome of so many runs of a model's own equations by a Table, a Stay or a Patrol, in doubles. model is a Model, or its text; text may be str or
-    bytes too; samples is the most of a run, as many as the ranks ask for where it is left out; state is the first state of all runs in the model's units,
-    and turn the turn of a patrol with which they all begin, where else they begin with all turns; log is a file, open for text, for a log of the runs.
-    Raises Trouble where the text is of another model, and Refused where it is none."""
+    """The Outcome of so many runs of a model's own equations by a Table, a Stay or a Patrol, in doubles. model is a
+    Model, or its text; text may be str or bytes too; samples is the most of a run, as many as the ranks ask for where
+    it is left out; state is the first state of all runs in the model's units, and turn the turn of a patrol with which
+    they all begin, where else they begin with all turns; log is a file, open for text, for a log of the runs. Raises
+    Trouble where the text is of another model, and Refused where it is none."""
     if not isinstance(model, Model):
         model = read_model(bytes_of(model))
     if isinstance(text, (str, bytes, bytearray)):

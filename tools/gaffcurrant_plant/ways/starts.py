@@ -10,8 +10,8 @@ PUSHES = ("random", "ends", "held", "switching", "still")
 
 
 class Starts:
-    """First states: within cells with a row, on their corners by either way of computing these, on whole units, and with states at 0. kinds: for each
-    run the number of its kind in STARTS."""
+    """First states: within cells with a row, on their corners by either way of computing these, on whole units, and
+    with states at 0. kinds: for each run the number of its kind in STARTS."""
 
     def __init__(self, real, rows, exact, draws):
         self.real, self.rows, self.exact, self.draws = real, rows, exact, draws
@@ -24,15 +24,19 @@ class Starts:
         indices = numpy.array(numpy.unravel_index(cells, self.rows.plant.counts))
         firsts = self.rows.low + indices * self.rows.width
         shares = self.draws.random(firsts.shape)
-        corners = numpy.where(self.draws.random(len(cells)) < 0.5, self.nearest(firsts), self.real.lows + self.widths * indices)
+        corners = numpy.where(
+            self.draws.random(len(cells)) < 0.5, self.nearest(firsts), self.real.lows + self.widths * indices
+        )
         at_zero = (self.rows.low <= 0) & (self.rows.high >= 0) & (self.draws.random(firsts.shape) < 0.7)
         within = self.within(firsts, shares)
         self.kinds = numpy.arange(len(cells)) % len(STARTS)
         # Where no state was put at 0 the run begins on a corner.
         self.kinds[(self.kinds == REST) & ~at_zero.any(axis=0)] = CORNER
-        states = numpy.select([self.kinds == WITHIN, self.kinds == CORNER, self.kinds == WHOLE],
-                              [within, corners, self.nearest(firsts + numpy.floor(shares * self.rows.width).astype(int))],
-                              numpy.where(at_zero, 0.0, corners))
+        states = numpy.select(
+            [self.kinds == WITHIN, self.kinds == CORNER, self.kinds == WHOLE],
+            [within, corners, self.nearest(firsts + numpy.floor(shares * self.rows.width).astype(int))],
+            numpy.where(at_zero, 0.0, corners),
+        )
         for other, kind in ((corners, CORNER), (within, WITHIN)):
             has_row = self.rows.won[turns, self.rows.cell_of(measured(states))]
             states = numpy.where(has_row, states, other)
@@ -54,16 +58,24 @@ class Starts:
 
     def nearest(self, whole):
         """The doubles nearest to whole numbers of units."""
-        return numpy.array([[value * size.numerator / size.denominator for value in row] for row, size in zip(whole.tolist(), self.sizes)])
+        return numpy.array(
+            [
+                [value * size.numerator / size.denominator for value in row]
+                for row, size in zip(whole.tolist(), self.sizes)
+            ]
+        )
 
     def within(self, firsts, shares):
         """States within cells, a little off their bounds; exact states on a whole number."""
         width = self.rows.width
-        return (firsts + numpy.where(self.exact, numpy.floor(shares * width), (0.001 + 0.998 * shares) * width)) * self.real.units
+        return (
+            firsts + numpy.where(self.exact, numpy.floor(shares * width), (0.001 + 0.998 * shares) * width)
+        ) * self.real.units
 
 
 class Pushes:
-    """The disturbances of runs: random, at ends, held at ends, switching from end to end, and still: 0, or the end that is nearest to it."""
+    """The disturbances of runs: random, at ends, held at ends, switching from end to end, and still: 0, or the end that
+    is nearest to it."""
 
     def __init__(self, real, runs, draws):
         self.real, self.draws = real, draws
@@ -71,7 +83,8 @@ class Pushes:
         self.kinds = numpy.arange(runs) // len(STARTS) % len(PUSHES)
 
     def parts(self, runs, time):
-        """The disturbances of a sample of these runs, part by part; where the model knows samples alone, the same in each part."""
+        """The disturbances of a sample of these runs, part by part; where the model knows samples alone, the same in
+        each part."""
         is_steady = not self.real.is_flow or self.real.of_matrix
         parts = [self.part(runs, time + part // 2) for part in range(1 if is_steady else PARTS)]
         return parts * PARTS if is_steady else parts
@@ -80,6 +93,13 @@ class Pushes:
         low, high = self.real.noise_ends
         held, kinds = self.is_high[:, runs], self.kinds[runs]
         shares = self.draws.random(held.shape)
-        return numpy.select([kinds == 0, kinds == 1, kinds == 2, kinds == 3],
-                            [low + shares * (high - low), numpy.where(shares < 0.5, low, high), numpy.where(held, low, high),
-                             numpy.where(held ^ (beat % 2 == 1), low, high)], numpy.clip(0.0, low, high) + 0.0 * shares)
+        return numpy.select(
+            [kinds == 0, kinds == 1, kinds == 2, kinds == 3],
+            [
+                low + shares * (high - low),
+                numpy.where(shares < 0.5, low, high),
+                numpy.where(held, low, high),
+                numpy.where(held ^ (beat % 2 == 1), low, high),
+            ],
+            numpy.clip(0.0, low, high) + 0.0 * shares,
+        )
