@@ -53,6 +53,21 @@ def install(top, entries):
 def uninstall(top):
     """Takes away what the list names: files, what Python compiled of them, and the folders that were made for them,
     where these are then empty."""
+    names = listed(top)
+    files = [top / name for name in names if not name.endswith("/")]
+    folders = [top / name for name in names if name.endswith("/")]
+    caches = {path.parent / "__pycache__" for path in files if path.suffix == ".py"}
+    for path in filter(os.path.lexists, files):
+        path.unlink()
+        for compiled in (path.parent / "__pycache__").glob(f"{path.stem}.*.pyc") if path.suffix == ".py" else ():
+            compiled.unlink()
+    for folder in [*caches, *reversed(folders)]:
+        if folder.is_dir() and not folder.is_symlink() and not any(folder.iterdir()):
+            folder.rmdir()
+
+
+def listed(top):
+    """The names in the list of what was installed below a folder."""
     try:
         names = (top / tree.LIST).read_text().splitlines()
     except FileNotFoundError:
@@ -60,19 +75,7 @@ def uninstall(top):
     for name in names:
         if name.startswith("/") or ".." in Path(name).parts:
             raise Trouble(f"{top / tree.LIST} names {name}, which doesn't lie below {top}")
-    caches = set()
-    for name in names:
-        path = top / name
-        if not name.endswith("/") and os.path.lexists(path):
-            path.unlink()
-            if path.suffix == ".py":
-                compiled = path.parent / "__pycache__"
-                caches.add(compiled)
-                for file in compiled.glob(f"{path.stem}.*.pyc"):
-                    file.unlink()
-    for folder in [*caches, *reversed([top / name for name in names if name.endswith("/")])]:
-        if folder.is_dir() and not folder.is_symlink() and not any(folder.iterdir()):
-            folder.rmdir()
+    return names
 
 
 def time_of(known):

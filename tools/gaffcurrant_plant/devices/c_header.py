@@ -107,7 +107,7 @@ class Header:
                 "uint32_t", "FIRST", self.sized("RUNS"), firsts
             )
         else:
-            numbers, ranks = ([number for part in parts for number in part] for parts in (codes.of_parts, codes.ranks))
+            numbers, ranks = codes.flat()
             size, lines = f"[{self.before}TURNS * {self.before}CELLS]" if self.of_turns else f"[{len(numbers)}]", []
         lines += self.array(kind, "ROW", size, numbers)
         if self.with_ranks:
@@ -121,25 +121,20 @@ class Header:
         number * INPUT_UNIT. As doubles, and as fractions where they are numbers of 64 bits."""
         if not self.units:
             return []
-        plant, units = self.plant, self.units
-        words = ", ".join(units.label(name) for name in plant.names() if name in units.words)
+        words = ", ".join(self.units.label(name) for name in self.plant.names() if name in self.units.words)
         lines = [f"/* {words} */"] * bool(words)
-        for name, size, names in (
-            ("UNIT", self.sized("STATES"), [state[0] for state in plant.states]),
-            ("INPUT_UNIT", "[]", [name for name, _ in plant.inputs]),
-        ):
-            sizes = [units.size(one) for one in names] or [0]
-            lines.append(
-                f"static const double {self.before}{name}{size} = {list_of([double_of(one) for one in sizes])};"
-            )
-            if None not in self.fractions:
-                pairs = [fraction_of(one) for one in sizes]
-                lines += self.array(
-                    "int64_t",
-                    f"{name}_FRACTION",
-                    "[][2]",
-                    [number for pair in pairs for number in pair],
-                    f"{{{', '.join(map(list_of, pairs))}}}",
-                )
-        exact = [int(state[0] in self.exact) for state in plant.states]
+        lines += self.sizes("UNIT", self.sized("STATES"), self.plant.states)
+        lines += self.sizes("INPUT_UNIT", "[]", self.plant.inputs)
+        exact = [int(state[0] in self.exact) for state in self.plant.states]
         return lines + self.array("uint8_t", "EXACT", self.sized("STATES"), exact, list_of(exact))
+
+    def sizes(self, name, size, entries):
+        """The arrays of what the number 1 of each state, or of each input, stands for."""
+        sizes = [self.units.size(entry[0]) for entry in entries] or [0]
+        doubles = list_of([double_of(one) for one in sizes])
+        lines = [f"static const double {self.before}{name}{size} = {doubles};"]
+        if None not in self.fractions:
+            pairs = [fraction_of(one) for one in sizes]
+            flat, said = [number for pair in pairs for number in pair], f"{{{', '.join(map(list_of, pairs))}}}"
+            lines += self.array("int64_t", f"{name}_FRACTION", "[][2]", flat, said)
+        return lines

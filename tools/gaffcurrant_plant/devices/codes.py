@@ -27,6 +27,10 @@ class Codes:
             codes[cell] = self.arrived if choice is None else choice
         return codes
 
+    def flat(self):
+        """The numbers and the ranks of all cells, turn by turn."""
+        return ([number for part in parts for number in part] for parts in (self.of_parts, self.ranks))
+
     def runs(self, with_ranks):
         """The first cell of each run of cells with one number, and where ranks are asked for with one rank; the
         numbers, the ranks, and for each part the number of its first run, and behind all."""

@@ -64,7 +64,7 @@ def rows_of(codes, given):
         firsts, numbers, ranks, begins = codes.runs(given.ranks)
         arrays = [("begin_of", "double", begins), ("first", "uint32", firsts), ("row", kind, numbers)]
     else:
-        numbers, ranks = ([number for part in parts for number in part] for parts in (codes.of_parts, codes.ranks))
+        numbers, ranks = codes.flat()
         arrays = [("row", kind, numbers)]
     return arrays + [("ranks", rank_kind, ranks)] * given.ranks
 

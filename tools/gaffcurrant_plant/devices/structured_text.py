@@ -74,32 +74,33 @@ class Block:
 
     def constants(self):
         """The arrays; of a patrol the rows of one turn behind those of the other."""
-        plant, codes, kind = self.plant, self.codes, "USINT" if self.codes.bits == 8 else "UINT"
-        lines = []
-        for name, values in (
-            ("LOW", [state[1] for state in plant.states]),
-            ("HIGH", [state[2] for state in plant.states]),
-            ("WIDTH", [state[3] for state in plant.states]),
-            ("COUNT", plant.counts),
-            ("VALUES", [len(values) for _, values in plant.inputs] or [1]),
-            (
-                "VALUE",
-                [value for _, values in plant.inputs for value in values + [0] * (self.most - len(values))] or [0],
-            ),
-        ):
-            lines += array(name, "DINT", values)
+        lines = [line for entry in self.grid() for line in array(entry[0], "DINT", entry[1])]
         if self.of_turns:
             for name, indices in zip(("TARGET_FIRST", "TARGET_LAST"), target_indices(self.text)):
                 lines += array(name, "DINT", [index for one in indices for index in one])
+        return section("VAR CONSTANT", lines + self.rows())
+
+    def grid(self):
+        """The ranges, cells and values by their arrays' names; where an input has fewer values than another, 0 is
+        filled in."""
+        states, inputs = self.plant.states, [values for _, values in self.plant.inputs]
+        yield from ((name, [state[k] for state in states]) for name, k in (("LOW", 1), ("HIGH", 2), ("WIDTH", 3)))
+        yield "COUNT", self.plant.counts
+        yield "VALUES", [len(values) for values in inputs] or [1]
+        yield "VALUE", [value for values in inputs for value in values + [0] * (self.most - len(values))] or [0]
+
+    def rows(self):
+        """The arrays that hold the rows."""
+        codes, lines = self.codes, []
         if self.in_runs:
             firsts, numbers, ranks, begins = codes.runs(self.with_ranks)
-            lines += array("BEGIN", "DINT", begins) + array("FIRST", "DINT", firsts)
+            lines = array("BEGIN", "DINT", begins) + array("FIRST", "DINT", firsts)
         else:
-            numbers, ranks = ([number for part in parts for number in part] for parts in (codes.of_parts, codes.ranks))
-        lines += array("ROW", kind, numbers)
+            numbers, ranks = codes.flat()
+        lines += array("ROW", "USINT" if codes.bits == 8 else "UINT", numbers)
         if self.with_ranks:
             lines += array("RANKS", "UINT" if codes.rank_bits == 16 else "DINT", ranks)
-        return section("VAR CONSTANT", lines)
+        return lines
 
     def body(self):
         head = ["STATUS := -1;"] + ["FALLS := FALSE;"] * self.with_ranks

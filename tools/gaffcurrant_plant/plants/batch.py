@@ -152,27 +152,36 @@ class Batch:
     def met(self, i, sizes):
         """How many indices boxes meet along one state, over the variables that its equation names, and these; 0 where a
         box leaves the domain."""
-        plant, wide = self.plant, len(self.plant.counts)
-        names = [name for name in sorted(plant.uses[i]) if name < len(sizes)]
+        names = [name for name in sorted(self.plant.uses[i]) if name < len(sizes)]
+        if not names:
+            extents, inside = self.extents([self.box(i, *self.first_of(), self.moves[i][0])], [i])
+            return numpy.array(fans(extents) * inside, dtype=numpy.int64), names
         met = numpy.zeros([sizes[name] for name in names], dtype=numpy.int64)
-        step = max(1, BLOCK * met.shape[0] // met.size) if names else 1
-        for begin in range(0, met.shape[0] if names else 1, step):
-            lows, values, numbers = self.first_of(plant)
-            for at, name in enumerate(names):
-                indices = numpy.arange(begin, min(begin + step, sizes[name])) if at == 0 else numpy.arange(sizes[name])
-                indices = indices.reshape([-1 if k == at else 1 for k in range(len(names))])
-                if name < wide:
-                    lows[name] = plant.states[name][1] + indices.astype(self.kind) * plant.states[name][3]
-                else:
-                    values[name - wide] = self.numbers(plant.inputs[name - wide][1])[indices]
-                    numbers = numbers + indices * math.prod(sizes[name + 1 :])
+        step = max(1, BLOCK * met.shape[0] // met.size)
+        for begin in range(0, met.shape[0], step):
+            firsts = numpy.arange(begin, min(begin + step, met.shape[0]))
+            lows, values, numbers = self.pairs_by(names, sizes, firsts)
             extents, inside = self.extents([self.box(i, lows, values, self.moves[i][numbers])], [i])
-            (met[begin : begin + step] if names else met)[...] = fans(extents) * inside
+            met[begin : begin + step] = fans(extents) * inside
         return met, names
 
-    def first_of(self, plant):
-        """The least numbers, the values and the input vector of the first pair."""
-        return [low for _, low, *_ in plant.states], [values[0] for _, values in plant.inputs], 0
+    def pairs_by(self, names, sizes, firsts):
+        """The least numbers of cells, the values of inputs and the input vectors of the pairs that differ in some
+        variables, an axis for each; the first of them has these indices, the others all."""
+        plant, wide, (lows, values), numbers = self.plant, len(self.plant.counts), self.first_of(), 0
+        for at, name in enumerate(names):
+            indices = numpy.arange(sizes[name]) if at else firsts
+            indices = indices.reshape([-1 if k == at else 1 for k in range(len(names))])
+            if name < wide:
+                lows[name] = plant.states[name][1] + indices.astype(self.kind) * plant.states[name][3]
+            else:
+                values[name - wide] = self.numbers(plant.inputs[name - wide][1])[indices]
+                numbers = numbers + indices * math.prod(sizes[name + 1 :])
+        return lows, values, numbers
+
+    def first_of(self):
+        """The least numbers and the values of the first pair."""
+        return [low for _, low, *_ in self.plant.states], [values[0] for _, values in self.plant.inputs]
 
     def pairs(self, cells, vectors):
         """The two corners of the boxes of all pairs of some cells and vectors, as lists, cell by cell."""
@@ -226,24 +235,20 @@ def fans(extents):
 
 def fits(plant):
     """Whether 64 bits hold what comes up in the equations over the domain."""
-    area = [state[1:3] for state in plant.states] + [(min(values), max(values)) for _, values in plant.inputs]
-    area += [noise[1:] for noise in plant.noises]
-    radii = (
-        plant.radii + [0] * len(plant.inputs) + [high - rest for (_, _, high), rest in zip(plant.noises, plant.rest)]
-    )
-    for equation in plant.equations:
-        for node in walk(equation):
-            try:
-                low, high, moves = bounds_of(node, area, radii)
-            except Overflow:
-                return False
-            size = max(-low, high) + moves
-            if node[0] == "lut":
-                numbers = [abs(number) for point in node[2] for number in point]
-                size += 4 * max(numbers) ** 2
-            if size >= SAFE:
-                return False
-    return all(max(-low, high) * 4 < SAFE for _, low, high, _ in plant.states)
+    nodes = (node for equation in plant.equations for node in walk(equation))
+    try:
+        return all(size_of(node, plant) < SAFE for node in nodes) and all(
+            max(-low, high) * 4 < SAFE for _, low, high, _ in plant.states
+        )
+    except Overflow:
+        return False
+
+
+def size_of(node, plant):
+    """At least the size of the numbers by which a node is worked out over the domain; raises Overflow."""
+    low, high, moves = bounds_of(node, plant.area, plant.variable_radii)
+    points = node[2] if node[0] == "lut" else ()
+    return max(-low, high) + moves + 4 * max((abs(number) for point in points for number in point), default=0) ** 2
 
 
 def summed(array, axis):

@@ -22,52 +22,47 @@ def edges_of(plant):
 
 def _axis_table(plant, axis, sizes):
     """For the indices and inputs that an equation names, how many indices the box meets along its axis; 0 left out."""
-    wide = len(plant.states)
     names = [i for i in sorted(plant.uses[axis]) if i < len(sizes)]
     _check(names, sizes)
     _, least, most, width = plant.states[axis]
-    table = {}
-    values = [0] * len(sizes) + list(plant.rest)
-    vectors = _vector_weights(plant)
-    ranges = [range(sizes[i]) for i in names]
-    function, moves = plant.functions[axis], {}
-    for indices in itertools.product(*ranges):
-        chosen = tuple(index for i, index in zip(names, indices) if i >= wide)
-        if chosen not in moves:
-            vector = sum(vectors[i] * index for i, index in zip(names, indices) if i >= wide)
-            moves[chosen] = plant.bounds(axis, vector)[2]
+    values, table = [0] * len(sizes) + list(plant.rest), {}
+    for indices in itertools.product(*(range(sizes[i]) for i in names)):
         for i, index in zip(names, indices):
-            values[i] = (
-                plant.inputs[i - wide][1][index]
-                if i >= wide
-                else plant.states[i][1] + index * plant.states[i][3] + plant.radii[i]
-            )
+            values[i] = _value(plant, i, index)
         area = _area(plant, names, values) if plant.version > 1 else None
-        low, high = plant.side(axis, function(values), moves[chosen], area)
+        moves = plant.bounds(axis, _vector(plant, names, indices))[2]
+        low, high = plant.side(axis, plant.functions[axis](values), moves, area)
         if low >= least and high <= most:
             table[indices] = (high - least) // width - (low - least) // width + 1
     return names, table
+
+
+def _value(plant, variable, index):
+    """The value of an input, or the centre of a state's cell, by its index."""
+    wide = len(plant.states)
+    if variable >= wide:
+        return plant.inputs[variable - wide][1][index]
+    _, low, _, width = plant.states[variable]
+    return low + index * width + plant.radii[variable]
+
+
+def _vector(plant, names, indices):
+    """The number of an input vector by the indices of the inputs among some variables, the others' being 0."""
+    chosen, number = dict(zip(names, indices)), 0
+    for i, (_, values) in enumerate(plant.inputs, len(plant.states)):
+        number = number * len(values) + chosen.get(i, 0)
+    return number
 
 
 def _area(plant, names, values):
     """The cell's area where the variables that an equation names have these values, states at their centres; the
     others, on which its span doesn't rest, have their whole ranges."""
     wide = len(plant.states)
-    area = [state[1:3] for state in plant.states] + [(min(choices), max(choices)) for _, choices in plant.inputs]
-    area += [noise[1:] for noise in plant.noises]
+    area = list(plant.area)
     for i in names:
         low = values[i] - plant.radii[i] if i < wide else values[i]
         area[i] = (low, low + (plant.states[i][3] - 1 if i < wide else 0))
     return area
-
-
-def _vector_weights(plant):
-    """By how much the number of the input vector grows with the index of each input, by the variable's number."""
-    weights, weight = {}, 1
-    for i in reversed(range(len(plant.inputs))):
-        weights[len(plant.states) + i] = weight
-        weight *= len(plant.inputs[i][1])
-    return weights
 
 
 def _check(names, sizes):
@@ -100,15 +95,18 @@ def _product(first, second, sizes):
     """The product of two tables over the variables of both."""
     names, more = first[0], [i for i in second[0] if i not in first[0]]
     _check(names + more, sizes)
-    shared = [second[0].index(i) for i in second[0] if i in names]
-    of_first = [names.index(second[0][at]) for at in shared]
-    new = [second[0].index(i) for i in more]
+    shared = [i for i in second[0] if i in names]
     grouped = {}
     for indices, count in second[1].items():
-        key = tuple(indices[at] for at in shared)
-        grouped.setdefault(key, []).append((tuple(indices[at] for at in new), count))
+        added = _picked(indices, second[0], more)
+        grouped.setdefault(_picked(indices, second[0], shared), []).append((added, count))
     table = {}
     for indices, count in first[1].items():
-        for added, times in grouped.get(tuple(indices[at] for at in of_first), ()):
+        for added, times in grouped.get(_picked(indices, names, shared), ()):
             table[indices + added] = count * times
     return names + more, table
+
+
+def _picked(indices, names, some):
+    """The indices of some of the variables that they belong to."""
+    return tuple(indices[names.index(name)] for name in some)

@@ -13,6 +13,11 @@ FEWEST_POINTS, MOST_POINTS = 2, 32
 TOKEN = re.compile(r"[A-Za-z][A-Za-z0-9_]*|[0-9]+|.", re.DOTALL)
 
 
+def is_whole(token):
+    """Whether a token is a whole number; None, behind the last token, is none."""
+    return token is not None and token.isdigit() and token.isascii()
+
+
 def tokens_of(words):
     return [token for word in words for token in TOKEN.findall(word)]
 
@@ -62,7 +67,7 @@ class _Reader:
 
     def divisor(self):
         token = self.take()
-        if token is not None and token.isdigit() and token.isascii():
+        if is_whole(token):
             if token == "0":
                 raise Fault("a quotient by 0")
             return self.literal(token)
@@ -99,25 +104,31 @@ class _Reader:
         if token is None:
             raise Fault("the expression ends where a number, a name or a bracket is due")
         if token == "(":
-            inner = self.bracketed(1, "(")
-            return inner[0]
-        if token.isdigit() and token.isascii():
-            value = self.literal(token)
-            if self.peek() is not None and re.match(r"[A-Za-z(]", self.peek()):
-                raise Fault(f"between `{token}` and `{self.peek()}` a sign is due, such as `*`")
-            return self.node(1, "num", value)
+            return self.bracketed(1, "(")[0]
+        if is_whole(token):
+            return self.number(token)
         if token in FUNCTIONS:
-            if token == "lut" and self.version < 2:
-                raise Fault("`lut` isn't known in a plant of version 1; the first line `plant 2` brings it")
-            if self.take() != "(":
-                raise Fault(f"behind `{token}` an opening bracket is due")
-            if token == "lut":
-                return self.lut()
-            parts = self.bracketed(FUNCTIONS[token], token)
-            return self.node(max(depth for _, depth in parts) + 1, token, *(part for part, _ in parts))
+            return self.called(token)
         if token in self.names:
             return self.node(1, "var", self.names.index(token))
         raise Fault(self.unknown(token))
+
+    def number(self, token):
+        value = self.literal(token)
+        if self.peek() is not None and re.match(r"[A-Za-z(]", self.peek()):
+            raise Fault(f"between `{token}` and `{self.peek()}` a sign is due, such as `*`")
+        return self.node(1, "num", value)
+
+    def called(self, name):
+        """What stands behind the name of a function."""
+        if name == "lut" and self.version < 2:
+            raise Fault("`lut` isn't known in a plant of version 1; the first line `plant 2` brings it")
+        if self.take() != "(":
+            raise Fault(f"behind `{name}` an opening bracket is due")
+        if name == "lut":
+            return self.lut()
+        parts = self.bracketed(FUNCTIONS[name], name)
+        return self.node(max(depth for _, depth in parts) + 1, name, *(part for part, _ in parts))
 
     def bracketed(self, count, opener):
         self.open_bracket()
@@ -165,7 +176,7 @@ class _Reader:
         if minus:
             self.take()
         token = self.take()
-        if token is None or not (token.isdigit() and token.isascii()):
+        if not is_whole(token):
             raise Fault("a point of `lut` is two whole numbers `x:y` written out in digits")
         if minus and token == "0":
             raise Fault("`-0` is written `0`")

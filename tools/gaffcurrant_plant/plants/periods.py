@@ -30,15 +30,7 @@ def unbent(plant, node, _, low, high, width):
 
 def deviation_of(plant, node):
     """The deviation of a sum over the whole domain."""
-    area = (
-        [state[1:3] for state in plant.states]
-        + [(min(values), max(values)) for _, values in plant.inputs]
-        + [noise[1:] for noise in plant.noises]
-    )
-    radii = (
-        plant.radii + [0] * len(plant.inputs) + [high - rest for (_, _, high), rest in zip(plant.noises, plant.rest)]
-    )
-    return bounds_of(node, area, radii)[2]
+    return bounds_of(node, plant.area, plant.variable_radii)[2]
 
 
 def inner_of(node, low, size):

@@ -33,7 +33,7 @@ class Plant:
         self.uses = [uses_of(node) for node in equations]
         # In which words of the plant are told: in its whole numbers, or in a model's units.
         self.units = Units()
-        self._moves, self._batch = {}, None
+        self._bounds, self._batch = {}, None
 
     # Names and texts
 
@@ -65,6 +65,23 @@ class Plant:
         are none."""
         equations = rolled_out(self)
         return self if equations == self.equations else Rolled(self, equations)
+
+    # Ranges
+
+    @cached_property
+    def area(self):
+        """The two ends of each variable's range."""
+        return (
+            [(low, high) for _, low, high, _ in self.states]
+            + [(min(values), max(values)) for _, values in self.inputs]
+            + [(low, high) for _, low, high in self.noises]
+        )
+
+    @cached_property
+    def variable_radii(self):
+        """The radius of each variable: of states half a cell, of inputs 0, of noises how far they go from their rest."""
+        noises = [high - rest for (_, _, high), rest in zip(self.noises, self.rest)]
+        return self.radii + [0] * len(self.inputs) + noises
 
     # Inputs and steps
 
@@ -164,16 +181,12 @@ class Plant:
 
     def bounds(self, equation, vector):
         """The span's ends and the deviation of an equation under an input vector; raises Overflow."""
-        values = self.vector(vector)
-        first = len(self.states)
+        values, first = self.vector(vector), len(self.states)
         named = tuple(value for i, value in enumerate(values) if first + i in self.uses[equation])
-        if (equation, named) not in self._moves:
-            area = [(low, high) for _, low, high, _ in self.states] + [(value, value) for value in values]
-            area += [(low, high) for _, low, high in self.noises]
-            noise_radii = [high - rest for (_, _, high), rest in zip(self.noises, self.rest)]
-            radii = self.radii + [0] * len(values) + noise_radii
-            self._moves[equation, named] = bounds_of(self.equations[equation], area, radii)
-        return self._moves[equation, named]
+        if (equation, named) not in self._bounds:
+            area = self.area[:first] + [(value, value) for value in values] + self.area[first + len(values) :]
+            self._bounds[equation, named] = bounds_of(self.equations[equation], area, self.variable_radii)
+        return self._bounds[equation, named]
 
     def deviations(self, vector):
         return [self.bounds(equation, vector)[2] for equation in range(len(self.equations))]
@@ -268,13 +281,8 @@ class Plant:
     def fits_for_all_inputs(self, equation):
         """Whether the bounds stay in range with each input anywhere between its least and greatest value. Then they
         do under each input vector, since a wider area gives wider bounds."""
-        area = [(low, high) for _, low, high, _ in self.states]
-        area += [(min(values), max(values)) for _, values in self.inputs] + [noise[1:] for noise in self.noises]
-        radii = (
-            self.radii + [0] * len(self.inputs) + [high - rest for (_, _, high), rest in zip(self.noises, self.rest)]
-        )
         try:
-            low, high, moves = bounds_of(self.equations[equation], area, radii)
+            low, high, moves = bounds_of(self.equations[equation], self.area, self.variable_radii)
         except Overflow:
             return False
         return low - moves >= -TOP and high + moves <= TOP

@@ -156,23 +156,24 @@ def read_units(path, data):
     none."""
     lines = [line.strip() for line in data.decode("utf-8", "replace").lstrip("\ufeff").splitlines()]
     first = next((line for line in lines if line and not line.startswith("#")), "")
-    if first.split()[:1] not in (["plant"], ["table"]):
-        from ..models.model import read_model
+    if first.split()[:1] in (["plant"], ["table"]):
+        return units_by_comments(path, lines)
+    from ..models.model import read_model
 
-        try:
-            model = read_model(data)
-        except Trouble as trouble:
-            raise Trouble(f"{path}: {trouble}", trouble.status) from None
-        return units_of(model)
+    try:
+        return units_of(read_model(data))
+    except Trouble as trouble:
+        raise Trouble(f"{path}: {trouble}", trouble.status) from None
+
+
+def units_by_comments(path, lines):
+    """The units by the comments of a plant text; raises Trouble where there are none."""
     found = [found.groups() for found in map(COMMENT.match, lines) if found]
     exact = {line.split()[2] for line in lines if COMMENT.match(line) and line.endswith(BY_ITSELF)}
     if not found:
         raise Trouble(f"{path}: the text has no comments `# unit NAME SIZE`, which tools/scale writes; give the model")
     try:
-        return Units(
-            {name: Fraction(size) if "/" in size else number_of(size) for name, size, _ in found},
-            {name: word for name, _, word in found if word},
-            exact,
-        )
+        sizes = {name: Fraction(size) if "/" in size else number_of(size) for name, size, _ in found}
     except Fault as fault:
         raise Trouble(f"{path}: {fault}") from None
+    return Units(sizes, {name: word for name, _, word in found if word}, exact)

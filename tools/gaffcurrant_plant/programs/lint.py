@@ -62,10 +62,8 @@ def magnifies(plant, quotient, factor):
     is rounded to multiples, or wraps round."""
     if quotient[0] != "div" or constant(quotient) is not None or constant(factor) == quotient[2]:
         return False
-    area = [state[1:3] for state in plant.states] + [(min(values), max(values)) for _, values in plant.inputs]
-    area += [noise[1:] for noise in plant.noises]
     try:
-        low, high, _ = bounds_of(factor, area, [0] * len(area))
+        low, high, _ = bounds_of(factor, plant.area, [0] * len(plant.area))
     except Overflow:
         return True
     return max(-low, high) > 1
@@ -108,25 +106,31 @@ def unused(plant):
 
 def goals(plant):
     """What the targets and obstacles leave to be won."""
-    if plant.goal == "keep":
-        if not plant.obstacles:
-            yield "there is no obstacle: the plant is to be kept in the domain alone"
-        return
-    if not plant.targets:
+    if plant.goal == "keep" and not plant.obstacles:
+        yield "there is no obstacle: the plant is to be kept in the domain alone"
+    if plant.goal == "reach" and not plant.targets:
         yield "there is no target, so no cell can be won"
     for number, box in enumerate(plant.targets, 1):
-        fitting = plant.inner_extents(box)
-        for (low, high), (first, last), (name, least, most, width) in zip(box, fitting, plant.states):
-            inside = least + first * width, least + (last + 1) * width - 1
-            if first > last:
-                yield (
-                    f"target {number}: no cell of {name} lies between {low} and {high}; cells begin at {least} + "
-                    f"{width} * k and have {width} numbers"
-                )
-            elif (low > inside[0] - width and low > least and low != inside[0]) or (high < most and high != inside[1]):
-                yield f"target {number}: of {low} to {high} the cells of {name} fill {inside[0]} to {inside[1]} alone"
-        if plant.obstacles and all(first <= last for first, last in fitting) and is_hidden(plant, fitting):
+        extents = plant.inner_extents(box)
+        for ends, extent, state in zip(box, extents, plant.states):
+            if said := ill_fitting(ends, extent, state):
+                yield f"target {number}: {said}"
+        if plant.obstacles and all(first <= last for first, last in extents) and is_hidden(plant, extents):
             yield f"target {number}: an obstacle meets each of its cells"
+
+
+def ill_fitting(ends, extent, state):
+    """What to say of a target's ends along a state between which no cells fit, or not up to the ends."""
+    (low, high), (first, last), (name, least, most, width) = ends, extent, state
+    if first > last:
+        return (
+            f"no cell of {name} lies between {low} and {high}; cells begin at {least} + {width} * k and have {width} "
+            "numbers"
+        )
+    begin, end = least + first * width, least + (last + 1) * width - 1
+    if begin > low > max(least, begin - width) or most > high != end:
+        return f"of {low} to {high} the cells of {name} fill {begin} to {end} alone"
+    return None
 
 
 def narrow_target(plant):
@@ -160,18 +164,14 @@ def sampled(plant):
     draws = random.Random(1)
     every = plant.cells <= SAMPLE
     cells = range(plant.cells) if every else sorted(draws.sample(range(plant.cells), SAMPLE))
-    vectors = range(plant.vectors) if plant.vectors <= 32 else sorted(draws.sample(range(plant.vectors), 32))
+    vectors = some_vectors(plant, draws, 32)
     cells = [cell for cell in cells if not plant.is_goal(cell) and not plant.is_obstacle(cell)]
+    boxes = plant.boxes(cells, vectors)
     dead, stuck = 0, 0
-    found = plant.boxes(cells, vectors)
     for number, cell in enumerate(cells):
-        boxes = found[number * len(vectors) : (number + 1) * len(vectors)]
-        boxes = [box for box in boxes if not plant.leaves(*box)]
-        indices = plant.indices_of(cell)
-        dead += not boxes
-        stuck += bool(boxes) and all(
-            all(first <= index <= last for (first, last), index in zip(plant.extents(*box), indices)) for box in boxes
-        )
+        ways = [box for box in boxes[number * len(vectors) : (number + 1) * len(vectors)] if not plant.leaves(*box)]
+        dead += not ways
+        stuck += bool(ways) and all(has_cell(plant, box, cell) for box in ways)
     of = f"{len(cells)} {'' if every else 'sampled '}cells that are neither goal nor obstacle"
     inputs = "every input" if plant.vectors <= 32 else "each of 32 sampled inputs"
     if dead:
@@ -183,6 +183,17 @@ def sampled(plant):
         )
 
 
+def some_vectors(plant, draws, most):
+    """All input vectors, or so many that are drawn."""
+    vectors = range(plant.vectors)
+    return vectors if plant.vectors <= most else sorted(draws.sample(vectors, most))
+
+
+def has_cell(plant, box, cell):
+    """Whether a box in the domain meets a cell."""
+    return all(first <= index <= last for (first, last), index in zip(plant.extents(*box), plant.indices_of(cell)))
+
+
 def of_no_use(plant):
     """Input vectors without which the same would be won or kept."""
     if not plant.batch() or plant.vectors < 2:
@@ -190,21 +201,24 @@ def of_no_use(plant):
     from ..plants.useless_inputs import useless
 
     idle, beaten = useless(plant)
-    if not idle and not beaten:
-        return
-    count = len(idle) + len(beaten)
-    leads = "back into the cell or out of the domain" if plant.goal == "reach" else "out of the domain"
+    if idle or beaten:
+        yield no_use_said(plant, idle, beaten)
+
+
+def no_use_said(plant, idle, beaten):
+    """What to say of input vectors that lead nowhere, and of those that others do as well as."""
+    reaches, count = plant.goal == "reach", len(idle) + len(beaten)
+    leads = "back into the cell or out of the domain" if reaches else "out of the domain"
     said = [f"{len(idle)} lead{'s' * (len(idle) == 1)} {leads} everywhere ({vectors_said(plant, idle)})"] * bool(idle)
     boxes = "has boxes" if len(beaten) == 1 else "have boxes"
-    said += [f"{len(beaten)} {boxes} that hold those of another one everywhere ({vectors_said(plant, beaten)})"] * bool(
-        beaten
-    )
-    stays = "; `stay` may need what leads back" if plant.goal == "reach" and idle else ""
-    yield (
-        f"{count} of {plant.vectors} input vectors {'is' if count == 1 else 'are'} of no use: "
-        f"{' and '.join(said)}. {'It takes' if count == 1 else 'They take'} {100 * count / plant.vectors:.3g} "
-        f"per cent of the pairs, and without {'it' if count == 1 else 'them'} the same cells are "
-        f"{'won with the same ranks' if plant.goal == 'reach' else 'kept'}{stays}"
+    others = f"{len(beaten)} {boxes} that hold those of another one everywhere ({vectors_said(plant, beaten)})"
+    said += [others] * bool(beaten)
+    is_one, it_takes, without = ("is", "It takes", "it") if count == 1 else ("are", "They take", "them")
+    same = "won with the same ranks" if reaches else "kept"
+    stays = "; `stay` may need what leads back" if reaches and idle else ""
+    return (
+        f"{count} of {plant.vectors} input vectors {is_one} of no use: {' and '.join(said)}. {it_takes} "
+        f"{100 * count / plant.vectors:.3g} per cent of the pairs, and without {without} the same cells are {same}{stays}"
     )
 
 
@@ -267,49 +281,52 @@ def indices_met(plant, end=max):
 
 def bare_steps(plant, exact):
     """States that are measured, without noise, and that an input moves by whole cells wherever they are."""
-    vectors = list(
-        range(plant.vectors)
-        if plant.vectors <= EDGE_SAMPLE
-        else sorted(random.Random(2).sample(range(plant.vectors), EDGE_SAMPLE))
-    )
+    vectors = some_vectors(plant, random.Random(2), EDGE_SAMPLE)
     centres = [plant.centre(cell) for cell in random.Random(4).choices(range(plant.cells), k=BARE_SAMPLE)]
     first_noise = len(plant.states) + len(plant.inputs)
     for i, (name, *_, width) in enumerate(plant.states):
         if width == 1 or name in exact or any(variable >= first_noise for variable in plant.uses[i]):
             continue
-        for vector in vectors:
-            moves = {plant.rolled.step(centre, plant.vector(vector), plant.rest)[i] - centre[i] for centre in centres}
-            if len(moves) == 1 and (move := moves.pop()) and move % width == 0:
-                yield (
-                    f"{name} has no noise, and moves by whole cells, by {plant.units.size_said(name, move)} "
-                    f"under {plant.input_said(vector)}: a measurement that is a rounding beside a cell's bound "
-                    "counts for the next cell; add a noise of -1 to 1, unless the state is a whole number by "
-                    "itself"
-                )
-                break
+        ways = ((vector, way_everywhere(plant, i, vector, centres)) for vector in vectors)
+        vector, way = next(((vector, way) for vector, way in ways if way and way % width == 0), (None, None))
+        if way:
+            yield (
+                f"{name} has no noise, and moves by whole cells, by {plant.units.size_said(name, way)} under "
+                f"{plant.input_said(vector)}: a measurement that is a rounding beside a cell's bound counts for the "
+                "next cell; add a noise of -1 to 1, unless the state is a whole number by itself"
+            )
+
+
+def way_everywhere(plant, i, vector, centres):
+    """By how much an input vector moves a state from each of some centres; None where that isn't the same."""
+    ways = {plant.rolled.step(centre, plant.vector(vector), plant.rest)[i] - centre[i] for centre in centres}
+    return ways.pop() if len(ways) == 1 else None
 
 
 def thin_obstacles(plant):
     """Obstacles that a sampled step passes over along one state, seen at samples alone."""
-    moves = [0] * len(plant.states)
-    cells, vectors = sampled_pairs(plant)
-    for (cell, _), (low, high) in zip(itertools.product(cells, vectors), plant.rolled.boxes(cells, vectors)):
-        ends = zip(moves, low, high, plant.low(cell), plant.high(cell))
-        if not plant.rolled.leaves(low, high):
-            moves = [max(move, abs(first - bottom), abs(last - top)) for move, first, last, bottom, top in ends]
-    for i, (name, least, most, _) in enumerate(plant.states):
-        widths = [
-            high - low + 1 if low > least and high < most else moves[i]
-            for low, high in (box[i] for box in plant.obstacles)
-        ]
-        thin = [number for number, width in enumerate(widths, 1) if width < moves[i]]
+    for i, ((name, least, most, _), way) in enumerate(zip(plant.states, longest_ways(plant))):
+        ends = (box[i] for box in plant.obstacles)
+        widths = [high - low + 1 if low > least and high < most else way for low, high in ends]
+        thin = [number for number, width in enumerate(widths, 1) if width < way]
         if thin:
             more = f", and so {'is' if len(thin) == 2 else 'are'} {len(thin) - 1} more" if len(thin) > 1 else ""
-            wide, move = (plant.units.size_said(name, size) for size in (widths[thin[0] - 1], moves[i]))
+            wide, far = (plant.units.size_said(name, size) for size in (widths[thin[0] - 1], way))
             yield (
-                f"obstacle {thin[0]} is {wide} wide along {name}, and a sample goes up to {move}{more}: the "
-                "plant may pass it between two samples; make it wider, or let tools/between look at the ways"
+                f"obstacle {thin[0]} is {wide} wide along {name}, and a sample goes up to {far}{more}: the plant may "
+                "pass it between two samples; make it wider, or let tools/between look at the ways"
             )
+
+
+def longest_ways(plant):
+    """For each state how far a sample goes, at most, of those from sampled pairs."""
+    ways = [0] * len(plant.states)
+    cells, vectors = sampled_pairs(plant)
+    for (cell, _), (low, high) in zip(itertools.product(cells, vectors), plant.rolled.boxes(cells, vectors)):
+        ends = zip(ways, low, high, plant.low(cell), plant.high(cell))
+        if not plant.rolled.leaves(low, high):
+            ways = [max(way, abs(first - bottom), abs(last - top)) for way, first, last, bottom, top in ends]
+    return ways
 
 
 def steps(plant):
@@ -317,11 +334,7 @@ def steps(plant):
     counted on behind its range's end."""
     draws = random.Random(2)
     cells = range(plant.cells) if plant.cells <= EDGE_SAMPLE else draws.sample(range(plant.cells), EDGE_SAMPLE)
-    vectors = (
-        range(plant.vectors)
-        if plant.vectors <= EDGE_SAMPLE
-        else sorted(draws.sample(range(plant.vectors), EDGE_SAMPLE))
-    )
+    vectors = some_vectors(plant, draws, EDGE_SAMPLE)
     centres = [plant.centre(cell) for cell in cells]
     moved = {
         vector: [plant.rolled.step(centre, plant.vector(vector), plant.rest) for centre in centres]
@@ -484,19 +497,27 @@ def lint(data):
         return [refusal.answer, f"why: {other_text(data) or refusal.reason}"], True
     if any(COMMENT.match(line) for line in data.decode("utf-8", "replace").splitlines()):
         plant.units = read_units("the text", data)
-    total, exact = plant.edges()
-    if total > EDGES and exact:
+    total, is_exact = plant.edges()
+    if total > EDGES and is_exact:
         return ["limit: edges", f"why: {total} edges, and {EDGES} are the most"], True
-    lines = ["accepted"]
+    return ["accepted", *edges_said(total), *notes_of(data, plant)], False
+
+
+def edges_said(total):
+    """What to say of a sample's number of edges past the limit."""
     if total > EDGES:
-        lines.append(
-            f"note: about {total} edges by a sample of pairs, and {EDGES} are the most: `limit: edges` is "
-            "likely; wider cells, fewer inputs or a smaller deviation help"
+        yield (
+            f"note: about {total} edges by a sample of pairs, and {EDGES} are the most: `limit: edges` is likely; "
+            "wider cells, fewer inputs or a smaller deviation help"
         )
+
+
+def notes_of(data, plant):
+    """The notes on a text: on one by tools/scale without those on what its noise has in it."""
     exact = {name.decode() for name in EXACT.findall(data)}
-    lines += [f"note: {said}" for said in bare_steps(plant, exact)]
+    yield from (f"note: {said}" for said in bare_steps(plant, exact))
     is_made = data.startswith(MADE)
-    return lines + [note for note in dict.fromkeys(notes(plant)) if not (is_made and ROUNDED in note)], False
+    yield from (note for note in dict.fromkeys(notes(plant)) if not (is_made and ROUNDED in note))
 
 
 def main(words):

@@ -138,18 +138,26 @@ def main(words):
 
 def check_words(given):
     """Raises Trouble where words are missing, out of their range or of the other kind."""
-    if given.real is None and (given.samples is None or given.seed is None or not given.state):
-        raise Trouble("the words are TEXT N SEED X1 .. Xm, or --real MODEL TEXT; see --help", 2)
-    if given.real is None and given.runs is not None or given.real is not None and given.worst:
+    if given.real is None:
+        check_plant_words(given)
+    elif given.worst:
         raise Trouble("--runs goes with --real, and --worst without it", 2)
-    if given.real is None and given.log is not None:
-        raise Trouble("--log goes with --real", 2)
-    if given.real is not None and given.model is not None:
+    elif given.model is not None:
         raise Trouble("--real has the model already; --model is for runs of the plant", 2)
     if (given.samples or 0) < 0 or not 0 <= (given.seed or 0) < 2**64:
         raise Trouble("N is at least 0, and SEED from 0 to 2^64 - 1", 2)
     if given.runs is not None and not 1 <= given.runs <= MOST_RUNS:
         raise Trouble(f"--runs takes a number from 1 to {MOST_RUNS}", 2)
+
+
+def check_plant_words(given):
+    """The same of words without --real."""
+    if given.samples is None or given.seed is None or not given.state:
+        raise Trouble("the words are TEXT N SEED X1 .. Xm, or --real MODEL TEXT; see --help", 2)
+    if given.runs is not None:
+        raise Trouble("--runs goes with --real, and --worst without it", 2)
+    if given.log is not None:
+        raise Trouble("--log goes with --real", 2)
 
 
 def check_count(table, state):

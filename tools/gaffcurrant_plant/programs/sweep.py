@@ -82,13 +82,9 @@ class Variant:
 
 def number_in(word, parameters):
     """The number of a word, which may be a parameter."""
-    return (
-        parameters[word]
-        if word in parameters
-        else -parameters[word[1:]]
-        if word[:1] == "-" and word[1:] in parameters
-        else number_of(word)
-    )
+    if word in parameters:
+        return parameters[word]
+    return -parameters[word[1:]] if word[:1] == "-" and word[1:] in parameters else number_of(word)
 
 
 def won_of(text):
@@ -117,7 +113,7 @@ def row_of(lines, parameters, variant, workers, solver):
     return [plant.cells, plant.pairs, edges if is_exact else f"~{edges}", *won_of(text), f"{seconds:.2f}"]
 
 
-def main(words):
+def parser_of_arguments():
     parser = Words(
         prog="sweep",
         description=__doc__,
@@ -154,25 +150,45 @@ def main(words):
         action="store_true",
         help="solve by `patrol`; what is won and the greatest rank stand for each turn, as 120/80",
     )
-    given = parser.parse_args(words)
+    return parser
+
+
+def swept_of(given, model):
+    """What is swept, each with its values; raises Trouble where the model has no lines for it."""
+    if given["times"] and not model.sample:
+        raise Trouble("--times needs a model with a line `sample`", 2)
+    if (given["orders"] or given["steps"]) and not model.flows:
+        raise Trouble("--orders and --steps need a model with lines `d`", 2)
+    return {
+        "time": given["times"] or [model.sample],
+        "order": given["orders"] or [None],
+        "steps": given["steps"] or [None],
+        "width": given["widths"],
+    }
+
+
+def model_of(path, data):
+    try:
+        return read_model(data)
+    except Trouble as trouble:
+        raise Trouble(f"{path}: {trouble}", trouble.status) from None
+
+
+def main(words):
+    given = parser_of_arguments().parse_args(words)
     solver = stay if given.stay else patrol if given.patrol else solve
     prefer("mpmath", "numpy")
-    times, orders, steps, widths = (
-        positive(getattr(given, name), f"--{name}") for name in ("times", "orders", "steps", "widths")
-    )
+    numbers = {name: positive(getattr(given, name), f"--{name}") for name in ("times", "orders", "steps", "widths")}
     if not 1 <= given.workers <= 64:
         raise Trouble("--workers takes a number from 1 to 64", 2)
     data = read_bytes(given.model)
-    try:
-        model = read_model(data)
-    except Trouble as trouble:
-        raise Trouble(f"{given.model}: {trouble}", trouble.status) from None
-    if times and not model.sample:
-        raise Trouble("--times needs a model with a line `sample`", 2)
-    if (orders or steps) and not model.flows:
-        raise Trouble("--orders and --steps need a model with lines `d`", 2)
-    lines = data.decode("utf-8", "replace").lstrip("\ufeff").splitlines()
-    swept = {"time": times or [model.sample], "order": orders or [None], "steps": steps or [None], "width": widths}
+    model = model_of(given.model, data)
+    swept = swept_of(numbers, model)
+    print_rows(given, model, data.decode("utf-8", "replace").lstrip("\ufeff").splitlines(), swept, solver)
+
+
+def print_rows(given, model, lines, swept, solver):
+    """Prints the heading, and a row for each variant."""
     shown = [name for name in SWEPT if name in ("time", "width") or swept[name] != [None]]
     columns = [SWEPT[name] for name in shown] + list(COLUMNS.values())
     print_row(shown + list(COLUMNS), columns)

@@ -47,24 +47,23 @@ def leaving(plant, low, high):
 
 
 def stops(table, cell, cells):
-    """What stops an input whose successors are these cells, or None where each of them has a row."""
-    plant = table.plant
-    said = []
+    """What stops an input whose successors are these cells; nothing where each of them has a row."""
     without = [one for one in cells if not table.has(one)]
-    obstacles = [one for one in without if plant.is_obstacle(one)]
-    others = [one for one in without if one not in obstacles and one != cell]
+    obstacles = [one for one in without if table.plant.is_obstacle(one)]
+    others = [one for one in without if one not in obstacles]
+    comes_back = cell in others and (not table.keeps or len(without) == 1)
+    others = [one for one in others if one != cell]
     if obstacles:
-        said.append("it may meet an obstacle: " + cells_said(plant, obstacles))
-    if cell in without and cell not in obstacles and (not table.keeps or len(without) == 1):
-        said.append("it may come back to the cell itself")
+        yield "it may meet an obstacle: " + cells_said(table.plant, obstacles)
+    if comes_back:
+        yield "it may come back to the cell itself"
     if others:
-        said.append("it may lead to cells without a row: " + cells_said(plant, others))
-    return said
+        yield "it may lead to cells without a row: " + cells_said(table.plant, others)
 
 
 def judged(table, cell, cells):
     """What an input is good for at a cell, in words."""
-    said = stops(table, cell, cells)
+    said = list(stops(table, cell, cells))
     if said:
         return "stopped: " + "; and ".join(said)
     if table.plant.is_obstacle(cell):

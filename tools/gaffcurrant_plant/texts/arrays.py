@@ -31,7 +31,7 @@ class RowArrays:
     def of(cls, table):
         """Those of a Table, a Stay or a Turn, with its arrivals."""
         cells = numpy.fromiter(table.rows, dtype=numpy.int64, count=len(table.rows))
-        ranks, inputs = ([NONE if row[k] is None else row[k] for row in table.rows.values()] for k in (0, 1))
+        ranks, inputs = (filled([row[k] for row in table.rows.values()]) for k in (0, 1))
         arrays = cls(table.plant, cells, ranks, inputs)
         arrays.arrivals = numpy.zeros(table.plant.cells, dtype=bool)
         arrays.arrivals[list(table.arrivals) if table.kind == "turn" else []] = True
@@ -46,14 +46,8 @@ class Rows:
         self.plant, self.kind = text.plant, text.kind
         self.keeps = text.kind == "table" and text.keeps
         parts = [RowArrays.of(part) for part in (text.turns if self.kind == "patrol" else [text])]
-        self.won, self.arrivals = (
-            numpy.stack([numpy.append(one, False) for one in some])
-            for some in ([part.won for part in parts], [part.arrivals for part in parts])
-        )
-        self.ranks, self.inputs = (
-            numpy.stack([numpy.append(one, NONE) for one in some])
-            for some in ([part.ranks for part in parts], [part.inputs for part in parts])
-        )
+        self.won, self.arrivals = (stacked(parts, name, False) for name in ("won", "arrivals"))
+        self.ranks, self.inputs = (stacked(parts, name, NONE) for name in ("ranks", "inputs"))
         self.low, self.high, self.width = (
             numpy.array([state[k] for state in self.plant.states]).reshape(-1, 1) for k in (1, 2, 3)
         )
@@ -61,6 +55,11 @@ class Rows:
     def cell_of(self, whole):
         """The cells of columns of whole numbers, OUTSIDE where one is outside of the domain."""
         return cells_at(self.plant, whole)
+
+
+def stacked(parts, name, outside):
+    """An array of each of some RowArrays, a line each, with a value behind the last cell's."""
+    return numpy.stack([numpy.append(getattr(part, name), outside) for part in parts])
 
 
 class Cells(RowArrays):
@@ -144,8 +143,7 @@ class Cells(RowArrays):
 def whole_states(plant, units, states):
     """The whole numbers of real states, an array of one line each, in a model's units. A value within 10^-9 of a unit's
     end counts as at that end."""
-    sizes = numpy.array([float(units.size(name)) for name, *_ in plant.states])
-    return numpy.floor(numpy.asarray(states, dtype=float) / sizes + 1e-9).astype(numpy.int64)
+    return numpy.floor(numpy.asarray(states, dtype=float) / sizes_of(units, plant.states) + 1e-9).astype(numpy.int64)
 
 
 class Run(NamedTuple):
@@ -164,19 +162,23 @@ def run_of(samples, units=None, plant=None):
     their units, what is a whole number by itself as it is."""
     states = numpy.array([sample.state for sample in samples])
     wide = max((len(sample.inputs) for sample in samples if sample.inputs is not None), default=0)
-    inputs = numpy.ma.masked_array(
-        [sample.inputs or (0,) * wide for sample in samples], [[sample.inputs is None] * wide for sample in samples]
-    )
-    ranks, turns = (
-        numpy.array([NONE if value is None else value for value in column])
-        for column in ([sample.rank for sample in samples], [sample.turn for sample in samples])
-    )
+    applied = [sample.inputs or (0,) * wide for sample in samples]
+    inputs = numpy.ma.masked_array(applied, [[sample.inputs is None] * wide for sample in samples])
     if units:
-        states = (states + [0.5 * (name not in units.exact) for name, *_ in plant.states]) * [
-            float(units.size(name)) for name, *_ in plant.states
-        ]
-        inputs = inputs * numpy.array([float(units.size(name)) for name, _ in plant.inputs][:wide])
+        states = (states + [0.5 * (name not in units.exact) for name, *_ in plant.states]) * sizes_of(units, plant.states)
+        inputs = inputs * sizes_of(units, plant.inputs)[:wide]
+    ranks, turns = (filled([getattr(sample, name) for sample in samples]) for name in ("rank", "turn"))
     return Run(numpy.array([sample.time for sample in samples]), states, ranks, inputs, turns)
+
+
+def sizes_of(units, entries):
+    """What the number 1 of each state, or of each input, stands for."""
+    return numpy.array([float(units.size(entry[0])) for entry in entries])
+
+
+def filled(numbers):
+    """An array with NONE in the place of None."""
+    return numpy.array([NONE if number is None else number for number in numbers])
 
 
 class Turns:

@@ -137,31 +137,28 @@ def quick_rows(lines, front):
     if not (IN_RUNS if wide == 4 else SINGLE).fullmatch(text):
         return None
     numbers = list(map(int, text.replace("-", "-1").split()))
-    firsts, lasts, ranks, inputs = (
-        numbers[::wide],
-        numbers[wide - 3 :: wide],
-        numbers[wide - 2 :: wide],
-        numbers[wide - 1 :: wide],
-    )
-    pairs = list(zip(ranks, inputs))
-    if not (
-        all(map(le, firsts, lasts)) and all(map(lt, lasts, firsts[1:])) and (not lasts or lasts[-1] < front.plant.cells)
-    ):
-        return None
-    if any(is_wrong_pair(*pair, front) for pair in set(pairs)):
-        return None
-    if wide == 4 and any(
-        first == last + 1 and pair == before for first, last, pair, before in zip(firsts[1:], lasts, pairs[1:], pairs)
-    ):
+    firsts, lasts = numbers[::wide], numbers[wide - 3 :: wide]
+    pairs = list(zip(numbers[wide - 2 :: wide], numbers[wide - 1 :: wide]))
+    are_right = do_rise(firsts, lasts, front.plant.cells) and not any(is_wrong_pair(*pair, front) for pair in set(pairs))
+    if not are_right or wide == 4 and does_one_go_on(firsts, lasts, pairs):
         return None
     rows = {}
     for first, last, (rank, choice) in zip(firsts, lasts, pairs):
         row = None if rank < 0 else rank, None if choice < 0 else choice
-        if first == last:
-            rows[first] = row
-        else:
-            rows.update(dict.fromkeys(range(first, last + 1), row))
+        rows.update(dict.fromkeys(range(first, last + 1), row) if first < last else {first: row})
     return rows
+
+
+def do_rise(firsts, lasts, cells):
+    """Whether the cells of row lines rise from line to line, and are below their number."""
+    is_below = not lasts or lasts[-1] < cells
+    return is_below and all(map(le, firsts, lasts)) and all(map(lt, lasts, firsts[1:]))
+
+
+def does_one_go_on(firsts, lasts, pairs):
+    """Whether some run begins behind the one before, and has its row."""
+    nexts = zip(firsts[1:], lasts, pairs[1:], pairs)
+    return any(first == last + 1 and pair == before for first, last, pair, before in nexts)
 
 
 def is_wrong_pair(rank, choice, front):
