@@ -12,6 +12,8 @@ from gaffcurrant_plant.plants.reader import read_plant
 from gaffcurrant_plant.texts.table import read_table, read_text
 from gaffcurrant_plant.plants.units import Units, read_units
 
+from .check_temporal import PATROL, STAY
+
 HAS_NUMPY = importlib.util.find_spec("numpy") is not None
 if HAS_NUMPY:
     import numpy
@@ -48,6 +50,9 @@ FORMS = [("next lines with a noise",
          ("a matrix without w", "sample 1\nstate x 0 10 0.1 0.01\ninput u 0.1 -0.1 0 0.1\nA 0\nB 1\ngoal keep\n", 1,
           "w")]
 OFF, UNIT = 0.2, 0.01
+# Two states, of cells of 10 and of 100, and an input whose values aren't in order.
+TWO = ("plant 1\nstate x 0 99 10\nstate y 0 999 100\ninput u 3 -3 0\nnext x = x + u\nnext y = y + 10 * u\ngoal keep\n"
+       "end\n")
 ANGLE = "version 2\nstate h -180 180 cells 36\n{}input t 1 -10 0 10\nnoise w -1 1\nnext h = h + t + w\ngoal keep\n"
 # What stands in the place of the log by hand, and what is said in one line.
 REFUSED = [("", "the log is empty"), ("time,x,u\n0,50,3\n", "there are no two samples"),
@@ -56,7 +61,12 @@ REFUSED = [("", "the log is empty"), ("time,x,u\n0,50,3\n", "there are no two sa
            ("time,x,u\n0,50,3\n1,five,3\n2,5,-\n", "line 3: `five` is no number"),
            ("time,x,u\n0,50,3\n2,54,0\n1,54,0\n", "line 4: the time goes back, 2 and then 1"),
            ("time,x,u\n0,50,3\n0,54,0\n", "line 3: the time stands still"),
-           ("x,u,x\n1,0,1\n1,0,1\n", "the heading has x twice")]
+           ("x,u,x\n1,0,1\n1,0,1\n", "the heading has x twice"),
+           ("T,X,U\n0,1,0\n1,1,0\n", "has no column x, u; is `X` meant? The states are x, the inputs u"),
+           ("a,b\n0,1\n1,1\n", "has no column x, u. The states are x, the inputs u"),
+           ("x,u\n1_0,0\n5,0\n", "line 2: `1_0` is no number"), ("x,u\n1 0,0\n5,0\n", "line 2: `1 0` is no number"),
+           ("x,u\n10,0\n\n5,0x1\n", "line 4: `0x1` is no number"),
+           ("".join(f"{one}\0" for one in HAND_LOG), "it is to be CSV in UTF-8")]
 
 
 def report_of(conformity):
@@ -70,6 +80,9 @@ def check(report):
         print("skipped: numpy isn't there (apt-get install python3-numpy), so logs aren't compared with plants")
         return
     check_hand(report)
+    check_two_states(report)
+    check_promises(report)
+    check_inputs(report)
     check_events(report)
     check_ranges(report)
     check_tool(report)
@@ -97,15 +110,19 @@ def check_hand(report):
     arrays = conform(plant, log_of([[50], [54], [57], [52], [52]], [[3], [0], [-3], [0], [numpy.nan]]))
     report.expect("the same by arrays", report_of(found), report_of(arrays))
     for what, old, new in (("semicolons", ",", ";"), ("blanks", ",", " , "), ("line ends of Windows", "\n", "\r\n"),
-                           ("a unit in the heading", "x,u", "x [m],u"), ("an empty field", "-\n", "\n")):
-        report.expect(f"the log with {what}", report_of(found),
-                      report_of(conform(plant, log_by_hand(HAND_LOG.replace(old, new)))))
+                           ("line ends of old Macs", "\n", "\r"), ("a byte-order mark", "time", "\ufefftime"),
+                           ("a unit in the heading", "x,u", "x [m],u"), ("an empty field", "-\n", "\n"),
+                           ("exponents", "54", "5.4e+1"), ("blank lines about it", "time", "\n\ntime"),
+                           ("text in another column", "u\n", "u,note\n")):
+        data = HAND_LOG.replace(old, new)
+        data = re.sub(r"(?m)([-0-9])$", r"\1,fine", data) if "note" in new else data
+        report.expect(f"the log with {what}", report_of(found), report_of(conform(plant, log_by_hand(data))))
     # x leaves its range, an input isn't listed, a number is missing, and two times lie two samples apart; a blank line,
     # with commas too, begins a run.
     log = ("x,time,u,other\n98,0,3,1\n101,1,3,1\n104,2,0,1\n,,,\n50,0,2,1\n52,1,0,1\n-,2,0,1\n50,3,0,1\n50,5,0,1\n"
-           "50,6,0,1\n")
+           "50,6,0,1\n\n50,0,0,1\ninf,1,0,1\nnan,2,0,1\n")
     wanted = {"the state lies outside of the ranges": 1, "an input has none of its values": 1,
-              "a number is missing": 2, "samples are missing in between": 1}
+              "a number is missing": 4, "samples are missing in between": 1}
     found = conform(plant, log_by_hand(log))
     report.expect("what isn't judged", ([0, 0], wanted, [False, True]),
                   (found.needed[0].tolist(), found.left_out, found.followed.tolist()))
@@ -113,8 +130,6 @@ def check_hand(report):
                              ("x + (2 * u + 2 * w) / 2", BEYOND), ("w + (u + x)", BEYOND), ("x + u + w * w", BEYOND)):
         found = conform(read_plant(HAND.replace("x + u + w", equation).encode()), log_by_hand())
         report.expect(f"beyond the range of {equation}", wanted, found.beyond[0].tolist())
-
-
     for equation, wanted in (("x + u + w", [0, 1, -1, 0]), ("x + u - w", [0, 2, 0, 0])):
         text = HAND.replace("noise w -1 1", "noise w -1 2").replace("x + u + w", equation)
         found = conform(read_plant(text.encode()), log_by_hand())
@@ -122,6 +137,66 @@ def check_hand(report):
     # From 50 to 59 under 3 the box is 52 to 64, in the cells from 50 and from 60.
     found = conform(plant, log_of([[50], [70], [50], [49], [50], [69]], [[3]] * 6, begins=(0, 2, 4)))
     report.expect("which steps are followed", [False, False, True], found.followed.tolist())
+
+
+def check_two_states(report):
+    """Of two states the farther one beside its cells is the worse; an input's number is its place in the list."""
+    log = log_of([[50, 500], [55, 530], [55, 550], [52, 520]], [[3], [0], [-3], [0]])
+    found = conform(read_plant(TWO.encode()), log)
+    report.expect("needed of two states", [[2, 0, 0], [0, 20, 0]], found.needed.tolist())
+    report.expect("the worst of two states", [0, 1], found.worst())
+    report.expect("numbers of inputs", [0, 2, 1, 2], found.vectors.tolist())
+    if importlib.util.find_spec("matplotlib"):
+        from matplotlib.figure import Figure
+        from gaffcurrant_plant.pictures.residuals import draw_residuals
+        figure, plant = Figure(), read_plant(HAND.encode())
+        draw_residuals(figure, conform(plant, log_by_hand()))
+        course = figure.axes[0]
+        band, dots, far = course.patches[0].get_extents().transformed(course.transData.inverted()), *course.lines
+        report.expect("what is drawn", ([-1, 1], NEEDED, [0, 1, 2, 3], [1, 2], [3, -2]),
+                      (numpy.round([band.y0, band.y1], 6).tolist(), *([round(one) for one in row] for row in (
+                          dots.get_ydata(), dots.get_xdata(), far.get_xdata(), far.get_ydata()))))
+
+
+def check_promises(report):
+    """At which steps inputs of rows were applied, and at which promises are broken: by texts of five cells."""
+    patrol, stay = read_text(PATROL.encode()), read_text(STAY.replace("rows 5\n0 0 4 2\n", "rows 4\n").encode())
+    # Of the patrol's first run turns begin at 4 and at 10. In its second run the turn of the beginning is due again.
+    states, inputs = [7, 4, 7, 10, 7, 4, 7, 7], [-3, 3, 3, -3, -3, -3, -3, -3]
+    log = log_of([[one] for one in states], [[one] for one in inputs], begins=(0, 5))
+    held = log_of([[7], [10], [13], [13], [12], [4], [1]], [[3], [3], [0], [0], [0], [3], [0]], begins=(0, 5))
+    for what, text, log, turn, applied, broken in (
+            ("patrol", patrol, log, 0, [1, 1, 1, 1, 1, 1], [0, 0, 0, 0, 1, 1]),
+            ("patrol from its second turn", patrol, log, 1, [0, 1, 1, 1, 0, 0], [0, 0, 0, 0, 0, 0]),
+            ("stay", stay, held, 0, [1, 1, 1, 1, 1], [0, 0, 0, 0, 1])):
+        found = conform(text.plant, log)
+        promises = promises_of(found, text, turn)
+        report.expect(f"promises of a {what} text", (applied, broken),
+                      (promises.applied.astype(int).tolist(), promises.broken.astype(int).tolist()))
+
+
+def check_inputs(report):
+    """Inputs that act a sample late, of the same run alone, and beside their values."""
+    plant, draws = read_plant(HAND.encode()), random.Random(5)
+    for what, late, beside, wanted in (
+            ("late", 1, 0, "inputs that act one sample late: that would explain 100.0% of the steps"),
+            ("two late", 2, 0, "inputs that act 2 samples late: that would explain 100.0% of the steps"),
+            ("early", -1, 0, "inputs that act one sample before they are logged: that would explain 100.0%"),
+            ("above", 0, 6, "u that acts about 6 above what is logged: that would explain 100.0%"),
+            ("below", 0, -6, "u that acts about 6 below what is logged: that would explain 100.0%")):
+        states, inputs, begins = [], [], []
+        for _ in range(80):
+            begins.append(len(states))
+            given = [draws.choice([-3, 0, 3]) for _ in range(7)]
+            acting = [draws.choice([-3, 0, 3]), *given, draws.choice([-3, 0, 3])] if late else [0, *given]
+            acting = [draws.choice([-3, 0, 3])] * max(0, late - 1) + acting
+            at = [50]
+            for k in range(5):
+                at.append(at[-1] + acting[k + 1 - (late if late < 0 else 0) - (1 if late > 0 else 0)] + beside)
+            states += [[one] for one in at]
+            inputs += [[one] for one in given[:6]]
+        said = diagnosed(conform(plant, log_of(states, inputs, begins=begins)))
+        report.holds(f"inputs that act {what} are named", said and said[0].startswith(wanted), str(said))
 
 
 def check_events(report):
@@ -226,12 +301,48 @@ def check_tool(report):
     status, output, error = report.tool("conform", log, "--model", plant, "--table", keep)
     report.holds("conform --table", status == 1 and " are explained or followed, as it has to be" in output
                  and not error, output + error)
+    check_said(report)
+    check_promises_said(report)
     (report.room / "numpy.py").write_text("raise ImportError\n")
     status, output, error = report.tool("conform", log, "--model", plant, env=os.environ
                                         | {"PYTHONPATH": str(report.room), "GAFFCURRANT_PYTHON": "none"})
     wanted = "conform: this needs numpy; on Debian: apt-get install python3-numpy\n"
     report.expect("conform without numpy", (1, "", wanted), (status, output, error))
     (report.room / "numpy.py").unlink()
+
+
+def check_said(report):
+    """Ranges in the model's units, and shares of nearly all and of nearly none of the steps."""
+    rail, plant = report.top / "examples/rail", report.room / "hand.plant"
+    output = report.tool("conform", rail / "friction.csv", "--model", rail / "rail.model")[1]
+    for line in ("293 samples, 0.4 apart, in 39 runs: 254 steps, 254 of them judged",
+                 "followed, with the next state in its box: 184 of 254 steps, 72.44 per cent",
+                 "p                       -1 to 2            -4 to 5            -4 to 5            -4 to 5",
+                 "  times 0.0012:         -0.0012 to 0.0012  -0.0384 to 0.0384  -0.0384 to 0.0384  -0.0384 to 0.0384"):
+        report.holds(f"conform of the log with a friction says `{line}`", line in output.splitlines(), output)
+    for steady, said in ((50, "explained by the stated ranges: 19999 of 20001 steps, more than 99.99 per cent"),
+                         (60, "explained by the stated ranges: 2 of 20001 steps, less than 0.01 per cent")):
+        states = [50, 50] * 10000 if steady == 50 else [k % 2 * 50 for k in range(20000)]
+        states += [99, 0] if steady == 50 else [50, 50]
+        data = "x,u\n" + "".join(f"{state},0\n" for state in states)
+        output = report.tool("conform", "-", "--model", plant, data=data.encode())[1]
+        report.holds(f"conform says `{said}`", said in output.splitlines(), output)
+
+
+def check_promises_said(report):
+    """What the program says of a patrol text from either turn, and of one with a wrong rank."""
+    plant, text, wrong = (report.room / name for name in ("five.plant", "five.patrol", "wrong.patrol"))
+    plant.write_text(PATROL[PATROL.index("plant"):PATROL.index("turn")])
+    text.write_text(PATROL)
+    wrong.write_text(PATROL.replace("1 1 2 1\n2 3 1 1\n", "1 2 2 1\n3 3 1 1\n"))
+    log = "x,u\n7,-3\n4,3\n7,3\n10,-3\n7,-\n"
+    applied = "the text: at {} of 4 judged steps its input was applied; at {} of these the next state has no row,"
+    for name, turn, wanted, said in ((text, "0", 0, (4, 0)), (text, "1", 0, (3, 0)), (wrong, "0", 1, (4, 1))):
+        words = ("--model", plant, "--table", name, "--turn", turn)
+        status, output, error = report.tool("conform", "-", *words, data=log.encode())
+        report.expect(f"conform by {name.name} from turn {turn}", (wanted, "", True, name is wrong),
+                      (status, error, applied.format(*said) in output,
+                       "the text isn't one of this plant; line 3" in output))
 
 
 def check_refused(report):
@@ -242,7 +353,7 @@ def check_refused(report):
         report.holds(f"conform of {text[:40]!r} says `{said}`", said in error, error)
     rail = report.top / "examples/rail/rail.model"
     for text, said in (("time,p,v,u\n0,1,0,1\n0.1,1,0,1\n0.2,1,0,1\n",
-                        "its samples are 0.1 apart, and the model's 0.4; every 4th line would fit"),
+                        "its samples are 0.1 apart, and the model's 0.4; one line in 4 would fit"),
                        ("time,p,v,u\n0,1,0,1\n400,1,0,1\n800,1,0,1\n", "is the time in other units?")):
         status, output, error = report.tool("conform", "-", "--model", rail, data=text.encode())
         report.expect(f"conform of {text[11:40]!r}", (1, "", 1, True),

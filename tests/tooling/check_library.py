@@ -19,6 +19,7 @@ from gaffcurrant_plant.texts.table import NoRow, read_table, read_text, text_of_
 
 from .check_readers import c_answers, expected, random_states
 from .check_temporal import DAMAGED, PATROL, STAY
+from .following import followed_samples, steps_of
 
 # The calls of the library, which alone the shared object shows.
 CALLS = ["begin_turn", "close", "control", "control_each", "follows", "open", "rank", "sizes", "version", "visit"]
@@ -169,66 +170,34 @@ def check_stack(report, room, libraries):
 
 
 def check_following(report, room, tables, libraries):
-    """Which next states follow is told by the boxes of the module: corners of boxes, one past them, states outside, values that are no vector; and every step of
-    the plant follows. The same by Python, and only gaffcurrant_open and gaffcurrant_close ask for memory."""
+    """Which next states follow is told by the boxes of the module: corners of boxes, one past them, states outside, values that are no vector, and
+    10,000 steps of each table, stay text and patrol text. The same by Python, and only gaffcurrant_open and gaffcurrant_close ask for memory."""
     programs = {backend: compiled(report, room, f"follows_{backend}", "follows.c", library) for backend, library in libraries.items()}
     programs["the sanitizers"] = compiled(report, room, "follows_sane", "follows.c", libraries["llvm"], SANITIZERS)
     counting = compiled(report, room, "allocates", "allocates.c", libraries["llvm"], ["-O2", "-Wl,--wrap=malloc,--wrap=calloc,--wrap=realloc,--wrap=free"])
-    for name, text in tables.items():
-        plant, path = read_table(text).plant, room / f"{name}.table"
-        samples, wanted = followed_samples(plant)
+    replies = set()
+    for name, text in {**tables, **temporal_texts(report)}.items():
+        plant, path = read_text(text).plant, room / "followed.text"
+        path.write_bytes(text)
+        (samples, wanted), (steps, answers, strayed) = followed_samples(plant), steps_of(plant)
+        report.expect(f"library: steps of {name} that leave their box", 0, strayed)
+        lines = lines_of([sum(map(list, one), []) for one in samples + steps])
         for backend, program in programs.items():
-            report.expect(f"library: which states follow in {name} by {backend}", (0, wanted, ""), split(ran(program, path, data=lines_of([sum(map(list, one), []) for one in samples]))))
+            report.expect(f"library: which states follow in {name} by {backend}", (0, wanted + answers, ""), split(ran(program, path, data=lines)))
         for shared in (str(libraries["llvm"] / "libgaffcurrant.so"), ""):
             with Controller(text, shared) as controller:
-                told = [answer_of(controller.follows, *one) for one in samples[:300]]
+                told = [answer_of(controller.follows, *one) for one in samples[:300] + steps[:300]]
                 report.expect(f"library: which states follow in {name} by Python, {'the shared object' if shared else 'the module'}",
-                              [{"1": True, "0": False}.get(one, "NoRow") for one in wanted[:300]], told)
+                              [{"1": True, "0": False}.get(one, "NoRow") for one in wanted[:300] + answers[:300]], told)
+                state, values, after = steps[0]
+                report.expect(f"library: what isn't a number of 64 bits in {name} by Python", ["NoRow", "NoRow", False],
+                              [answer_of(controller.follows, state, [values[0] + 2 ** 64, *values[1:]], after) if values else "NoRow",
+                               answer_of(controller.follows, [state[0] + 2 ** 64, *state[1:]], values, after),
+                               answer_of(controller.follows, state, values, [after[0] - 2 ** 64, *after[1:]])])
         report.expect(f"library: calls of malloc for {name}", (0, "by open and close alone\n", ""), ran(counting, path))
+        replies |= set(wanted + answers)
+    report.expect("library: what is answered whether states follow", {"-1", "0", "1"}, replies)
     check_overflow(report, room, programs, libraries)
-
-
-def followed_samples(plant):
-    """Samples of a state, values and a next state, and the answers by the boxes of the module."""
-    chance, samples, wanted = random.Random(7), [], []
-    for state in random_states(plant)[:150]:
-        cell, vector = plant.cell_of(state), chance.randrange(plant.vectors)
-        values = list(plant.vector(vector))
-        strange = [[value + 10 ** 15 for value in values]] if values else []
-        for given, after in [(values, state), *((one, state) for one in strange)]:
-            add_sample(plant, samples, wanted, state, given, after)
-        if cell is None:
-            continue
-        noise = [chance.randint(low, high) for _, low, high in plant.noises]
-        after = plant.step(state, values, noise)
-        low, high = plant.box(cell, vector)
-        if not plant.leaves(low, high):
-            samples.append((state, values, after))
-            wanted.append("1")
-            for corner in corners_about(plant, low, high):
-                add_sample(plant, samples, wanted, state, values, corner)
-    return samples, wanted
-
-
-def corners_about(plant, low, high):
-    """The least and the greatest points of a box of cells, and one past each of them in each state."""
-    extents = plant.extents(low, high)
-    ends = [(first + begin * width, first + (end + 1) * width - 1) for (begin, end), (_, first, _, width) in zip(extents, plant.states)]
-    least, greatest = [one for one, _ in ends], [one for _, one in ends]
-    return [least, greatest, *([*least[:i], least[i] - 1, *least[i + 1:]] for i in range(len(ends))), *([*greatest[:i], greatest[i] + 1, *greatest[i + 1:]] for i in range(len(ends)))]
-
-
-def add_sample(plant, samples, wanted, state, values, after):
-    samples.append((state, values, after))
-    wanted.append(str(followed(plant, state, values, after)))
-
-
-def followed(plant, state, values, after):
-    """The answer by the cells that meet the box of the state's cell."""
-    vectors = [k for k in range(plant.vectors) if list(plant.vector(k)) == list(values)]
-    if plant.cell_of(state) is None or not vectors:
-        return NO_ROW
-    return int(plant.cell_of(after) in plant.successors(plant.cell_of(state), vectors[0]))
 
 
 # The square of the cube of a place leaves the range of 127 bits; the text has no row, so that it opens.
@@ -339,10 +308,7 @@ def check_turns(report, room, libraries):
     line of texts that are refused."""
     programs = {backend: compiled(report, room, f"turns_{backend}", "turns.c", library) for backend, library in libraries.items()}
     programs["the sanitizers"] = compiled(report, room, "turns_sane", "turns.c", libraries["llvm"], SANITIZERS)
-    texts = {"of five cells, stay": STAY.encode(), "of five cells, patrol": PATROL.encode()}
-    for name in report.examples():
-        texts |= {path: text for path, text in report.texts(name).items() if text is not None and not text.startswith(b"table ")}
-    for number, (name, text) in enumerate(texts.items()):
+    for number, (name, text) in enumerate(temporal_texts(report).items()):
         path = room / f"{number}.text"
         path.write_bytes(text)
         model = read_text(text)
@@ -359,6 +325,14 @@ def check_turns(report, room, libraries):
         path = room / "damaged.text"
         path.write_text(text.replace(old, new, 1))
         report.expect(f"library: {text[:6]} text with {new!r}", (1, [f"open 1 line {line}"], ""), split(ran(programs["llvm"], path)))
+
+
+def temporal_texts(report):
+    """Stay texts and patrol texts by their names: of a few cells, and those of the examples."""
+    texts = {"of five cells, stay": STAY.encode(), "of five cells, patrol": PATROL.encode()}
+    for name in report.examples():
+        texts |= {path: text for path, text in report.texts(name).items() if text is not None and not text.startswith(b"table ")}
+    return texts
 
 
 def driven_states(model):
@@ -545,9 +519,12 @@ def check_python(report, room, library, text):
         report.expect(f"{what}: sizes and kinds of states", ["ValueError"] * 3 + ["NoRow"] * 2,
                       [answer_of(controller.choice, state) for state in ([1], [1, 2, 3], [0.5, 0], [10 ** 30, 0], [0, -10 ** 30])])
         report.expect(f"{what}: none at once", [], controller.choices([]))
+        report.expect(f"{what}: sizes of steps", ["ValueError"] * 4 + ["NoRow"], [answer_of(controller.follows, *step) for step in (
+            ([1], [20], [1, 2]), ([1, 2], [20], [1]), ([1, 2], [], [1, 2]), ([1, 2], [20, 20], [1, 2]), ([1, 2], [21], [1, 2]))])
         controller.close()
         controller.close()
-        report.expect(f"{what}: closed", ["ValueError"] * 3, [answer_of(*call) for call in ((controller.choice, [1, 2]), (controller.rank, [1, 2]), (controller.choices, [[1, 2]]))])
+        report.expect(f"{what}: closed", ["ValueError"] * 4, [answer_of(*call) for call in (
+            (controller.choice, [1, 2]), (controller.rank, [1, 2]), (controller.choices, [[1, 2]]), (controller.follows, [1, 2], [20], [1, 2]))])
     found = subprocess.run([sys.executable, "-c", "from gaffcurrant_plant import Controller; import sys; print(Controller(sys.stdin.read()).is_proved)"], input=text,
                            capture_output=True, check=False, env={**os.environ, "PYTHONPATH": str(report.top / "tools"), "GAFFCURRANT_LIBRARY": shared})
     report.expect("library: the shared object that GAFFCURRANT_LIBRARY names", (b"True\n", b""), (found.stdout, found.stderr[-300:]))

@@ -1,2 +1,1 @@
 pub mod Ownership
-pub mod Exports

@@ -6,7 +6,7 @@
 #![tactic(auto)]
 
 ghost use Rattle.std.specs.Prelude.{◌≡◌, None};
-ghost use Rattle.controller_c.specs.Exports.{IsOpened, IsReplied, AreReplied, IsVisited, IsBegun, HasSizes, IsRanked, IsFollowed};
+ghost use Rattle.text_control.specs.Calls.{IsOpened, IsReplied, AreReplied, IsVisited, IsBegun, HasSizes, IsRanked, IsFollowed};
 
 mod controller;
 mod held;
@@ -172,9 +172,9 @@ pub extern "C" fn gaffcurrant_rank(
     status
 }
 
-/// Tells whether the next state is one to which the plant's equations may lead from the state, where the inputs are applied. 1: it
-/// is. 0: it isn't. -1: the state is outside the ranges, or the inputs are no input vector. -2: a wrong number of states or
-/// inputs. -3: closed. -4: a number of the plant leaves the range.
+/// Tells whether the next state lies in the successor box of the state's cell, where the inputs are applied. 1: it does. 0: it
+/// doesn't, or the box leaves the ranges. -1: the state is outside the ranges, or the inputs are no input vector. -2: a wrong
+/// number of states or inputs. -3: closed. -4: a number of the plant leaves the range.
 #[unsafe(no_mangle)]
 pub extern "C" fn gaffcurrant_follows(
     alloc: Global,

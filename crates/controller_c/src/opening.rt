@@ -3,7 +3,7 @@
 ghost use Rattle.std.specs.Prelude.{◌≡◌, ◌≢◌, IfOk, IfErr};
 ghost use Rattle.text_control.specs.declared.text_fault.TextFault.TheVariants.{Memory};
 ghost use Rattle.text_control.specs.Texts.{IsReadFrom, IsTextRefusedFor};
-ghost use Rattle.controller_c.specs.Exports.{fault_number, fault_line};
+ghost use Rattle.text_control.specs.Calls.{fault_number, fault_line};
 
 use std::alloc::Global;
 use text_control::statuses::{LIMIT, MALFORMED, NO_MEMORY};

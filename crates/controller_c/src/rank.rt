@@ -1,7 +1,7 @@
 //! The rank at a state.
 
 ghost use Rattle.std.specs.Prelude.{Some};
-ghost use Rattle.controller_c.specs.Exports.{IsRanked};
+ghost use Rattle.text_control.specs.Calls.{IsRanked};
 
 use text_control::statuses::{NO_ROW, RANKED, WRONG_SIZE};
 use text_control::{PackedText, rank_at};

@@ -28,7 +28,7 @@ use Rattle.text_control.specs.Loops.{LoopSample, moved_by, Answers, IsLoop, IsPa
 use Rattle.text_control.specs.Visits.{with_turn, IsVisit}
 use Rattle.text_control.specs.declared.visits.Visit.{Visit}
 use Rattle.text_control.specs.declared.visits.Visit.TheVariants.{Next, Same, WrongSize}
-use Rattle.synth_run.specs.Headline.{IsTableFor}
+use Rattle.synth_run.specs.Headline.{IsTableFor, IsStayTableFor}
 use Rattle.text_control.specs.Followed.{IsInItsBox}
 use Rattle.driven_loops.specs.Followed.{followed_of, IsFollowedLoop, IsFollowedPatrolLoop}
 use Rattle.driven_loops.specs.FollowedLaws.{LoopsAreFollowed}
@@ -64,10 +64,10 @@ in_its_box p s u plant inside below enabled are noise =
     }
 
 -- each input that a row applies at a state is one of the vectors, and has its box within the domain
-abbrev AppliesEnabled : TextModel → Type 0
+abbrev pub AppliesEnabled : TextModel → Type 0
 AppliesEnabled t = (x : List ℤ) (row : Row) (u : ℕ) → HasRowAt t.plant (due_rows t) x row → AppliesAs t.kind t.plant.goal row u → (u < vectors_of t.plant.inputs) × IsEnabledAt t.plant (cell_of (axes_of t.plant) x) u
 
-sample_in_box : (t : TextModel) → IsPlant t.plant → AppliesEnabled t → (s : LoopSample) (x : List ℤ) → s.state ≡ x → Answers t x s.values → IsNoise t.plant.noises s.noise → IsInItsBox t.plant (followed_of t.plant s)
+pub sample_in_box : (t : TextModel) → IsPlant t.plant → AppliesEnabled t → (s : LoopSample) (x : List ℤ) → s.state ≡ x → Answers t x s.values → IsNoise t.plant.noises s.noise → IsInItsBox t.plant (followed_of t.plant s)
 sample_in_box t plant on s x at answer noise =
     let c = chosen_by t x answer.0 s.values answer.1.0 answer.1.1 answer.1.2 in
     let has : HasRowAt t.plant (due_rows t) s.state c.row = subst (λ (z : List ℤ). HasRowAt t.plant (due_rows t) z c.row) (sym at) c.has in
@@ -79,7 +79,7 @@ followed t plant on [] x y loop = loop
 followed t plant on (s ∷ samples) x y loop = (loop.0, loop.1, sample_in_box t plant on s x loop.0 loop.1 loop.2, followed t plant on samples (moved_by t.plant s) y loop.3)
 
 -- a visit changes no more than the turn
-turn_after_visit : (t : TextModel) (j : ℕ) (x : List ℤ) (m : TextModel) (visit : Visit) → IsVisit (with_turn t j) x m visit → (i : ℕ) × (m ≡ with_turn t i)
+pub turn_after_visit : (t : TextModel) (j : ℕ) (x : List ℤ) (m : TextModel) (visit : Visit) → IsVisit (with_turn t j) x m visit → (i : ℕ) × (m ≡ with_turn t i)
 turn_after_visit t j x m Next is = (_, is.2)
 turn_after_visit t j x m Same is = (j, is.2)
 turn_after_visit t j x m WrongSize is = (j, is.1)
@@ -101,20 +101,29 @@ followed_patrol t plant on (s ∷ samples) j x y u loop =
 
 -- ---- texts that were written
 
-table_followed : (bytes text : List ℕ) (t : TextModel) → IsReadFrom text t → (given : IsTableFor bytes text) (goal : GoalKind) → given.0.goal ≡ goal → (samples : List LoopSample) (x y : List ℤ) → IsLoop t x samples y
-    → IsFollowedLoop t x (map (followed_of t.plant) samples) y
-table_followed bytes text t read given Reach goal =
+-- what a text that was written applies at each row is enabled, in the plant that the bytes spell
+abbrev pub IsEnabledText : Description → TextModel → Type 0
+IsEnabledText p t = (t.plant ≡ p) × IsPlant t.plant × AppliesEnabled t
+
+table_by_goal : (bytes text : List ℕ) (t : TextModel) → IsReadFrom text t → (given : IsTableFor bytes text) (goal : GoalKind) → given.0.goal ≡ goal → IsEnabledText given.0 t
+table_by_goal bytes text t read given Reach goal =
     let r = reaches given.0 bytes text t given.1.spells goal given read in
-    followed t r.plant (reach_enabled t r.plant r.version r.kind r.goal r.right (guides t.plant (due_rows t) r.plant r.right))
-table_followed bytes text t read given Keep goal =
+    (r.same, r.plant, reach_enabled t r.plant r.version r.kind r.goal r.right (guides t.plant (due_rows t) r.plant r.right))
+table_by_goal bytes text t read given Keep goal =
     let k = keeps given.0 bytes text t given.1.spells goal given read in
-    followed t k.1.plant (keep_enabled t k.1)
+    (k.0, k.1.plant, keep_enabled t k.1)
+
+pub table_enabled : (bytes text : List ℕ) (t : TextModel) → IsReadFrom text t → (given : IsTableFor bytes text) → IsEnabledText given.0 t
+table_enabled bytes text t read given = table_by_goal bytes text t read given given.0.goal refl
+
+pub stay_text_enabled : (bytes text : List ℕ) (t : TextModel) → IsReadFrom text t → (given : IsStayTableFor bytes text) → IsEnabledText given.0 t
+stay_text_enabled bytes text t read given = let h = settled given.0 bytes text t given.1.spells given read in (h.0, h.1.plant, stay_enabled t h.1)
 
 pub loops_are_followed : LoopsAreFollowed
 loops_are_followed bytes text t read = (
   λ given x y samples loop. elim given [
-    | inl table ↦ table_followed bytes text t read table table.0.goal refl samples x y loop
-    | inr stay ↦ let h = settled stay.0 bytes text t stay.1.spells stay read in followed t h.1.plant (stay_enabled t h.1) samples x y loop
+    | inl table ↦ let e = table_enabled bytes text t read table in followed t e.1 e.2 samples x y loop
+    | inr stay ↦ let e = stay_text_enabled bytes text t read stay in followed t e.1 e.2 samples x y loop
   ],
   λ given j x y samples u loop.
       let h = patrolled given.0 bytes text t given.1.spells given read in

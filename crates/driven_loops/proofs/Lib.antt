@@ -8,3 +8,5 @@ pub mod Settling
 pub mod Patrolling
 pub mod Following
 pub mod Written
+pub mod Calling
+pub mod Alarms

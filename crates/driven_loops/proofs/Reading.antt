@@ -1,6 +1,6 @@
 -- Status 0 says that a text was written, and such a text is read again.
 use Rattle.std.specs.Prelude.{IfSome}
-use Rattle.std.proofs.Common.{inl, inr, ◌≡◌, ℕ, List, Option, Some, refl, sym, subst}
+use Rattle.std.proofs.Common.{inl, inr, ℕ, List, Option, refl, subst}
 use Rattle.controller_table.specs.TableText.{written_version}
 use Rattle.controller_table.specs.Tables.{TableModel}
 use Rattle.temporal_texts.specs.StayText.{StayModel}
@@ -9,9 +9,7 @@ use Rattle.text_control.specs.declared.text_fault.TextFault.{TextFault}
 use Rattle.text_control.specs.Texts.{TextModel, of_table, of_stay, of_patrol, IsReadFrom, IsTextRefusedFor}
 use Rattle.text_control.specs.Laws.{HasFewEnoughTurns}
 use Rattle.text_control.proofs.TextRefusals.{read_texts_tell, text_or_refused}
-use Rattle.command_line.specs.declared.command.Command.{Command}
 use Rattle.command_line.specs.declared.command.Command.TheVariants.{Synth, Check, Upgrade, Sim, Demo, Stay, Patrol}
-use Rattle.run_devices.specs.Devices.{Writing}
 use Rattle.synth_run.specs.RunClauses.{IsAnswered}
 use Rattle.driven_loops.specs.Laws.{AnswersAreWritten, WrittenTextsAreRead}
 

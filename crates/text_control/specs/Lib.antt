@@ -4,5 +4,6 @@ pub mod Each
 pub mod Visits
 pub mod Loops
 pub mod Followed
+pub mod Calls
 pub mod Laws
 pub mod inside

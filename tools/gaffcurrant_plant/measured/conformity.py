@@ -193,8 +193,8 @@ class Conformity:
     def chosen(self, missing: numpy.ndarray) -> tuple[numpy.ndarray, numpy.ndarray, dict[str, int]]:
         """The steps with all numbers; those of them that are judged; and how many aren't, by the reason."""
         log, equations = self.log, self.equations
-        has_state = ~numpy.isnan(log.states).any(axis=0)
-        has_all = has_state & ~numpy.isnan(log.inputs).any(axis=0)
+        has_state = numpy.isfinite(log.states).all(axis=0)
+        has_all = has_state & numpy.isfinite(log.inputs).all(axis=0)
         steps = numpy.flatnonzero(log.goes_on)
         reasons = {"samples are missing in between": missing[steps],
                    "a number is missing": ~(has_all[steps] & has_state[steps + 1]),

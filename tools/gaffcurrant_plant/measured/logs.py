@@ -61,6 +61,8 @@ def log_of(states: object, inputs: object, times: object = None, begins: Sequenc
 def read_log(data: bytes, states: Sequence[str], inputs: Sequence[str], units: Units, path: str = "the log") -> Log:
     """The log that the bytes spell, with a column for each of the named states and inputs; raises Trouble with the line
     where there is none."""
+    if b"\0" in data[:4096]:
+        raise Trouble(f"{path}: the log has bytes of zero, as text in UTF-16 has; it is to be CSV in UTF-8")
     text = data.removeprefix(b"\xef\xbb\xbf").replace(b"\r\n", b"\n").replace(b"\r", b"\n")
     first = re.match(rb"\s*", text).end()  # type: ignore[union-attr]
     heading, _, body = text[first:].partition(b"\n")
@@ -71,8 +73,9 @@ def read_log(data: bytes, states: Sequence[str], inputs: Sequence[str], units: U
     separator = next((one for one in SEPARATORS if one in said), ",")
     columns = columns_of(path, [word.strip().strip('"').strip() for word in said.split(separator)], states, inputs,
                          units)
-    table, lines, goes_on = numbers_of(path, body, line + 1, separator, len(said.split(separator)))
     time = next((columns[name] for name in TIMES if name in columns and name not in (*states, *inputs)), None)
+    looked_at = [columns[name] for name in (*states, *inputs)] + [time] * (time is not None)
+    table, lines, goes_on = numbers_of(path, body, line + 1, separator, len(said.split(separator)), looked_at)
     picked = [table[:, [columns[name] for name in names]].T for names in (states, inputs)]
     log = Log(picked[0], picked[1], None if time is None else table[:, time], lines, goes_on, path)
     check_times(log)
@@ -95,18 +98,19 @@ def columns_of(path: str, words: Sequence[str], states: Sequence[str], inputs: S
         columns[name] = at
     missing = [name for name in (*states, *inputs) if name not in columns]
     if missing:
-        near = difflib.get_close_matches(missing[0], list(columns), 1, 0.5)
-        meant = f"; is `{near[0]}` meant?" if near else ""
+        small = {name.lower(): name for name in columns}
+        near = difflib.get_close_matches(missing[0].lower(), list(small), 1, 0.5)
+        meant = f"; is `{small[near[0]]}` meant?" if near else "."
         raise Trouble(f"{path}: the heading, `{', '.join(words)[:120]}`, has no column {', '.join(missing)}{meant} The "
                       f"states are {', '.join(states)}, the inputs "
                       f"{', '.join(inputs) or 'none'}")
     return columns
 
 
-def numbers_of(path: str, body: bytes, first: int, separator: str, wide: int) -> tuple[numpy.ndarray, numpy.ndarray,
-                                                                                       numpy.ndarray]:
-    """The numbers of the lines below a heading, which begin with this line; their line numbers; and whether the next
-    one belongs to the same run."""
+def numbers_of(path: str, body: bytes, first: int, separator: str, wide: int,
+               looked_at: Sequence[int]) -> tuple[numpy.ndarray, numpy.ndarray, numpy.ndarray]:
+    """The numbers of the lines below a heading, which begin with this line, in the columns that are looked at; their
+    line numbers; and whether the next one belongs to the same run."""
     text = b"\n" + body + b"\n" * (not body.endswith(b"\n"))
     if separator != ",":
         text = text.replace(b",", b".").replace(separator.encode(), b",")
@@ -125,7 +129,10 @@ def numbers_of(path: str, body: bytes, first: int, separator: str, wide: int) ->
     if rows.size < 2:
         raise Trouble(f"{path}: there are no two samples below the heading")
     goes_on = numpy.concatenate([numpy.diff(rows) == 1, [False]])
-    return parsed(path, text, begins, ends, rows, first).reshape(-1, wide), first + rows, goes_on
+    numbers = parsed(text, text.count(b",") + rows.size)
+    if numbers is None:
+        numbers = parsed_by_line(path, [text[begins[row]:ends[row]] for row in rows.tolist()], first + rows, looked_at)
+    return numbers.reshape(-1, wide), first + rows, goes_on
 
 
 def with_nan(text: bytes, wide: int) -> bytes:
@@ -140,26 +147,30 @@ def with_nan(text: bytes, wide: int) -> bytes:
     return text
 
 
-def parsed(path: str, text: bytes, begins: numpy.ndarray, ends: numpy.ndarray, rows: numpy.ndarray,
-           first: int) -> numpy.ndarray:
-    """All numbers of a text; raises Trouble with the first line that has something else."""
-    count = text.count(b",") + rows.size
+def parsed(text: bytes, count: int) -> Optional[numpy.ndarray]:
+    """The numbers of a text that has so many and nothing else; None of another one."""
     with warnings.catch_warnings():
         warnings.simplefilter("error")
         try:
             numbers = numpy.fromstring(text.replace(b",", b" "), dtype=float, sep=" ")
-            if numbers.size == count:
-                return numbers
         except (DeprecationWarning, ValueError):
-            pass
-    for row in rows.tolist():
-        for word in text[begins[row]:ends[row]].split(b","):
+            return None
+    return numbers if numbers.size == count else None
+
+
+def parsed_by_line(path: str, rows: Sequence[bytes], lines: numpy.ndarray, looked_at: Sequence[int]) -> numpy.ndarray:
+    """The numbers of lines in the columns that are looked at, NaN in the others, whatever stands there; raises Trouble
+    with the first line that has something else."""
+    table = numpy.full((len(rows), rows[0].count(b",") + 1), numpy.nan)
+    for place, row in enumerate(rows):
+        words = row.split(b",")
+        for at in looked_at:
             try:
-                float(word)
+                table[place, at] = float(words[at].replace(b"_", b"?"))
             except ValueError:
-                said = word.decode("utf-8", "replace").strip()[:40]
-                raise Trouble(f"{path}: line {first + row}: `{said}` is no number") from None
-    raise Trouble(f"{path}: the lines have something else than numbers")
+                said = words[at].decode("utf-8", "replace").strip()[:40]
+                raise Trouble(f"{path}: line {lines[place]}: `{said}` is no number") from None
+    return table
 
 
 def check_times(log: Log) -> None:
@@ -189,7 +200,7 @@ def sampling_of(log: Log, sample: Optional[float]) -> tuple[Optional[float], num
         if not 1 / 900 < factor < 900:
             hint = "; is the time in other units?"
         elif factor > 1.5 and abs(factor - round(factor)) < 0.02 * factor:
-            hint = f"; every {round(factor)}th line would fit"
+            hint = f"; one line in {round(factor)} would fit"
         raise Trouble(f"{log.path}: its samples are {usual:.6g} apart, and the model's {sample:.6g}{hint}")
     gaps[log.goes_on] = abs(steps[log.goes_on] - usual) > usual / 2
     return usual, gaps

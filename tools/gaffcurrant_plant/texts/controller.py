@@ -19,10 +19,15 @@ APPLY, ARRIVED, NO_ROW, WRONG_SIZE, CLOSED, OVERFLOW = 1, 0, -1, -2, -3, -4
 FOLLOWED = 1
 FAULTS = {1: "malformed: line {}", 2: "limit", 3: "no memory"}
 
-# A state past 64 bits is outside every plant's ranges, as these are.
+# A number past 64 bits is outside every plant's ranges, as these are.
 FARTHEST = 2**63 - 1
 
 Values = Optional[tuple[int, ...]]
+
+
+def numbers_of(values: Iterable[Any]) -> list[int]:
+    """Whole numbers of 64 bits; raises ValueError where one is none."""
+    return [max(-FARTHEST, min(FARTHEST, whole_of(value))) for value in values]
 
 
 class Held(ctypes.Structure):
@@ -243,7 +248,7 @@ class Controller:
         """Whether the next state lies in the successor box of the state's cell under these values of the inputs, as it
         does of a plant that obeys its equations. Raises NoRow where the state is outside the ranges or the values are
         no input vector, Refused where a number of the plant leaves the range."""
-        whole, inputs = self.whole(state), [whole_of(value) for value in values]
+        whole, inputs = self.whole(state), numbers_of(values)
         reply = self._rows.follows(whole, inputs, self.whole(after))
         if reply == NO_ROW:
             raise NoRow(f"{whole} is outside the ranges, or {inputs} is no input vector")
@@ -269,7 +274,7 @@ class Controller:
     def whole(self, state: Iterable[Any]) -> list[int]:
         """A state as whole numbers of 64 bits; raises ValueError where it is none, or has too few or too many
         numbers."""
-        whole = [max(-FARTHEST, min(FARTHEST, whole_of(value))) for value in state]
+        whole = numbers_of(state)
         if len(whole) != self._rows.states:
             raise ValueError(f"a state has {self._rows.states} numbers, here are {len(whole)}")
         return whole

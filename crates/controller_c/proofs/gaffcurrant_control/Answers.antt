@@ -3,7 +3,7 @@ use Rattle.std.specs.Prelude.{FitsSigned}
 use Rattle.std.proofs.lemmas.Int.{to_z-of_z}
 use Rattle.text_control.specs.Texts.{TextModel}
 use Rattle.text_control.specs.Control.{EncodesReply}
-use Rattle.controller_c.specs.Exports.{IsReplied}
+use Rattle.text_control.specs.Calls.{IsReplied}
 use Rattle.controller_c.proofs.gaffcurrant_control.Goals as goal
 
 pub returns-clause-reply : goal.returns-clause-reply

@@ -2,7 +2,7 @@ use Rattle.std.proofs.Common.{inl, Bool, Option, refl, sym, subst, subst₂}
 use Rattle.std.specs.Prelude.{pos, true}
 use Rattle.text_control.specs.Texts.{TextModel}
 use Rattle.text_control.specs.Each.{IsReplyEach}
-use Rattle.controller_c.specs.Exports.{AreReplied}
+use Rattle.text_control.specs.Calls.{AreReplied}
 use Rattle.controller_c.proofs.gaffcurrant_control_each.Goals as goal
 
 pub returns-then-told-clause-told : goal.returns-then-told-clause-told

@@ -3,7 +3,7 @@ use Rattle.std.specs.Prelude.{FitsSigned}
 use Rattle.std.proofs.lemmas.Int.{to_z-of_z}
 use Rattle.text_control.specs.Texts.{TextModel}
 use Rattle.text_control.specs.Followed.{FollowedSample, EncodesFollow}
-use Rattle.controller_c.specs.Exports.{IsFollowed}
+use Rattle.text_control.specs.Calls.{IsFollowed}
 use Rattle.controller_c.proofs.gaffcurrant_follows.Goals as goal
 
 pub returns-clause-followed : goal.returns-clause-followed

@@ -2,7 +2,7 @@ use Rattle.std.proofs.Common.{Option, Some, sym, subst, w32, rules}
 use Rattle.std.specs.Prelude.{FitsSigned}
 use Rattle.std.proofs.lemmas.Int.{to_z-of_z}
 use Rattle.text_control.specs.Texts.{TextModel}
-use Rattle.controller_c.specs.Exports.{IsRanked}
+use Rattle.text_control.specs.Calls.{IsRanked}
 use Rattle.controller_c.proofs.gaffcurrant_rank.Goals as goal
 
 pub returns-clause-rank : goal.returns-clause-rank

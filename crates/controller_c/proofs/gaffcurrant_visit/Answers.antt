@@ -2,7 +2,7 @@ use Rattle.std.proofs.Common.{◌≡◌, Option, Some, sym, subst, ap, ◌∙◌
 use Rattle.std.specs.Prelude.{FitsSigned}
 use Rattle.std.proofs.lemmas.Int.{to_z-of_z}
 use Rattle.text_control.specs.Texts.{TextModel}
-use Rattle.controller_c.specs.Exports.{IsVisited}
+use Rattle.text_control.specs.Calls.{IsVisited}
 use Rattle.controller_c.proofs.gaffcurrant_visit.Goals as goal
 
 pub returns : goal.returns

@@ -1,4 +1,4 @@
--- What C is told, by what the text tells that a controller holds.
+-- What a caller in C is told by the text that is held for it, if any.
 use Rattle.std.specs.Prelude.{◌≡◌, ◌≢◌, ◌⊎◌, ℕ, ◌<◌, ◌≤◌, ℤ, pos, negsuc, List, length, Option, Some, None, true, false}
 use Rattle.text_control.specs.declared.text_fault.TextFault.{TextFault}
 use Rattle.text_control.specs.declared.text_fault.TextFault.TheVariants as faults
@@ -27,7 +27,7 @@ pub record IsRefusal (bytes : List ℕ) (status : ℤ) (line : ℕ) : Type 0 whe
   pub line_is : line ≡ fault_line fault
   pub refused : fault ≢ faults.Memory → IsTextRefusedFor bytes fault
 
--- what the bytes tell is held; or nothing is, and the numbers say why the bytes are no text
+-- what the bytes say is held; or nothing is, and the numbers say why the bytes are no text
 abbrev pub IsOpened : List ℕ → Option TextModel → ℤ → ℕ → Type 0
 IsOpened bytes (Some t) status line = (status ≡ pos 0) × (line ≡ 0) × IsReadFrom bytes t
 IsOpened bytes None status line = IsRefusal bytes status line
