@@ -1,19 +1,25 @@
 """Models made at random, half of them damaged: each is scaled to a text, or refused in one line. GAFFCURRANT_MODELS says how many are made (5000).
 
-Run as a program it takes the first number and how many, and prints a line for each model that ends in neither."""
+Run as a program, `tests/hostility/models.py FIRST COUNT`, it tries so many models from this number on, prints a line for each that ends in neither as it
+comes, and at the end how many there were of each kind; `--tell` prints a line for every model, with its seconds."""
 
 import os
 import random
+import re
 import signal
 import subprocess
 import sys
+import time
 import traceback
+from collections import Counter
 from pathlib import Path
 
 TOP = Path(__file__).resolve().parents[2]
 COUNT, BLOCK = int(os.environ.get("GAFFCURRANT_MODELS", 5000)), 25
 # Seconds of the processor after which a model is said never to end.
 ENDLESS = 300
+# How a line begins that is said of a model: with the model's line, with what the model lacks, or with a limit of the whole text.
+LINED = re.compile(r"line [0-9]+: |the model has |the plant would be refused, limit: ")
 
 
 class Endless(Exception):
@@ -31,8 +37,12 @@ def cases(_):
 
 def wrong_in(first):
     """The models of a block that end in neither a text nor a line, or None."""
-    done = subprocess.run([sys.executable, __file__, str(first), str(min(BLOCK, COUNT - first))], capture_output=True, check=False, text=True)
-    return None if done.returncode == 0 and not done.stdout else (done.stdout + done.stderr)[-300:] or f"status {done.returncode}"
+    count = min(BLOCK, COUNT - first)
+    done = subprocess.run([sys.executable, __file__, str(first), str(count)], capture_output=True, check=False, text=True)
+    wrongs = done.stdout.splitlines()[:-1]
+    if done.returncode or wrongs or not done.stdout.startswith(f"{count} models: "):
+        return "; ".join(wrongs) or f"status {done.returncode}, {(done.stdout + done.stderr)[-200:]!r}"
+    return None
 
 
 class Maker:
@@ -185,7 +195,9 @@ def outcome(text):
     try:
         planting = planted(read_model(text.encode("utf-8", "surrogateescape")))
     except Trouble as trouble:
-        return " ".join(str(trouble).split()) or "nothing is said"
+        line = " ".join(str(trouble).split())
+        assert LINED.match(line), f"no line of the model is named: {line}"
+        return line
     assert planting.text.endswith("\nend\n")
     return "text"
 
@@ -194,21 +206,32 @@ def endless(*_):
     raise Endless
 
 
+def tried(seed):
+    """What becomes of the model of a number, and whether that may be."""
+    signal.setitimer(signal.ITIMER_PROF, ENDLESS)
+    try:
+        return outcome(model_of(seed)), True
+    except Exception:
+        return " ".join(traceback.format_exc().split())[-300:], False
+    finally:
+        signal.setitimer(signal.ITIMER_PROF, 0)
+
+
 def main(words):
     sys.path.insert(0, str(TOP / "tools"))
     sys.dont_write_bytecode = True
     sys.setrecursionlimit(20_000)
-    is_told = "--tell" in words
     signal.signal(signal.SIGPROF, endless)
-    for seed in range(int(words[0]), int(words[0]) + int(words[1])):
-        signal.setitimer(signal.ITIMER_PROF, ENDLESS)
-        try:
-            said = outcome(model_of(seed))
-            if is_told:
-                print(seed, said[:200], flush=True)
-        except Exception:
-            print(f"model {seed}: {' '.join(traceback.format_exc().splitlines()[-3:])}"[:400])
-    return 0
+    first, count = (int(word) for word in words if word.isdigit())
+    kinds = Counter()
+    for seed in range(first, first + count):
+        before = time.process_time()
+        said, is_right = tried(seed)
+        kinds["texts" if said == "text" else "lines" if is_right else "failed"] += 1
+        if not is_right or "--tell" in words:
+            print(f"{'' if is_right else 'failed '}model {seed}, {time.process_time() - before:.1f} s: {said}", flush=True)
+    print(f"{count} models: {kinds['texts']} texts, {kinds['lines']} lines, {kinds['failed']} failed", flush=True)
+    return 1 if kinds["failed"] else 0
 
 
 if __name__ == "__main__":

@@ -7,6 +7,7 @@ import subprocess
 import sys
 
 from gaffcurrant_plant.command import DEBIAN
+from gaffcurrant_plant.ways.wider_obstacles import Looks, widenings_left
 
 from .check_doubles import has_numpy, text_of
 
@@ -23,6 +24,7 @@ def check(report):
     python = sys.executable if subprocess.run([sys.executable, "-c", "import numpy"], capture_output=True, check=False).returncode == 0 else DEBIAN
     done = subprocess.run([python, str(report.top / "tests/tooling/ways.py"), str(report.top / "tools")], capture_output=True, check=False)
     report.expect("enclosures hold the ways", (0, b"", b""), (done.returncode, done.stdout[:300], done.stderr[-300:]))
+    check_forecast(report)
     check_room(report)
     check_circle(report)
     check_nothing_left(report)
@@ -56,8 +58,21 @@ def check_room(report):
 
 
 def without_progress(error):
-    """What stands on standard error beside the lines that tell every ten seconds how far it is."""
-    return "".join(line for line in error.splitlines(True) if not re.fullmatch(r".*, \d+ s so far\n", line))
+    """What stands on standard error beside the lines that tell every ten seconds how far it is, and the one that tells how long it will take."""
+    return "".join(line for line in error.splitlines(True) if not re.fullmatch(r".*, \d+ s so far\n|.*: about \d+ s more, if .*\n", line))
+
+
+def check_forecast(report):
+    """How many widenings are left is told by the counts of ways that may touch: of three, where they fall."""
+    for counts, left in (([100, 50, 25], 6), ([64, 16, 3], 2), ([8, 3, 0], 0), ([100, 50], None), ([5, 5, 5], None), ([5, 4, 6], None)):
+        report.expect(f"widenings that are left by {counts}", left, widenings_left(counts))
+    looks, said = Looks.__new__(Looks), []
+    looks.known, looks.last, looks.counts, looks.seconds, looks.tell = {}, None, [[100, 50, 25]], [9.0, 4.0, 6.0], said.append
+    looks.forecast()
+    report.expect("what between tells first", ["between: about 165 s more, if the ways that may touch become fewer as so far (100, 50, 25): some 33 plants of 5.0 s each, for 4 ways to "
+                                               "widen obstacles"], said)
+    looks.counts.append([100])
+    report.expect("plants that are left of the second choice", 2 + 2 * 3, looks.plants_left())
 
 
 # A pointer on a circle that goes down by steps of 30 degrees, past a bar of 4 degrees at the range's end, to a target before it.

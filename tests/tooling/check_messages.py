@@ -18,7 +18,7 @@ MESSAGES = [
     ("state x 0 1 0.1 0.1\ninput u -1 0 1\nnext x = x\ngoal keep\n", "line 2: `input NAME UNIT V1 .. Vm`: the unit stands before the values and is above 0, here it is -1"),
     (CELL + "next x = x\ntarget 0 1\n", "the model has no `goal reach` line, and no `goal keep`"),
     (CELL + "# a comment\nnext x = x\n\ntarget 0.511 0.519\ngoal reach\n", "line 5: a target from 0.511 to 0.519 holds no whole unit of x"),
-    (CELL + "state y 0 1 0.1 0.1\nnext x = x\ngoal reach\n", "there are 2 states and 1 equations: `next y = ..` is missing"),
+    (CELL + "state y 0 1 0.1 0.1\nnext x = x\ngoal reach\n", "the model has 2 states and 1 equations: `next y = ..` is missing"),
 ]
 MESSAGES_OF_FUNCTIONS = [
     (CELL + "next x = sqrt(x - 0.5)\ngoal keep\n",

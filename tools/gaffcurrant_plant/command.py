@@ -62,6 +62,11 @@ PACKAGES = {
 def need(what, *modules):
     """Goes over to a Python that has some modules, or raises Trouble with the names of all that are missing."""
     prefer(*modules)
+    check_there(what, *modules)
+
+
+def check_there(what, *modules):
+    """Raises Trouble with the names of all modules that are missing."""
     if missing := [module for module in modules if not is_there(module)]:
         packages = " ".join(PACKAGES[module] for module in missing)
         raise Trouble(

@@ -36,6 +36,12 @@ class Progress:
             self.told = now
             print(f"{self.name}: {said}, {now - self.begun:.0f} s so far", file=sys.stderr, flush=True)
 
+    def tell(self, said):
+        """Says a line that stays."""
+        if self.is_on or self.has_lines:
+            self.end()
+            print(f"{self.name}: {said}", file=sys.stderr, flush=True)
+
     def put(self, said, now):
         self.told, self.is_shown = now, True
         print(f"\r{self.name}: {said} \033[K", end="", file=sys.stderr, flush=True)

@@ -1,16 +1,24 @@
 """Whether a table is of a model, or of a plant text: names, order, ranges, cells and values."""
 
 import importlib.util
+import math
+import random
 import re
+from fractions import Fraction
 
 from ..command import read_bytes
 from ..faults import Refused, Trouble
+from ..plants.bounds import span_of
 from ..plants.reader import read_plant
+from ..plants.units import short
 from .best_plant import planted
 from .model import read_model
+from .trial import Point, around, real_steps
 
 # The comment of tools/scale on a state that its model calls exact.
 EXACT = re.compile(rb"^# unit ([A-Za-z][A-Za-z0-9_]*) .*: a whole number by itself$", re.M)
+# Random states whose step is looked at, and units by which it may lie beside the table's: older tools rounded in other ways.
+TRIED, BESIDE = 40, 2
 
 
 def states_of(model):
@@ -48,6 +56,22 @@ def check_equations(path, model, plant):
             raise Trouble(f"{path}: the model isn't the table's: the equation of {name} or its noise in whole units is another one; are the units others?")
 
 
+def check_steps(path, model, plant):
+    """Raises Trouble where the step of a model from a random state isn't one that a table's plant allows, as where all its units are ten times those."""
+    draws = random.Random(1)
+    points = [Point(model, draws) for _ in range(TRIED)]
+    for i, (state, real) in enumerate(zip(model.states, real_steps(model, points))):
+        name, *_, unit = state
+        for point, value in zip(points, real):
+            low, high = span_of(plant.equations[i], [(value, value) for value in point.whole + point.inputs] + [ends[1:] for ends in plant.noises])
+            beside = value / float(unit) - low
+            beside = around(beside, model, state) if name in model.wraps else beside
+            if not -BESIDE <= beside <= high - low + 1 + BESIDE:
+                away = f"{short(Fraction(abs(beside)) * unit)} away from where" if math.isfinite(beside) else "elsewhere than"
+                raise Trouble(f"{path}: the model isn't the table's: by the model a sample leads {name} {away} the table's plant leads it; are the units or the "
+                              "equations others?")
+
+
 def equations_of(plant):
     """For each state the line of its equation, and the ranges of the noises that it names."""
     names, lines = plant.names(), [line for line in plant.text().splitlines() if line.startswith("next ")]
@@ -79,13 +103,17 @@ def check_units(path, data, plant):
 def check_variables_of(path, data, plant):
     """Raises Trouble where the states and inputs of a model, or of a plant text that tools/scale made of one, aren't those of a table's plant."""
     if not is_plant_text(data):
-        check_model(path, read_model(data), plant)
+        model = read_model(data)
+        check_model(path, model, plant)
+        check_steps(path, model, plant)
         return
     try:
         other = read_plant(data)
     except Refused as refusal:
         raise Trouble(f"{path}: {refusal.answer}: {refusal.reason}") from None
     check_variables(path, "plant text", other.states, other.inputs, plant)
+    if equations_of(other) != equations_of(plant):
+        raise Trouble(f"{path}: the table is of another plant: equations or noises differ")
 
 
 def is_plant_text(data):

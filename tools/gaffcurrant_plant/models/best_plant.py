@@ -1,13 +1,14 @@
 """Chooses the plant of a model: the order and the steps of its sampling, the form of its polynomials and the number of straight pieces, by the size of the
 boxes that come out."""
 
+import math
 import random
 from fractions import Fraction
 
 from ..faults import Failure, Trouble
 from ..plants.expression import NODES
 from . import polynomial
-from .arithmetic import Floats
+from .arithmetic import Floats, is_exact
 from .curves import intervals
 from .formula import is_smooth, value_of
 from .linear import Block
@@ -41,6 +42,13 @@ def planted(model):
     if model.goal == "reach" and all(keyword != "target" for keyword, _ in model.boxes):
         raise Trouble("the model has `goal reach` and no `target` line, so there is nothing to reach: a line `target LO HI ..`, or `goal keep`, is due")
     return planting
+
+
+def needs_mpmath(model):
+    """Whether sampling or functions of a model need intervals."""
+    if model.flows:
+        return not Block(model).is_whole()
+    return any(not isinstance(equation, dict) and not is_exact(equation) for equation in model.equations)
 
 
 class Chooser:
@@ -220,6 +228,9 @@ def check_turn(model, name, turn, before, after):
     """Whether right sides a turn apart are the same, but for a turn that a `next` line itself adds to the state."""
     for (state, *_), one, other in zip(model.states, before, after):
         difference = other - one
+        if not math.isfinite(difference):
+            # The ranges will be said to be too wide for a function.
+            continue
         turns = round(difference / turn) if state == name and not model.flows else 0
         if abs(difference - turns * turn) > 1e-7 * max(1.0, abs(one)):
             raise Trouble(f"`wrap {name}`: the equation of {state} isn't the same a turn, {turn:g}, on: it differs by {difference:.3g}. Count an angle in "

@@ -11,11 +11,11 @@ from .polynomial import added
 def add_linear_system(model):
     """Makes equations of the lines A, B, c and w."""
     if model.equations:
-        raise Trouble("a model has `next` lines or a matrix A, not both")
+        raise Trouble(f"line {model.equation_lines[-1]}: a model has `next` lines or a matrix A, not both")
     for keyword, rows in model.rows.items():
         wanted = len(model.states) if rows or keyword == "A" or (keyword == "B" and model.inputs) else 0
         if len(rows) != wanted:
-            raise Trouble(f"{wanted} lines `{keyword}` are due, one for each state, here are {len(rows)}")
+            raise Trouble(f"the model has {len(rows)} line{'s' * (len(rows) != 1)} `{keyword}`, and {wanted} {'is' if wanted == 1 else 'are'} due, one for each state")
     of_states, of_inputs = one_sample(model)
     for i in range(len(model.states)):
         terms = {(state[0],): a for state, a in zip(model.states, of_states[i])}
@@ -23,8 +23,6 @@ def add_linear_system(model):
         terms[()] = of_inputs[i][-1]
         if model.rows["w"]:
             low, high = model.rows["w"][i]
-            if low > high:
-                raise Trouble("a line `w LO HI` has LO of at most HI")
             name = f"w_{model.states[i][0]}"
             model.noises.append((name, low, high))
             terms[name,] = Fraction(1)

@@ -80,16 +80,16 @@ def read_model(data):
 def check_equations(model):
     """Whether the lines give one equation for each state, in one of the three forms."""
     if model.flows and (model.equations or model.rows["A"]):
-        raise Trouble("a model has `next` lines, `d` lines or a matrix A, and no two of them")
+        raise Trouble(f"line {model.equation_lines[-1]}: a model has `next` lines, `d` lines or a matrix A, and no two of them")
     if model.rows["A"]:
         add_linear_system(model)
     elif model.sample and not model.flows:
-        raise Trouble("`sample` is for lines `d` or A, B and c; `next` lines are sampled already")
+        raise Trouble(f"line {model.sample_line}: `sample` is for lines `d` or A, B and c; `next` lines are sampled already")
     if model.flows and not model.sample:
-        raise Trouble("lines `d NAME = ..` need a sampling time, `sample T`")
+        raise Trouble(f"line {model.equation_lines[0]}: lines `d NAME = ..` need a sampling time, `sample T`")
     if len(model.equations or model.flows) != len(model.states):
         missing = model.states[len(model.equations or model.flows)][0]
-        raise Trouble(f"there are {len(model.states)} states and {len(model.equations or model.flows)} equations: `{'d' if model.flows else 'next'} "
+        raise Trouble(f"the model has {len(model.states)} state{'s' * (len(model.states) != 1)} and {len(model.equations or model.flows)} equations: `{'d' if model.flows else 'next'} "
                       f"{missing} = ..` is missing")
 
 
@@ -156,7 +156,10 @@ def read_line(model, words):
         read_equation(model, keyword, rest)
     elif keyword in model.rows:
         size = {"A": len(model.states), "B": len(model.inputs), "c": 1, "w": 2}[keyword]
-        model.rows[keyword].append(numbers(rest, size, keyword))
+        row = numbers(rest, size, keyword)
+        if keyword == "w" and row[0] > row[1]:
+            fail("a line `w LO HI` has LO of at most HI")
+        model.rows[keyword].append(row)
         if keyword == "A":
             model.equation_lines.append(model.line)
     elif is_inequality(keyword, rest):

@@ -72,7 +72,10 @@ class Planting:
     def model_line(self, refusal):
         """The line of the model to which a refusal belongs, or None."""
         overflow = re.match(r"overflow: equation (\d+) ", refusal.answer)
-        words = self.text.splitlines()[refusal.line - 1].split() if refusal.line else []
+        lines = [line.split() for line in self.text.splitlines()[:refusal.line or 0]]
+        words = lines[-1] if lines else []
+        if words[:1] in (["target"], ["obstacle"]):
+            return self.model.box_lines[sum(line[:1] in (["target"], ["obstacle"]) for line in lines) - 1]
         names = self.noise_names if words[:1] == ["noise"] else [state[0] for state in self.model.states]
         if overflow or words[:1] in (["next"], ["noise"]):
             return self.model.equation_lines[int(overflow.group(1)) if overflow else names.index(words[1])]

@@ -83,17 +83,17 @@ class Flow:
         for step in range(self.count):
             box, end = self.enclosure(area)
             rests = self.rests_in(box)
-            course.append((rests, [self.maths.ends(end[name]) for name in self.names]))
+            course.append((rests, [self.ends(name, end[name]) for name in self.names]))
             if step + 1 < self.count:
                 area = self.narrowed(area, end, rests)
-                course[-1] = rests, [self.maths.ends(area[name]) for name in self.names]
+                course[-1] = rests, [self.ends(name, area[name]) for name in self.names]
         return course
 
     def narrowed(self, area, end, rests):
         """The common part of a box of the states behind a step and of what the polynomials give from the area, by the mean value theorem: the value
         at the middle, and the derivatives times the way from it."""
         maths = self.maths
-        middle = {name: maths.number(sum(maths.ends(area[name])) / 2) for name in self.names}
+        middle = {name: maths.number(sum(self.ends(name, area[name])) / 2) for name in self.names}
         at_middle, narrow, known, middle_known = area | middle, dict(end), {}, {}
         for polynomial, slopes, name, rest in zip(self.polynomials, self.slopes, self.names, rests):
             moved = self.value(name, polynomial, at_middle, middle_known) + maths.between(*rest)
@@ -113,9 +113,14 @@ class Flow:
         with self.model.at_equation(self.names.index(name)):
             return value_of(node, area, self.maths, known)
 
+    def ends(self, name, interval):
+        """The ends of an interval that a state's equation gave."""
+        with self.model.at_equation(self.names.index(name)):
+            return self.maths.ends(interval)
+
     def bound(self, state, node, box, known, signed=False):
         """The greatest absolute value of a node over a box; with `signed` the greatest value, or 0 where that is below it."""
-        low, high = self.maths.ends(self.value(state, node, box, known))
+        low, high = self.ends(state, self.value(state, node, box, known))
         return max(high, Fraction(0)) if signed else max(abs(low), abs(high))
 
     def areas(self, most_boxes, most_vectors):
@@ -181,9 +186,9 @@ class Flow:
 
     def rests_in(self, box):
         """For each state the ends of what the polynomial of a step leaves out, where a box holds the solutions."""
-        maths, known = self.maths, {}
+        known = {}
         share = number(self.time ** (self.order + 1) / math.factorial(self.order + 1))
-        rests = [maths.ends(self.value(name, mul(share, node), box, known)) for name, node in zip(self.names, self.derivatives[self.order])]
+        rests = [self.ends(name, self.value(name, mul(share, node), box, known)) for name, node in zip(self.names, self.derivatives[self.order])]
         moved = self.disturbed(box, known)
         return [(low - more, high + more) for (low, high), more in zip(rests, moved)]
 

@@ -103,7 +103,8 @@ def real_steps(model, points):
     values = {name: numpy.array([float(point.values[name]) for point in points]) for name in points[0].values}
     changes = [{name: numpy.array([float(point.changes[k][name]) if point.changes[k] else numpy.nan for point in points]) for name, *_ in model.noises}
                for k in range(len(points[0].changes))]
-    return [numpy.broadcast_to(real, len(points)).tolist() for real in step(model, values, changes, Arrays())]
+    with numpy.errstate(all="ignore"):
+        return [numpy.broadcast_to(real, len(points)).tolist() for real in step(model, values, changes, Arrays())]
 
 
 def exact_step(model, point):

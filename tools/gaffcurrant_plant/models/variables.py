@@ -21,6 +21,8 @@ LAST_POINTS = re.compile(r"(, -?[0-9]+:-?[0-9]+)+\)\Z")
 FINER = 10
 # The greatest power of ten that is a denominator.
 MOST_PLACES = 15
+# Bits of a denominator from which on an end is rounded outward, to one of so many bits: each step of a sample would square it.
+LONG, SHORT = 200, 80
 
 
 class Variable:
@@ -28,8 +30,9 @@ class Variable:
     real value / unit - whole number, text how the plant writes it."""
 
     def __init__(self, kind, unit, low, high, error=NEVER, text=None, choices=None):
-        self.kind, self.unit, self.low, self.high = kind, unit, low, high
-        self.error, self.text, self.choices = error, text, choices
+        self.kind, self.unit = kind, unit
+        (self.low, self.high), self.error = outward(low, high), outward(*error)
+        self.text, self.choices = text, choices
 
     def around(self):
         """Where real value / unit lies."""
@@ -190,6 +193,15 @@ class Room:
         """The unit of a variable that stands alone, else one that is fine beside the range."""
         single = single_of(argument)
         return self.variables[single].unit if single and self.variables[single].kind != "noise" else unit_for(self.range_of(argument))
+
+
+def outward(low, high):
+    """Two ends; where they have long denominators, ends of shorter ones that hold them."""
+    return (low if is_short(low) else Fraction(math.floor(low * 2 ** SHORT), 2 ** SHORT)), (high if is_short(high) else Fraction(math.ceil(high * 2 ** SHORT), 2 ** SHORT))
+
+
+def is_short(end):
+    return end.denominator.bit_length() <= LONG
 
 
 def single_of(argument):

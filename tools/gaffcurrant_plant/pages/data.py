@@ -4,6 +4,7 @@ from fractions import Fraction
 
 from ..faults import Refused, Trouble
 from ..models import formula
+from ..models.agreement import check_steps
 from ..models.model import read_model
 from ..plants.bounds import deviation_of_parts, span_of_parts
 from ..plants.expression import parts_of
@@ -103,6 +104,7 @@ def model_data(path, data, plant):
     else:
         model = read_model(data)
         check_model(path, model, plant)
+        check_steps(path, model, plant)
         flow = flow_data(model)
     sizes = {name: float(size) for name, size in units.sizes.items()}
     return {"units": {"sizes": sizes, "words": units.words, "exact": sorted(units.exact)}, "flow": flow}

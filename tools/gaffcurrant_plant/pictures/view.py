@@ -7,7 +7,7 @@ from ..plants.units import decimal
 
 
 class View:
-    """axes: the numbers of the states along the axes; fixed: for others the place at which they are fixed, values: the number."""
+    """axes: the numbers of the states along the axes; fixed: for others the place at which they are fixed, values: the number, said: that in words."""
 
     def __init__(self, plant, units, names=None, fix=()):
         known = [state[0] for state in plant.states]
@@ -15,7 +15,7 @@ class View:
         self.axes = [self.number(known, name) for name in names or known[:2]]
         if len(self.axes) > 3 or len(set(self.axes)) < len(self.axes):
             raise Trouble("--axes takes one, two or three states", 2)
-        self.fixed, self.values = {}, {}
+        self.fixed, self.values, self.said = {}, {}, {}
         for entry in fix:
             self.fix(known, entry)
 
@@ -31,6 +31,8 @@ class View:
         if i in self.axes:
             raise Trouble(f"--fix {entry}: {name} is an axis", 2)
         self.fixed[i], self.values[i] = (value - low) // width, value
+        is_real = self.units.sizes and name not in self.units.exact
+        self.said[i] = f"{name} = {word}{self.units.word(name)}" if is_real else self.units.said(name, value)
 
     def number(self, names, name):
         if name not in names:
@@ -72,7 +74,7 @@ class View:
 
     def note(self, is_share):
         """In words, what is done with the states that are no axes."""
-        said = [self.units.said(self.plant.states[i][0], value) for i, value in sorted(self.values.items())]
+        said = [self.said[i] for i in sorted(self.values)]
         names = ", ".join(self.plant.states[i][0] for i in self.projected())
         if names:
             said.append(f"share of the places of {names} that are kept" if is_share else f"best over {names}")

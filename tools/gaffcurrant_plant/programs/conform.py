@@ -5,7 +5,7 @@ import re
 from fractions import Fraction
 from functools import partial
 
-from ..command import Words, need, read_bytes, start
+from ..command import Words, check_there, prefer, read_bytes, start
 from ..faults import Refused, Trouble
 from ..plants.reader import read_plant
 from ..progress import Progress
@@ -54,17 +54,32 @@ def main(words):
         raise Trouble("the output's name ends in .png or .svg", 2)
     if given.turn is not None and given.table is None:
         raise Trouble("--turn goes with --table", 2)
-    need("this", "numpy", *["matplotlib"] * bool(given.output))
-    return Run(given).told()
+    drawing = ["matplotlib"] * bool(given.output)
+    prefer("numpy", "mpmath", *drawing)
+    data = read_bytes(given.model)
+    check_there("this", "numpy", *["mpmath"] * is_of_functions(data), *drawing)
+    return Run(given, data).told()
+
+
+def is_of_functions(data):
+    """Whether a text is a model that needs mpmath."""
+    from ..models.agreement import is_plant_text
+    from ..models.best_plant import needs_mpmath
+    from ..models.model import read_model
+    try:
+        return not is_plant_text(data) and needs_mpmath(read_model(data))
+    except Trouble:
+        # It can't be read, which is said next.
+        return False
 
 
 class Run:
     """One call: the plant, the log, and what is said of them."""
 
-    def __init__(self, given):
+    def __init__(self, given, data):
         from ..measured.conformity import conform
         from ..measured.logs import read_log
-        self.given, self.data, self.progress = given, read_bytes(given.model), Progress("conform")
+        self.given, self.data, self.progress = given, data, Progress("conform")
         self.plant, self.sample = plant_of(given.model, self.data)
         self.text = text_of(given, self.plant)
         with self.progress.during("reading the log"):

@@ -4,9 +4,9 @@ straight pieces instead of functions do."""
 import argparse
 from functools import partial
 
-from ..command import Words, prefer, read_bytes, start
+from ..command import Words, check_there, prefer, read_bytes, start
 from ..faults import Trouble
-from ..models.best_plant import planted
+from ..models.best_plant import needs_mpmath, planted
 from ..models.model import read_model
 from ..models.model_language import help_text
 from ..models.trial import trial
@@ -32,6 +32,8 @@ def main(words):
     try:
         model = read_model(data)
         model.version = given.version or model.version
+        if given.trials is None and (given.between or model.between):
+            check_there("`between`", "numpy", *["mpmath"] * needs_mpmath(model))
         planting = planted(model)
         if given.trials is None and (given.between or model.between):
             from ..ways.wider_obstacles import text_between

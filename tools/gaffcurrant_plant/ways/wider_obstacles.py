@@ -2,6 +2,7 @@
 ways, widens by a layer of cells where ways touch, and begins again. Needs numpy and the program."""
 
 import math
+import time
 from collections import Counter
 
 from ..faults import Refused, Trouble
@@ -15,6 +16,8 @@ from .doubles import need_numpy, numpy
 from .enclosure import Looked
 
 MOST_ROUNDS = 100
+# Plants of a choice behind which it is told how long the rest may take, if it is longer than so many seconds.
+FIRST, LONG = 3, 20
 # By how much dearer a side is that has layers, by their number squared; and whether a way asks for a layer where it ends, and not only where it begins. All
 # are tried, and what leaves the most rows is taken.
 CHOICES = ((4, False), (0, False), (4, True), (0, True))
@@ -108,10 +111,11 @@ class Layers:
 def text_between(planting, word, has_bounds, progress=None):
     """The plant text whose table keeps the ways off the model's obstacles, and in its domain where that is asked for."""
     need_numpy()
-    found, faults, looks = [], [], Looks(planting, word, has_bounds)
-    with (progress or Progress("scale", has_lines=True)).during(looks.said):
-        for number, choice in enumerate(CHOICES, 1):
-            looks.choice = number
+    progress = progress or Progress("scale", has_lines=True)
+    found, faults, looks = [], [], Looks(planting, word, has_bounds, progress.tell)
+    with progress.during(looks.said):
+        for choice in CHOICES:
+            looks.begin()
             try:
                 found.append(Widened(looks, *choice))
             except Trouble as trouble:
@@ -132,26 +136,71 @@ class Look:
 
 
 class Looks:
-    """Looks at plants, at each once, since several choices begin alike. choice: the number of the choice that is tried; last: the Look before."""
+    """Looks at plants, at each once, since several choices begin alike. choice: the number of the choice that is tried; counts: of each choice that was begun, how
+    many ways may touch, plant by plant; seconds: what each look took; tell: says a line."""
 
-    def __init__(self, planting, word, has_bounds):
+    def __init__(self, planting, word, has_bounds, tell=lambda _: None):
         self.planting, self.model, self.word, self.has_bounds = planting, planting.model, word, has_bounds
-        self.known, self.choice, self.last = {}, 1, None
+        self.known, self.last, self.counts, self.seconds, self.tell = {}, None, [], [], tell
         self.ways = Looked(self.model, planting.plant, has_bounds)
+
+    @property
+    def choice(self):
+        return len(self.counts)
+
+    def begin(self):
+        """Begins with the next choice."""
+        self.counts.append([])
 
     def said(self):
         """How far it is."""
         if self.last is None:
             return "between: solving the plant as it is, and enclosing its ways"
+        left = self.seconds_left()
         return f"between: way {self.choice} of {len(CHOICES)} to widen obstacles, plant {len(self.known) + 1}; the one before has {self.last.rows} rows, and the ways " \
-               f"of {self.last.walls.shape[1]} may touch"
+               f"of {self.last.walls.shape[1]} may touch" + (f"; about {left:.0f} s left" if left is not None else "")
 
     def at(self, text):
         """The Look at a plant text."""
         if text not in self.known:
+            begun = time.monotonic()
             self.known[text] = self.look(text)
+            self.seconds.append(time.monotonic() - begun)
         self.last = self.known[text]
+        self.counts[-1].append(self.last.walls.shape[1])
+        if len(self.counts[0]) == FIRST and self.choice == 1:
+            self.forecast()
         return self.last
+
+    def forecast(self):
+        """Tells how long the rest may take, where that is long."""
+        left, counts = self.seconds_left(), ", ".join(map(str, self.counts[0]))
+        if left is None and self.last.walls.any():
+            self.tell(f"between: the ways that may touch don't become fewer so far ({counts}), so it can't be told how long this takes; a plant takes "
+                      f"{self.plant_seconds():.0f} s, and {MOST_ROUNDS} for each of {len(CHOICES)} ways to widen obstacles are the most")
+        elif left is not None and left > LONG:
+            self.tell(f"between: about {left:.0f} s more, if the ways that may touch become fewer as so far ({counts}): some {self.plants_left()} plants of "
+                      f"{self.plant_seconds():.1f} s each, for {len(CHOICES)} ways to widen obstacles")
+
+    def seconds_left(self):
+        """About how long the rest takes, or None where that can't be said."""
+        plants = self.plants_left()
+        return None if plants is None else plants * self.plant_seconds()
+
+    def plant_seconds(self):
+        """What a plant takes: the first one's ways are all new."""
+        others = self.seconds[1:]
+        return sum(others) / len(others) if others else self.seconds[0]
+
+    def plants_left(self):
+        """About how many plants are still to be looked at, where the ways become fewer by the same factor from plant to plant; None where that can't be said."""
+        own = widenings_left(self.counts[-1]) if self.counts else None
+        usual = max([len(counts) for counts in self.counts[:-1]], default=None)
+        if own is None and usual is not None:
+            own = max(1, usual - len(self.counts[-1]))
+        if own is None:
+            return None
+        return own + (len(CHOICES) - self.choice) * (usual or len(self.counts[-1]) + own)
 
     def look(self, text):
         from ..texts.arrays import Turns
@@ -167,6 +216,16 @@ class Looks:
         vectors = numpy.concatenate([one.inputs[touch.cells] for one, touch in zip(turns, found)])
         places = numpy.array(numpy.unravel_index(cells, self.planting.plant.counts))
         return Look(sum(int(one.won.sum()) for one in turns), places, ends_of(self.planting.plant, cells, vectors), vectors, walls)
+
+
+def widenings_left(counts):
+    """In how many widenings numbers come below one that fall by the same factor each time; None for few, and for ones that don't fall."""
+    if len(counts) < FIRST or counts[-1] >= counts[0]:
+        return None
+    if not counts[-1]:
+        return 0
+    factor = math.log(counts[0] / counts[-1]) / (len(counts) - 1)
+    return min(MOST_ROUNDS, math.ceil(math.log(counts[-1]) / factor) + 1)
 
 
 def ends_of(plant, cells, vectors):
