@@ -18,7 +18,7 @@ from .logs import Log, sampling_of
 
 # A value counts as at a unit's end from here on, as in arrays.whole_states; and an input as one of its values.
 NEAR, AT_VALUE = 1e-9, 1e-6
-FARTHEST = 2.0 ** 52
+FARTHEST = 2.0**52
 # Shares of the steps for which ranges are told.
 SHARES = (Fraction(1), Fraction(999, 1000), Fraction(99, 100))
 
@@ -26,6 +26,7 @@ SHARES = (Fraction(1), Fraction(999, 1000), Fraction(99, 100))
 class Equation(NamedTuple):
     """One equation: value: its value over arrays; ends: the ends of what its noises add beside their being 0, where
     they are only added, else None, and then span gives the ends of its value over the noises' ranges."""
+
     value: Callable[[Sequence[Any]], Any]
     ends: Optional[tuple[int, int]]
     span: Callable[[Sequence[Any]], Any]
@@ -38,11 +39,16 @@ class Equations:
     def __init__(self, plant: Plant, units: Units) -> None:
         self.plant, self.batch = plant, Batch(plant)
         nodes = plant.rolled.equations
-        self.equations = [Equation(compiled(node, ARRAY_SHAPES, ROOM), added_noise(node, plant),
-                                   compiled_span(node, ARRAY_SPANS, ROOM)) for node in nodes]
+        self.equations = [
+            Equation(
+                compiled(node, ARRAY_SHAPES, ROOM), added_noise(node, plant), compiled_span(node, ARRAY_SPANS, ROOM)
+            )
+            for node in nodes
+        ]
         self.low, self.high = (column([state[k] for state in plant.states]) for k in (1, 2))
-        self.sizes, self.input_sizes = (column([float(units.size(entry[0])) for entry in entries])
-                                        for entries in (plant.states, plant.inputs))
+        self.sizes, self.input_sizes = (
+            column([float(units.size(entry[0])) for entry in entries]) for entries in (plant.states, plant.inputs)
+        )
         self.exact = column([state[0] in units.exact for state in plant.states])
         self.periods = plant.periods
         self.values = [numpy.array(sorted(values)) for _, values in plant.inputs]
@@ -52,8 +58,9 @@ class Equations:
         """The whole numbers of real states, as doubles, those of states that come round within their range; NaN stays.
         A value this near below a unit counts as in it."""
         scaled = states / self.sizes
-        whole = numpy.clip(numpy.where(self.exact, numpy.round(scaled), numpy.floor(scaled + near)), -FARTHEST,
-                           FARTHEST)
+        whole = numpy.clip(
+            numpy.where(self.exact, numpy.round(scaled), numpy.floor(scaled + near)), -FARTHEST, FARTHEST
+        )
         for i, period in enumerate(self.periods):
             if period is not None:
                 whole[i] = self.low[i] + (whole[i] - self.low[i]) % period
@@ -74,8 +81,9 @@ class Equations:
             vectors = vectors * len(values) + places[at]
         return numpy.where(good, vectors, -1)
 
-    def needed(self, whole: numpy.ndarray, inputs: numpy.ndarray, after: numpy.ndarray) -> tuple[numpy.ndarray,
-                                                                                                 numpy.ndarray]:
+    def needed(
+        self, whole: numpy.ndarray, inputs: numpy.ndarray, after: numpy.ndarray
+    ) -> tuple[numpy.ndarray, numpy.ndarray]:
         """For each state, a row, what would have to be added to its equation with noises of 0 to give the next state,
         and by how much that lies beyond what the noises' ranges give: above 0 over them, below 0 under them. Arrays of
         whole numbers, or of doubles."""
@@ -84,8 +92,10 @@ class Equations:
         needed, beyond = (numpy.zeros(whole.shape, dtype=whole.dtype) for _ in range(2))
         for i, (equation, period) in enumerate(zip(self.equations, self.periods)):
             base = equation.value(variables + [0] * noises)
-            low, high = equation.ends or (end - base for end in equation.span([(one, one) for one in variables]
-                                                                              + [noise[1:] for noise in plant.noises]))
+            low, high = equation.ends or (
+                end - base
+                for end in equation.span([(one, one) for one in variables] + [noise[1:] for noise in plant.noises])
+            )
             away = after[i] - base
             if period is not None:
                 middle = (low + high) // 2
@@ -143,8 +153,13 @@ class Conformity:
     explain; explained and followed: for each step; left_out: how many steps aren't judged, by the reason; gaps: the
     samples behind which some are missing; sample: the log's sampling time."""
 
-    def __init__(self, equations: Equations, log: Log, sample: Optional[float],
-                 tell: Callable[[float], None] = lambda share: None) -> None:
+    def __init__(
+        self,
+        equations: Equations,
+        log: Log,
+        sample: Optional[float],
+        tell: Callable[[float], None] = lambda share: None,
+    ) -> None:
         self.equations, self.log, self.plant = equations, log, equations.plant
         self.sample, missing = sampling_of(log, sample)
         self.gaps = numpy.flatnonzero(missing)
@@ -154,8 +169,11 @@ class Conformity:
         count = self.steps.size
         self.needed, self.beyond = (numpy.zeros((len(self.plant.states), count), dtype=numpy.int64) for _ in range(2))
         self.followed = numpy.zeros(count, dtype=bool)
-        self.values = numpy.array([self.plant.vector(number) for number in range(self.plant.vectors)],
-                                  dtype=numpy.int64).reshape(self.plant.vectors, -1).T
+        self.values = (
+            numpy.array([self.plant.vector(number) for number in range(self.plant.vectors)], dtype=numpy.int64)
+            .reshape(self.plant.vectors, -1)
+            .T
+        )
         for begin in range(0, count, BLOCK):
             tell(begin / count)
             part = slice(begin, begin + BLOCK)
@@ -196,10 +214,12 @@ class Conformity:
         has_state = numpy.isfinite(log.states).all(axis=0)
         has_all = has_state & numpy.isfinite(log.inputs).all(axis=0)
         steps = numpy.flatnonzero(log.goes_on)
-        reasons = {"samples are missing in between": missing[steps],
-                   "a number is missing": ~(has_all[steps] & has_state[steps + 1]),
-                   "the state lies outside of the ranges": ~equations.are_inside(self.whole)[steps],
-                   "an input has none of its values": self.vectors[steps] < 0}
+        reasons = {
+            "samples are missing in between": missing[steps],
+            "a number is missing": ~(has_all[steps] & has_state[steps + 1]),
+            "the state lies outside of the ranges": ~equations.are_inside(self.whole)[steps],
+            "an input has none of its values": self.vectors[steps] < 0,
+        }
         left_out, left = {}, numpy.ones(steps.size, dtype=bool)
         for number, (reason, wrong) in enumerate(reasons.items()):
             left_out[reason] = int((left & wrong).sum())
@@ -215,8 +235,10 @@ class Conformity:
     def stated(self) -> list[tuple[int, int]]:
         """For each state what its noises may add, in whole units; where they aren't only added, the most that they
         added at a step."""
-        return [ends or (int((needed - beyond).min(initial=0)), int((needed - beyond).max(initial=0)))
-                for ends, needed, beyond in zip(self.equations.stated(), self.needed, self.beyond)]
+        return [
+            ends or (int((needed - beyond).min(initial=0)), int((needed - beyond).max(initial=0)))
+            for ends, needed, beyond in zip(self.equations.stated(), self.needed, self.beyond)
+        ]
 
     def ranges(self, share: Fraction = Fraction(1)) -> list[tuple[int, int]]:
         """For each state a range, in whole units, of which at least this share of the steps needs a number: as many of
@@ -241,8 +263,13 @@ def middle_of(numbers: numpy.ndarray, left: int) -> tuple[int, int]:
     return int(cut[below]), int(cut[above])
 
 
-def conform(plant: Plant, log: Log, units: Optional[Units] = None, sample: Optional[float] = None,
-            tell: Callable[[float], None] = lambda share: None) -> Conformity:
+def conform(
+    plant: Plant,
+    log: Log,
+    units: Optional[Units] = None,
+    sample: Optional[float] = None,
+    tell: Callable[[float], None] = lambda share: None,
+) -> Conformity:
     """What a log says of a plant, in these units, its own whole ones where they are left out. sample is the model's
     sampling time, where it is known. Raises Trouble where the log's samples are otherwise apart."""
     return Conformity(Equations(plant, units or plant.units), log, sample, tell)

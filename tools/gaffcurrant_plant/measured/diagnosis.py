@@ -34,6 +34,7 @@ Moved = Callable[[float], "tuple[numpy.ndarray, numpy.ndarray, numpy.ndarray]"]
 class Cause(NamedTuple):
     """What explains more: in words; the share of the looked-at steps that is explained with it, and that without; how
     many steps were looked at."""
+
     said: str
     share: float
     before: float
@@ -47,17 +48,20 @@ class Looked:
         self.equations, log = conformity.equations, conformity.log
         self.at, self.states, self.after, self.inputs = at, log.states[:, at], log.states[:, at + 1], log.inputs[:, at]
 
-    def beyond(self, states: numpy.ndarray, inputs: numpy.ndarray, after: numpy.ndarray) -> tuple[numpy.ndarray,
-                                                                                                  numpy.ndarray]:
+    def beyond(
+        self, states: numpy.ndarray, inputs: numpy.ndarray, after: numpy.ndarray
+    ) -> tuple[numpy.ndarray, numpy.ndarray]:
         """What would have to be added to the equations, and how far that lies beyond the ranges, in whole units as
         doubles."""
         equations = self.equations
         with numpy.errstate(all="ignore"):
-            return equations.needed(equations.whole_states(states), inputs / equations.input_sizes,
-                                    equations.whole_states(after))
+            return equations.needed(
+                equations.whole_states(states), inputs / equations.input_sizes, equations.whole_states(after)
+            )
 
-    def are_explained(self, states: numpy.ndarray, acting: numpy.ndarray, after: numpy.ndarray,
-                      inputs: Optional[numpy.ndarray] = None) -> numpy.ndarray:
+    def are_explained(
+        self, states: numpy.ndarray, acting: numpy.ndarray, after: numpy.ndarray, inputs: Optional[numpy.ndarray] = None
+    ) -> numpy.ndarray:
         """Which steps the equations explain from states in the domain, under inputs that may act otherwise than they
         are given."""
         equations = self.equations
@@ -85,8 +89,12 @@ class Diagnosis:
         """What explains clearly more, the best first: of those that explain nearly as much the simplest stand first."""
         if self.explained.all():
             return []
-        found = [cause for kind in (self.signs, self.factors, self.late, self.gains, self.offsets)
-                 for cause in kind() if self.is_clear(cause)]
+        found = [
+            cause
+            for kind in (self.signs, self.factors, self.late, self.gains, self.offsets)
+            for cause in kind()
+            if self.is_clear(cause)
+        ]
         best = max((cause.share for cause in found), default=0.0)
         return [cause for cause in found if cause.share >= best - BESIDE]
 
@@ -139,14 +147,19 @@ class Diagnosis:
         runs = log.run_numbers()
         for samples in LATE if self.input_names else ():
             others = numpy.clip(looked.at - samples, 0, log.lines.size - 1)
-            among = (others == looked.at
-                     - samples) & (runs[others] == runs[looked.at]) & ~numpy.isnan(log.inputs[:, others]).any(axis=0)
+            among = (
+                (others == looked.at - samples)
+                & (runs[others] == runs[looked.at])
+                & ~numpy.isnan(log.inputs[:, others]).any(axis=0)
+            )
             if among.any():
-                explained = looked.are_explained(looked.states[:, among], log.inputs[:, others[among]],
-                                                 looked.after[:, among])
+                explained = looked.are_explained(
+                    looked.states[:, among], log.inputs[:, others[among]], looked.after[:, among]
+                )
                 count = "one sample" if abs(samples) == 1 else f"{samples} samples"
-                yield self.cause(f"inputs that act {count} {'late' if samples > 0 else 'before they are logged'}",
-                                 explained, among)
+                yield self.cause(
+                    f"inputs that act {count} {'late' if samples > 0 else 'before they are logged'}", explained, among
+                )
 
     # Gains and offsets
 
@@ -178,8 +191,11 @@ class Diagnosis:
     def acting(self, k: int, more: float) -> Moved:
         """The steps with an input multiplied by a number, or with it added."""
         looked = self.looked
-        return lambda value: (looked.states, raised(looked.inputs, k, value, 1.0) if more
-                              else raised(looked.inputs, k, 0.0, value), looked.after)
+        return lambda value: (
+            looked.states,
+            raised(looked.inputs, k, value, 1.0) if more else raised(looked.inputs, k, 0.0, value),
+            looked.after,
+        )
 
     def measured(self, i: int) -> Moved:
         """The steps with a number taken from a state."""
@@ -205,8 +221,9 @@ class Diagnosis:
         on it."""
         value, weights = start, 1 / (self.halves + 1)
         for _ in range(ROUNDS):
-            here, there = (((self.looked.beyond(*moved(value + more))[0] - self.middles) * weights)
-                           for more in (0.0, step))
+            here, there = (
+                ((self.looked.beyond(*moved(value + more))[0] - self.middles) * weights) for more in (0.0, step)
+            )
             slope = (there - here) / step
             near = abs(here) <= 3 * numpy.median(abs(here)) + 3
             slope, here = slope[near & numpy.isfinite(slope)], here[near & numpy.isfinite(slope)]
@@ -229,8 +246,10 @@ class Diagnosis:
         bad = bad[~wrapped]
         skipped = self.skips(bad)
         if skipped.any() and skipped.mean() >= LEFT:
-            said.append(f"samples that are missing: {count_said(skipped.sum())} fit two samples instead of one, "
-                        f"{self.lines_said(bad[skipped])}")
+            said.append(
+                f"samples that are missing: {count_said(skipped.sum())} fit two samples instead of one, "
+                f"{self.lines_said(bad[skipped])}"
+            )
             bad = bad[~skipped]
         return said + self.jumps(bad)
 
@@ -248,9 +267,12 @@ class Diagnosis:
                 over = others & ~done & near & (turn / size > 4 * (last - first + 2))
                 if over.any():
                     done |= over
-                    said.append(f"an angle that wraps: at {count_said(over.sum())} {name} is a turn of "
-                                f"{short_number(turn)} on, {self.lines_said(bad[over])}; unwrap it, or give the model "
-                                f"a line `wrap {name}`")
+                    said.append(
+                        f"an angle that wraps: at {count_said(over.sum())} {name} is a turn of "
+                        f"{short_number(turn)} on, {self.lines_said(bad[over])}; unwrap it, or give the "
+                        "model a "
+                        f"line `wrap {name}`"
+                    )
         return done, said
 
     def skips(self, bad: numpy.ndarray) -> numpy.ndarray:
@@ -268,11 +290,19 @@ class Diagnosis:
             for number in range(self.plant.vectors) if self.plant.vectors <= VECTORS else ():
                 second = inputs * 0 + column(self.plant.vector(number)).reshape(-1, 1)
                 away = abs(equations.needed(middle, second, after)[0] - self.middles)
-                reach = self.halves + 1 + sum(abs(equations.needed(middle + move, second, after)[0]
-                                                  - equations.needed(middle, second, after)[0])
-                                              for move in numpy.diag((self.halves + 1).ravel())[:, :, None])
+                reach = (
+                    self.halves
+                    + 1
+                    + sum(
+                        abs(
+                            equations.needed(middle + move, second, after)[0]
+                            - equations.needed(middle, second, after)[0]
+                        )
+                        for move in numpy.diag((self.halves + 1).ravel())[:, :, None]
+                    )
+                )
                 is_far = (abs(self.conformity.beyond[:, some]) > reach).any(axis=0)
-                done[:some.size] |= (away <= reach).all(axis=0) & is_far
+                done[: some.size] |= (away <= reach).all(axis=0) & is_far
         return done
 
     def jumps(self, bad: numpy.ndarray) -> list[str]:
@@ -284,8 +314,10 @@ class Diagnosis:
             far = beyond > FAR * (last - first + 1) + width
             if far.any() and far.sum() <= max(2, judged // 50) and far.sum() >= LEFT * numpy.count_nonzero(beyond):
                 size = self.units.size_said(name, int(beyond.max()))
-                said.append(f"a state that jumps: {name} at {count_said(far.sum())}, by up to {size} beyond its range, "
-                            f"{self.lines_said(bad[far])}")
+                said.append(
+                    f"a state that jumps: {name} at {count_said(far.sum())}, by up to {size} beyond its range, "
+                    f"{self.lines_said(bad[far])}"
+                )
         return said
 
     def lines_said(self, steps: numpy.ndarray) -> str:
@@ -315,6 +347,8 @@ def diagnosed(conformity: Conformity) -> list[str]:
     if not conformity.candidates.size or are_judged and conformity.explained.all():
         return []
     diagnosis = Diagnosis(conformity)
-    causes = [f"{cause.said}: that would explain {cause.share:.1%} of the steps, and {cause.before:.1%} are"
-              for cause in diagnosis.causes()]
+    causes = [
+        f"{cause.said}: that would explain {cause.share:.1%} of the steps, and {cause.before:.1%} are"
+        for cause in diagnosis.causes()
+    ]
     return causes or diagnosis.events()

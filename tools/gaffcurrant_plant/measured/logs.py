@@ -19,8 +19,16 @@ SEPARATORS = (",", ";", "\t")
 # m/s`.
 NAMED = re.compile(r"([A-Za-z][A-Za-z0-9_]*)\s*(?:[\[(](.*)[\])]|in\s+(\S+))?\Z")
 # Fields without a number: nothing, or a minus, as for the input behind the last sample of a run.
-EMPTY = ((b",-,", b",,"), (b",-,", b",,"), (b",-\n", b",\n"), (b"\n-,", b"\n,"), (b",,", b",nan,"), (b",,", b",nan,"),
-         (b",\n", b",nan\n"), (b"\n,", b"\nnan,"))
+EMPTY = (
+    (b",-,", b",,"),
+    (b",-,", b",,"),
+    (b",-\n", b",\n"),
+    (b"\n-,", b"\n,"),
+    (b",,", b",nan,"),
+    (b",,", b",nan,"),
+    (b",\n", b",nan\n"),
+    (b"\n,", b"\nnan,"),
+)
 BESIDE = re.compile(rb"[ \t]*([,\n])[ \t]*")
 
 
@@ -28,6 +36,7 @@ class Log(NamedTuple):
     """states and inputs: a row for each variable and a column for each sample, in the model's units, NaN where a field
     has no number; times: of the samples, None without such a column; lines: their line numbers in the file; goes_on:
     whether the next sample belongs to the same run; path: what the log is called."""
+
     states: numpy.ndarray
     inputs: numpy.ndarray
     times: Optional[numpy.ndarray]
@@ -40,8 +49,9 @@ class Log(NamedTuple):
 
     def run_numbers(self) -> numpy.ndarray:
         """For each sample the number of its run, from 0."""
-        return numpy.concatenate([[0], numpy.cumsum(~self.goes_on[:-1])]) if self.lines.size else numpy.zeros(0,
-                                                                                                              dtype=int)
+        return (
+            numpy.concatenate([[0], numpy.cumsum(~self.goes_on[:-1])]) if self.lines.size else numpy.zeros(0, dtype=int)
+        )
 
 
 def log_of(states: object, inputs: object, times: object = None, begins: Sequence[int] = (0,)) -> Log:
@@ -71,8 +81,9 @@ def read_log(data: bytes, states: Sequence[str], inputs: Sequence[str], units: U
     line = text[:first].count(b"\n") + 1
     said = heading.decode("utf-8", "replace").lstrip("# ")
     separator = next((one for one in SEPARATORS if one in said), ",")
-    columns = columns_of(path, [word.strip().strip('"').strip() for word in said.split(separator)], states, inputs,
-                         units)
+    columns = columns_of(
+        path, [word.strip().strip('"').strip() for word in said.split(separator)], states, inputs, units
+    )
     time = next((columns[name] for name in TIMES if name in columns and name not in (*states, *inputs)), None)
     looked_at = [columns[name] for name in (*states, *inputs)] + [time] * (time is not None)
     table, lines, goes_on = numbers_of(path, body, line + 1, separator, len(said.split(separator)), looked_at)
@@ -82,8 +93,9 @@ def read_log(data: bytes, states: Sequence[str], inputs: Sequence[str], units: U
     return log
 
 
-def columns_of(path: str, words: Sequence[str], states: Sequence[str], inputs: Sequence[str],
-               units: Units) -> dict[str, int]:
+def columns_of(
+    path: str, words: Sequence[str], states: Sequence[str], inputs: Sequence[str], units: Units
+) -> dict[str, int]:
     """For each name of a heading its column; raises Trouble where a variable has none, has two, or another unit than
     the model's."""
     columns: dict[str, int] = {}
@@ -101,14 +113,16 @@ def columns_of(path: str, words: Sequence[str], states: Sequence[str], inputs: S
         small = {name.lower(): name for name in columns}
         near = difflib.get_close_matches(missing[0].lower(), list(small), 1, 0.5)
         meant = f"; is `{small[near[0]]}` meant?" if near else "."
-        raise Trouble(f"{path}: the heading, `{', '.join(words)[:120]}`, has no column {', '.join(missing)}{meant} The "
-                      f"states are {', '.join(states)}, the inputs "
-                      f"{', '.join(inputs) or 'none'}")
+        raise Trouble(
+            f"{path}: the heading, `{', '.join(words)[:120]}`, has no column {', '.join(missing)}{meant} The "
+            f"states are {', '.join(states)}, the inputs {', '.join(inputs) or 'none'}"
+        )
     return columns
 
 
-def numbers_of(path: str, body: bytes, first: int, separator: str, wide: int,
-               looked_at: Sequence[int]) -> tuple[numpy.ndarray, numpy.ndarray, numpy.ndarray]:
+def numbers_of(
+    path: str, body: bytes, first: int, separator: str, wide: int, looked_at: Sequence[int]
+) -> tuple[numpy.ndarray, numpy.ndarray, numpy.ndarray]:
     """The numbers of the lines below a heading, which begin with this line, in the columns that are looked at; their
     line numbers; and whether the next one belongs to the same run."""
     text = b"\n" + body + b"\n" * (not body.endswith(b"\n"))
@@ -131,7 +145,9 @@ def numbers_of(path: str, body: bytes, first: int, separator: str, wide: int,
     goes_on = numpy.concatenate([numpy.diff(rows) == 1, [False]])
     numbers = parsed(text, text.count(b",") + rows.size)
     if numbers is None:
-        numbers = parsed_by_line(path, [text[begins[row]:ends[row]] for row in rows.tolist()], first + rows, looked_at)
+        numbers = parsed_by_line(
+            path, [text[begins[row] : ends[row]] for row in rows.tolist()], first + rows, looked_at
+        )
     return numbers.reshape(-1, wide), first + rows, goes_on
 
 
@@ -180,10 +196,12 @@ def check_times(log: Log) -> None:
     back = numpy.flatnonzero(log.goes_on[:-1] & ~(numpy.diff(log.times) > 0))
     if back.size:
         at = int(back[0])
-        before, after = log.times[at:at + 2].tolist()
+        before, after = log.times[at : at + 2].tolist()
         what = "goes back" if after < before else "stands still" if after == before else "is missing"
-        raise Trouble(f"{log.path}: line {int(log.lines[at + 1])}: the time {what}, {before:g} and then {after:g}; a "
-                      "blank line begins another run")
+        raise Trouble(
+            f"{log.path}: line {int(log.lines[at + 1])}: the time {what}, {before:g} and then {after:g}; a blank "
+            "line begins another run"
+        )
 
 
 def sampling_of(log: Log, sample: Optional[float]) -> tuple[Optional[float], numpy.ndarray]:

@@ -15,6 +15,7 @@ from .conformity import Conformity
 class Promises(NamedTuple):
     """Of the judged steps of a Conformity: applied: at which the row's input was applied; broken: at which it was, and
     the next state has no row, or its rank hasn't fallen as it is promised."""
+
     applied: numpy.ndarray
     broken: numpy.ndarray
 
@@ -22,13 +23,14 @@ class Promises(NamedTuple):
 def promises_of(conformity: Conformity, text: Any, turn: int = 0) -> Promises:
     """The Promises of a Table, a Stay or a Patrol; each run of a log by a patrol begins in this turn."""
     rows, steps = Rows(text), conformity.steps
-    whole = numpy.nan_to_num(conformity.whole, nan=-2.0 ** 52).astype(numpy.int64)
+    whole = numpy.nan_to_num(conformity.whole, nan=-(2.0**52)).astype(numpy.int64)
     cells = rows.cell_of(whole)
     turns = turns_of(conformity, rows, cells, turn) if rows.kind == "patrol" else numpy.zeros(cells.size, dtype=int)
     here, there = cells[steps], cells[steps + 1]
     now, then = turns[steps], turns[steps + 1]
-    applied = rows.won[now, here] & (rows.inputs[now,
-                                                 here] == conformity.vectors[steps]) & (conformity.vectors[steps] >= 0)
+    applied = (
+        rows.won[now, here] & (rows.inputs[now, here] == conformity.vectors[steps]) & (conformity.vectors[steps] >= 0)
+    )
     good = rows.won[then, there]
     if not rows.keeps:
         falls = has_fallen(rows.ranks[now, here], rows.ranks[then, there])

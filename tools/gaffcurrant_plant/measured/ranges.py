@@ -71,16 +71,19 @@ def with_ranges(data: bytes, conformity: Conformity) -> str:
 
 
 def is_plant(text: str) -> bool:
-    return next((line.split()[0] for line in text.splitlines() if line.strip() and not line.lstrip().startswith("#")),
-                "") == "plant"
+    return (
+        next((line.split()[0] for line in text.splitlines() if line.strip() and not line.lstrip().startswith("#")), "")
+        == "plant"
+    )
 
 
 def with_steps(conformity: Conformity, chosen: numpy.ndarray) -> Log:
     """A log of some of the judged steps alone."""
     log, at = conformity.log, conformity.steps[chosen]
     pairs = numpy.stack([at, at + 1], axis=1).ravel()
-    return Log(log.states[:, pairs], log.inputs[:, pairs], None, log.lines[pairs], numpy.arange(pairs.size) % 2 == 0,
-               log.path)
+    return Log(
+        log.states[:, pairs], log.inputs[:, pairs], None, log.lines[pairs], numpy.arange(pairs.size) % 2 == 0, log.path
+    )
 
 
 class Edited:
@@ -130,8 +133,10 @@ class Edited:
         return [bare + comment]
 
     def new_lines(self) -> list[str]:
-        return [f"noise {name} {' '.join(map(decimal, self.ranges.noises[name]))}  {NOTE}"
-                for name in self.ranges.added.values()]
+        return [
+            f"noise {name} {' '.join(map(decimal, self.ranges.noises[name]))}  {NOTE}"
+            for name in self.ranges.added.values()
+        ]
 
 
 class ModelText(Edited):
@@ -155,11 +160,14 @@ class ModelText(Edited):
             least, most = self.rows[i]
             self.rows[i] = [-up(-(least + low * unit)), up(most + high * unit)]
             return
-        noise, weight = self.noise_of(i) or (self.ranges.added.get(name) or self.fresh(name, self.model.names()),
-                                             Fraction(1))
+        noise, weight = self.noise_of(i) or (
+            self.ranges.added.get(name) or self.fresh(name, self.model.names()),
+            Fraction(1),
+        )
         ends = sorted(end * unit / self.time / weight for end in (low, high))
-        self.ranges.noises.setdefault(noise, next((entry[1:] for entry in self.model.noises if entry[0] == noise),
-                                                  (Fraction(0), Fraction(0))))
+        self.ranges.noises.setdefault(
+            noise, next((entry[1:] for entry in self.model.noises if entry[0] == noise), (Fraction(0), Fraction(0)))
+        )
         self.ranges.widen(noise, *ends)
 
     def noise_of(self, i: int) -> Optional[tuple[str, Fraction]]:
@@ -175,8 +183,10 @@ class ModelText(Edited):
         model, draws, slopes = self.model, random.Random(1), []
         side = (model.flows or model.equations)[i]
         for _ in range(9):
-            values = {one: float(low + (high - low) * Fraction(draws.random())) for one, low, high,
-                      *_ in model.states + model.noises}
+            values = {
+                one: float(low + (high - low) * Fraction(draws.random()))
+                for one, low, high, *_ in model.states + model.noises
+            }
             values |= {one: float(draws.choice(choices)) for one, _, choices in model.inputs}
             low, high = (sided(side, values | {name: values[name] + more}) for more in (0.0, 1.0))
             slopes.append(high - low)
@@ -185,7 +195,7 @@ class ModelText(Edited):
     def written(self, number: int, bare: str, comment: str) -> list[str]:
         words = bare.split()
         if words[:1] == ["w"] and self.rows:
-            at = sum(line.split()[:1] == ["w"] for line in self.lines[:number - 1])
+            at = sum(line.split()[:1] == ["w"] for line in self.lines[: number - 1])
             return [self.row(at) + comment]
         lines = super().written(number, bare, comment)
         if number == self.last:
@@ -221,13 +231,18 @@ class PlantText(Edited):
             raise Trouble(f"the equation of {name}, which comes round, has no noise to widen; give --model the model")
         alone = [one for one in own if is_added(plant, i, before + [noise[0] for noise in plant.noises].index(one))]
         noise = alone[0] if alone else self.ranges.added.get(name) or self.fresh(name, plant.names())
-        self.ranges.noises.setdefault(noise, next(((Fraction(low), Fraction(high)) for one, low,
-                                                   high in plant.noises if one == noise), (Fraction(0), Fraction(0))))
+        self.ranges.noises.setdefault(
+            noise,
+            next(
+                ((Fraction(low), Fraction(high)) for one, low, high in plant.noises if one == noise),
+                (Fraction(0), Fraction(0)),
+            ),
+        )
         least, most = self.ranges.noises[noise]
         self.ranges.noises[noise] = least + low, most + high
 
     def written(self, number: int, bare: str, comment: str) -> list[str]:
-        is_first = bare.startswith("next ") and not any(line.startswith("next ") for line in self.lines[:number - 1])
+        is_first = bare.startswith("next ") and not any(line.startswith("next ") for line in self.lines[: number - 1])
         lines = super().written(number, bare, comment)
         return (self.new_lines() if is_first else []) + [line.replace(f"  {NOTE}", "") for line in lines]
 

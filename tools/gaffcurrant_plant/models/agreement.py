@@ -17,7 +17,8 @@ from .trial import Point, around, real_steps
 
 # The comment of tools/scale on a state that its model calls exact.
 EXACT = re.compile(rb"^# unit ([A-Za-z][A-Za-z0-9_]*) .*: a whole number by itself$", re.M)
-# Random states whose step is looked at, and units by which it may lie beside the table's: older tools rounded in other ways.
+# Random states whose step is looked at, and units by which it may lie beside the table's: older tools rounded in other
+# ways.
 TRIED, BESIDE = 40, 2
 
 
@@ -45,37 +46,53 @@ def check_model(path, model, plant):
 
 
 def check_equations(path, model, plant):
-    """Raises Trouble where a model's equations and noises in whole units aren't a table's, as where all its units are ten times those. Where mpmath is
-    missing, which they may need, they aren't compared."""
+    """Raises Trouble where a model's equations and noises in whole units aren't a table's, as where all its units are
+    ten times those. Where mpmath is missing, which they may need, they aren't compared."""
     if importlib.util.find_spec("mpmath") is None:
         return
     model.version = plant.version
     ours, theirs = (equations_of(one) for one in (planted(model).plant, plant))
     for name, one, other in zip([state[0] for state in plant.states], ours, theirs):
         if one != other:
-            raise Trouble(f"{path}: the model isn't the table's: the equation of {name} or its noise in whole units is another one; are the units others?")
+            raise Trouble(
+                f"{path}: the model isn't the table's: the equation of {name} or its noise in whole units is "
+                "another one; are the units others?"
+            )
 
 
 def check_steps(path, model, plant):
-    """Raises Trouble where the step of a model from a random state isn't one that a table's plant allows, as where all its units are ten times those."""
+    """Raises Trouble where the step of a model from a random state isn't one that a table's plant allows, as where all
+    its units are ten times those."""
     draws = random.Random(1)
     points = [Point(model, draws) for _ in range(TRIED)]
     for i, (state, real) in enumerate(zip(model.states, real_steps(model, points))):
         name, *_, unit = state
         for point, value in zip(points, real):
-            low, high = span_of(plant.equations[i], [(value, value) for value in point.whole + point.inputs] + [ends[1:] for ends in plant.noises])
+            low, high = span_of(
+                plant.equations[i],
+                [(value, value) for value in point.whole + point.inputs] + [ends[1:] for ends in plant.noises],
+            )
             beside = value / float(unit) - low
             beside = around(beside, model, state) if name in model.wraps else beside
             if not -BESIDE <= beside <= high - low + 1 + BESIDE:
-                away = f"{short(Fraction(abs(beside)) * unit)} away from where" if math.isfinite(beside) else "elsewhere than"
-                raise Trouble(f"{path}: the model isn't the table's: by the model a sample leads {name} {away} the table's plant leads it; are the units or the "
-                              "equations others?")
+                away = (
+                    f"{short(Fraction(abs(beside)) * unit)} away from where"
+                    if math.isfinite(beside)
+                    else "elsewhere than"
+                )
+                raise Trouble(
+                    f"{path}: the model isn't the table's: by the model a sample leads {name} {away} the table's "
+                    "plant leads it; are the units or the equations others?"
+                )
 
 
 def equations_of(plant):
     """For each state the line of its equation, and the ranges of the noises that it names."""
     names, lines = plant.names(), [line for line in plant.text().splitlines() if line.startswith("next ")]
-    return [(line, [noise for noise in plant.noises if names.index(noise[0]) in uses]) for line, uses in zip(lines, plant.uses)]
+    return [
+        (line, [noise for noise in plant.noises if names.index(noise[0]) in uses])
+        for line, uses in zip(lines, plant.uses)
+    ]
 
 
 def check_plant(path, other, plant):
@@ -86,8 +103,8 @@ def check_plant(path, other, plant):
 
 
 def check_units(path, data, plant):
-    """Raises Trouble where a file with units, a model or a plant text that tools/scale made of one, isn't that of a table's plant. Answers the names of
-    the exact states."""
+    """Raises Trouble where a file with units, a model or a plant text that tools/scale made of one, isn't that of a
+    table's plant. Answers the names of the exact states."""
     if not is_plant_text(data):
         model = read_model(data)
         check_model(path, model, plant)
@@ -101,7 +118,8 @@ def check_units(path, data, plant):
 
 
 def check_variables_of(path, data, plant):
-    """Raises Trouble where the states and inputs of a model, or of a plant text that tools/scale made of one, aren't those of a table's plant."""
+    """Raises Trouble where the states and inputs of a model, or of a plant text that tools/scale made of one, aren't
+    those of a table's plant."""
     if not is_plant_text(data):
         model = read_model(data)
         check_model(path, model, plant)
@@ -125,15 +143,22 @@ def is_plant_text(data):
 def check_variables(path, what, states, inputs, plant):
     for kind, ours, theirs in (("states", states, plant.states), ("inputs", inputs, plant.inputs)):
         if (names := [one[0] for one in ours]) != (others := [one[0] for one in theirs]):
-            raise Trouble(f"{path}: the {what} isn't the table's: its {kind} are {', '.join(names) or 'none'}, those of the table "
-                          f"{', '.join(others) or 'none'}")
+            raise Trouble(
+                f"{path}: the {what} isn't the table's: its {kind} are {', '.join(names) or 'none'}, those of "
+                f"the table {', '.join(others) or 'none'}"
+            )
     for one, other in zip(states, plant.states):
         if tuple(one) != tuple(other):
-            raise Trouble(f"{path}: the {what} isn't the table's: {one[0]} has {one[1]} to {one[2]} in cells of {one[3]} units, and in the table "
-                          f"{other[1]} to {other[2]} in cells of {other[3]}")
+            raise Trouble(
+                f"{path}: the {what} isn't the table's: {one[0]} has {one[1]} to {one[2]} in cells of {one[3]} "
+                f"units, and in the table {other[1]} to {other[2]} in cells of {other[3]}"
+            )
     for (name, ours), (_, theirs) in zip(inputs, plant.inputs):
         if list(ours) != list(theirs):
-            raise Trouble(f"{path}: the {what} isn't the table's: the values of {name} are {words(ours)} in units, and in the table {words(theirs)}")
+            raise Trouble(
+                f"{path}: the {what} isn't the table's: the values of {name} are {words(ours)} in units, and in "
+                f"the table {words(theirs)}"
+            )
 
 
 def words(values):

@@ -1,5 +1,5 @@
-"""The functions of formulas over real numbers, as floats, and over intervals that hold every value for sure, by mpmath's interval
-arithmetic (Debian: python3-mpmath)."""
+"""The functions of formulas over real numbers, as floats, and over intervals that hold every value for sure, by
+mpmath's interval arithmetic (Debian: python3-mpmath)."""
 
 import bisect
 import math
@@ -8,7 +8,8 @@ from fractions import Fraction
 from ..faults import Trouble
 from .formula import parts_of, text_of
 
-# Ends of intervals are fractions: a number of more bits before or behind the point would fill the memory, and help no plant.
+# Ends of intervals are fractions: a number of more bits before or behind the point would fill the memory, and help no
+# plant.
 MOST_BITS, FEWEST_BITS = 1000, 20_000
 
 
@@ -17,7 +18,9 @@ def load_mpmath():
     try:
         import mpmath
     except ImportError:
-        raise Trouble("functions and differential equations need mpmath; on Debian: apt-get install python3-mpmath") from None
+        raise Trouble(
+            "functions and differential equations need mpmath; on Debian: apt-get install python3-mpmath"
+        ) from None
     mpmath.iv.prec = 80
     return mpmath.iv
 
@@ -39,7 +42,11 @@ def lut_ends(points, low, high):
 
 def slope_ends(points, low, high):
     """The ends of the slopes of the straight pieces that meet what lies from low to high."""
-    slopes = [(next_y - y) / (next_x - x) for (x, y), (next_x, next_y) in zip(points, points[1:]) if x <= high and low <= next_x]
+    slopes = [
+        (next_y - y) / (next_x - x)
+        for (x, y), (next_x, next_y) in zip(points, points[1:])
+        if x <= high and low <= next_x
+    ]
     slopes += [Fraction(0)] * (low <= points[0][0] or high >= points[-1][0])
     return min(slopes), max(slopes)
 
@@ -123,7 +130,7 @@ class Intervals:
         return tuple(map(fraction_of, interval._mpi_))
 
     def square(self, value):
-        return value ** 2
+        return value**2
 
     def size(self, value):
         low, high = value.a, value.b
@@ -138,13 +145,15 @@ class Intervals:
         return self.iv.mpf([max(one.a, other.a), max(one.b, other.b)])
 
     def sign(self, value):
-        return self.iv.mpf([-1 if value.a < 0 else 0 if value.a == 0 else 1, 1 if value.b > 0 else 0 if value.b == 0 else -1])
+        return self.iv.mpf(
+            [-1 if value.a < 0 else 0 if value.a == 0 else 1, 1 if value.b > 0 else 0 if value.b == 0 else -1]
+        )
 
     # Functions that rise or fall all over, but for cosh, from those that mpmath has for intervals.
     BY_ENDS = {
         "atan": lambda iv, x: iv.atan2(x, iv.mpf(1)),
-        "asin": lambda iv, x: iv.atan2(x, iv.sqrt(1 - x ** 2)),
-        "acos": lambda iv, x: iv.atan2(iv.sqrt(1 - x ** 2), x),
+        "asin": lambda iv, x: iv.atan2(x, iv.sqrt(1 - x**2)),
+        "acos": lambda iv, x: iv.atan2(iv.sqrt(1 - x**2), x),
         "sinh": lambda iv, x: (iv.exp(x) - iv.exp(-x)) / 2,
         "cosh": lambda iv, x: (iv.exp(x) + iv.exp(-x)) / 2,
         "tanh": lambda iv, x: 1 - 2 / (iv.exp(2 * x) + 1),
@@ -158,7 +167,10 @@ class Intervals:
 
     def atan2(self, one, other, node):
         if one.a <= 0 <= one.b and other.a <= 0:
-            raise Trouble(f"`{text_of(node)}` jumps where its first argument is 0 and its second below it, and these may be so; narrower ranges do it")
+            raise Trouble(
+                f"`{text_of(node)}` jumps where its first argument is 0 and its second below it, and these may "
+                "be so; narrower ranges do it"
+            )
         return self.iv.atan2(one, other)
 
     def call(self, function, value, argument):
@@ -167,14 +179,26 @@ class Intervals:
             return self.between(*(lut_ends if function[0] == "lut" else slope_ends)(function[1], low, high))
         name = function if isinstance(function, str) else f"power {function[1]}"
         is_whole = not isinstance(function, str) and function[1].denominator == 1
-        if name in ("sqrt", "log") and low <= 0 or not isinstance(function, str) and (low <= 0 if not is_whole else low <= 0 <= high):
+        if (
+            name in ("sqrt", "log")
+            and low <= 0
+            or not isinstance(function, str)
+            and (low <= 0 if not is_whole else low <= 0 <= high)
+        ):
             raise Trouble(off_zero(function, low, high, argument))
         if name == "tan" and high - low >= 3 or name == "tan" and self.iv.cos(value).a <= 0 <= self.iv.cos(value).b:
-            raise Trouble(f"what stands in `tan({text_of(argument)})` may lie between {float(low):.4g} and {float(high):.4g}, with a pole between; a "
-                          f"narrower range does it, or tan(max(-1.5, min(1.5, {text_of(argument)})))")
+            raise Trouble(
+                f"what stands in `tan({text_of(argument)})` may lie between {float(low):.4g} and "
+                f"{float(high):.4g}, with a pole between; a narrower range does it, or tan(max(-1.5, "
+                "min(1.5, "
+                f"{text_of(argument)})))"
+            )
         if name in ("asin", "acos") and not -1 < low <= high < 1:
-            raise Trouble(f"what stands in `{name}({text_of(argument)})` may lie between {float(low):.4g} and {float(high):.4g}, and has to be within -1 and "
-                          f"1; {name}(max(-0.999, min(0.999, {text_of(argument)}))) does it")
+            raise Trouble(
+                f"what stands in `{name}({text_of(argument)})` may lie between {float(low):.4g} and "
+                f"{float(high):.4g}, and has to be within -1 and 1; {name}(max(-0.999, min(0.999, "
+                f"{text_of(argument)}))) does it"
+            )
         if name in self.BY_ENDS:
             return self.by_ends(name, value)
         if isinstance(function, str):
@@ -190,12 +214,22 @@ def off_zero(function, low, high, argument):
     ends = f"between {float(low):.4g} and {float(high):.4g}"
     if function == ("power", Fraction(-1)):
         # What is below 0 by a measurement's rounding alone keeps to one side.
-        clipped = f"; a `max` does it, as in 1 / max({text}, {least})" if low * 500 >= -high else f", as 1 / max({text}, {least}) does, or 1 / min({text}, -{least})"
+        clipped = (
+            f"; a `max` does it, as in 1 / max({text}, {least})"
+            if low * 500 >= -high
+            else f", as 1 / max({text}, {least}) does, or 1 / min({text}, -{least})"
+        )
         return f"the divisor `{text}` may lie {ends}, and has to keep off 0{clipped}"
     if isinstance(function, str):
-        return f"what stands in `{function}({text})` may lie {ends}, and has to be above 0; a `max` does it, as in {function}(max({text}, {least}))"
+        return (
+            f"what stands in `{function}({text})` may lie {ends}, and has to be above 0; a `max` does it, as in "
+            f"{function}(max({text}, {least}))"
+        )
     sign = "keep off 0" if function[1].denominator == 1 else "be above 0"
-    return f"what stands in the power `{text if text.isidentifier() else f'({text})'}^{float(function[1]):g}` may lie {ends}, and has to {sign}; a `max` does it, as in max({text}, {least})"
+    return (
+        f"what stands in the power `{text if text.isidentifier() else f'({text})'}^{float(function[1]):g}` may "
+        f"lie {ends}, and has to {sign}; a `max` does it, as in max({text}, {least})"
+    )
 
 
 def fraction_of(parts):
@@ -207,6 +241,9 @@ def fraction_of(parts):
         return Fraction(0)
     size = int(mantissa).bit_length() + exponent
     if not -FEWEST_BITS < size < MOST_BITS:
-        raise Trouble("a bound is past 10^300, or next to nothing: the sampling time is too long, or the ranges are too wide for a function")
+        raise Trouble(
+            "a bound is past 10^300, or next to nothing: the sampling time is too long, or the ranges are too "
+            "wide for a function"
+        )
     value = Fraction(int(mantissa)) * (Fraction(2) ** exponent)
     return -value if sign else value

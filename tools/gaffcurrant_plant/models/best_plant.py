@@ -1,5 +1,5 @@
-"""Chooses the plant of a model: the order and the steps of its sampling, the form of its polynomials and the number of straight pieces, by the size of the
-boxes that come out."""
+"""Chooses the plant of a model: the order and the steps of its sampling, the form of its polynomials and the number of
+straight pieces, by the size of the boxes that come out."""
 
 import math
 import random
@@ -18,18 +18,21 @@ from .taylor_sampling import Flow, held_names
 
 # Straight pieces that are tried, most first: as many as a lut has, and as many as fit into an equation.
 PIECES = {1: (8, 7, 6, 5, 4, 3, 2), 2: (31, 24, 16, 10, 6)}
-# Orders of the Taylor polynomial that are tried, the last one where what the others leave out is much of a cell; and how many steps of a sample: more
-# where that is so, as long as the boxes become less by a factor. So do polynomials about the middles of the ranges.
+# Orders of the Taylor polynomial that are tried, the last one where what the others leave out is much of a cell; and
+# how many steps of a sample: more where that is so, as long as the boxes become less by a factor. So do polynomials
+# about the middles of the ranges.
 ORDERS, LAST, STEPS = (1, 2, 3), 4, (2, 3, 4)
 WORTH, SIMPLER = Fraction(9, 10), Fraction(19, 20)
 # Boxes on the way that are tried before nothing more is that isn't asked for.
 MOST_TRIALS = 10_000
-# Boxes in which the domain is looked at, and the most input vectors for which it is each time: at first, and again for the planting that is chosen.
+# Boxes in which the domain is looked at, and the most input vectors for which it is each time: at first, and again for
+# the planting that is chosen.
 COARSE, FINE = (96, 12), (288, 64)
 
 
 def planted(model):
-    """The plant of a model whose boxes are the least beside the cells; raises Trouble with the model's line, where what is wrong belongs to one."""
+    """The plant of a model whose boxes are the least beside the cells; raises Trouble with the model's line, where what
+    is wrong belongs to one."""
     try:
         with at_line(None):
             check_wraps(model)
@@ -40,7 +43,10 @@ def planted(model):
         with at_line(failure.model_line):
             raise Trouble(f"the plant would be refused, {failure.said()}") from None
     if model.goal == "reach" and all(keyword != "target" for keyword, _ in model.boxes):
-        raise Trouble("the model has `goal reach` and no `target` line, so there is nothing to reach: a line `target LO HI ..`, or `goal keep`, is due")
+        raise Trouble(
+            "the model has `goal reach` and no `target` line, so there is nothing to reach: a line `target LO HI "
+            "..`, or `goal keep`, is due"
+        )
     return planting
 
 
@@ -52,7 +58,8 @@ def needs_mpmath(model):
 
 
 class Chooser:
-    """Tries plantings of a model, and keeps the best one. tried: what was tried, in words, and the planting or what is wrong with it."""
+    """Tries plantings of a model, and keeps the best one. tried: what was tried, in words, and the planting or what is
+    wrong with it."""
 
     def __init__(self, model):
         self.model, self.best, self.tried = model, None, []
@@ -98,12 +105,16 @@ class Chooser:
         return self.best is not before
 
     def may_fit(self, order, steps):
-        """Whether an expression of so many steps may have few enough nodes, by what those of one step have: each names the ones before it."""
-        plantings = [one for _, one in self.tried if isinstance(one, Planting) and (one.flow.order, one.flow.count) == (order, 1)]
+        """Whether an expression of so many steps may have few enough nodes, by what those of one step have: each names
+        the ones before it."""
+        plantings = [
+            one for _, one in self.tried if isinstance(one, Planting) and (one.flow.order, one.flow.count) == (order, 1)
+        ]
         return not plantings or min(one.nodes_in(steps) for one in plantings) <= 2 * NODES
 
     def take_orders(self, orders, steps, worth=1):
-        """Tries orders in so many steps; another planting is kept where its boxes are less than the best one's by a factor."""
+        """Tries orders in so many steps; another planting is kept where its boxes are less than the best one's by a
+        factor."""
         bound = box_size(self.best) * worth if self.best else None
         for order in orders:
             if self.best and self.trials > MOST_TRIALS:
@@ -119,7 +130,8 @@ class Chooser:
                 self.take(words, flow, bound)
 
     def take(self, words, flow, bound=None):
-        """Tries one sampling, with polynomials as they are and, where there are products, about the middles of the ranges."""
+        """Tries one sampling, with polynomials as they are and, where there are products, about the middles of the
+        ranges."""
         plain = self.tried_with(words, flow, False) if False in self.forms else None
         may_be_nested = plain.is_curved() if plain else not self.model.denominator
         nested = self.tried_with(f"{words}, about the middles", flow, True) if may_be_nested else None
@@ -127,7 +139,11 @@ class Chooser:
             # Polynomials of more terms do no better as they are.
             self.forms, plain = [True], None
         found = plain or nested
-        if found and (bound is None or box_size(found) <= bound) and (not self.best or box_size(found) < box_size(self.best)):
+        if (
+            found
+            and (bound is None or box_size(found) <= bound)
+            and (not self.best or box_size(found) < box_size(self.best))
+        ):
             self.best = found
 
     def tried_with(self, words, flow, is_nested):
@@ -143,7 +159,12 @@ class Chooser:
         """Makes the best planting once more, with what its formulas leave out looked at in more and smaller boxes."""
         best = self.best
         try:
-            sharper = with_pieces(self.model, flow_of(self.model, best.flow.order, best.flow.count, self.block, FINE), self.block, best.room.is_nested)
+            sharper = with_pieces(
+                self.model,
+                flow_of(self.model, best.flow.order, best.flow.count, self.block, FINE),
+                self.block,
+                best.room.is_nested,
+            )
         except Failure:
             return
         if box_size(sharper) < box_size(best):
@@ -156,8 +177,16 @@ FLOWS = {}
 
 def flow_of(model, order, steps, block, boxes=COARSE):
     """The Flow of a model by an order and in steps, which doesn't rest on its cells: the same one is made once."""
-    key = (*(tuple(state[:3]) for state in model.states), *((name, tuple(values)) for name, _, values in model.inputs), *map(tuple, model.noises),
-           *model.flows, model.sample, order, steps, boxes)
+    key = (
+        *(tuple(state[:3]) for state in model.states),
+        *((name, tuple(values)) for name, _, values in model.inputs),
+        *map(tuple, model.noises),
+        *model.flows,
+        model.sample,
+        order,
+        steps,
+        boxes,
+    )
     if key not in FLOWS:
         FLOWS[key] = Flow(model, intervals(), order, steps, block, boxes)
     return FLOWS[key]
@@ -169,12 +198,16 @@ def rest_size(model, flow):
 
 
 def box_size(planting):
-    """The sum of the greatest deviations beside the widths of cells; of a state that comes round the noise's share of it."""
+    """The sum of the greatest deviations beside the widths of cells; of a state that comes round the noise's share of
+    it."""
     if planting.size is None:
         plant, wraps = planting.plant, planting.model.wraps
-        planting.size = sum((ends[1] - ends[0]) / 2 / state[3] if state[0] in wraps else
-                            max(plant.bounds(i, vector)[2] for vector in range(plant.vectors)) / state[3]
-                            for i, (state, ends) in enumerate(zip(plant.states, planting.ranges)))
+        planting.size = sum(
+            (ends[1] - ends[0]) / 2 / state[3]
+            if state[0] in wraps
+            else max(plant.bounds(i, vector)[2] for vector in range(plant.vectors)) / state[3]
+            for i, (state, ends) in enumerate(zip(plant.states, planting.ranges))
+        )
     return planting.size
 
 
@@ -188,7 +221,9 @@ def with_pieces(model, flow, block, is_nested):
             raise
         except Failure as failure:
             # The points of a lut are no nodes.
-            is_helped = failure.said().startswith("limit: plant text") or model.version == 1 and "nodes" in failure.said()
+            is_helped = (
+                failure.said().startswith("limit: plant text") or model.version == 1 and "nodes" in failure.said()
+            )
             if number == pieces[-1] or not is_helped:
                 raise told(failure) from None
 
@@ -197,12 +232,16 @@ def told(failure):
     """The Trouble of a plant that would be refused, with the model's line."""
     reason = getattr(failure, "reason", failure.said())
     if failure.model_line:
-        return Trouble(f"line {failure.model_line}: the plant would be refused, in what becomes of this line: {reason}" + "; coarser units help" * ("digits" in reason))
+        return Trouble(
+            f"line {failure.model_line}: the plant would be refused, in what becomes of this line: {reason}"
+            + "; coarser units help" * ("digits" in reason)
+        )
     return Trouble(f"the plant would be refused, {failure.said()}")
 
 
 def check_wraps(model):
-    """Whether the equations are the same a turn on for each state that comes round and isn't exact, at some random points by floats."""
+    """Whether the equations are the same a turn on for each state that comes round and isn't exact, at some random
+    points by floats."""
     draws = random.Random(1)
     for name, line in model.wraps.items():
         if name in model.exact:
@@ -210,9 +249,12 @@ def check_wraps(model):
         with at_line(line):
             if model.version == 1:
                 raise Trouble(f"`wrap {name}` needs a plant of version 2, whose boxes lie within the spans")
-            (low, high), = [state[1:3] for state in model.states if state[0] == name]
+            ((low, high),) = [state[1:3] for state in model.states if state[0] == name]
             for _ in range(20):
-                values = {one: float(least + (most - least) * draws.random()) for one, least, most, *_ in model.states + model.noises}
+                values = {
+                    one: float(least + (most - least) * draws.random())
+                    for one, least, most, *_ in model.states + model.noises
+                }
                 values |= {one: float(draws.choice(choices)) for one, _, choices in model.inputs}
                 ends = [sides_at(model, values | {name: float(end)}) for end in (low, high)]
                 check_turn(model, name, float(high - low), *ends)
@@ -220,8 +262,10 @@ def check_wraps(model):
 
 def sides_at(model, values):
     """The right sides of all equations at a point, by floats."""
-    return [float(polynomial.value_of(side, values)) if isinstance(side, dict) else value_of(side, values, Floats)
-            for side in model.flows or model.equations]
+    return [
+        float(polynomial.value_of(side, values)) if isinstance(side, dict) else value_of(side, values, Floats)
+        for side in model.flows or model.equations
+    ]
 
 
 def check_turn(model, name, turn, before, after):
@@ -233,5 +277,9 @@ def check_turn(model, name, turn, before, after):
             continue
         turns = round(difference / turn) if state == name and not model.flows else 0
         if abs(difference - turns * turn) > 1e-7 * max(1.0, abs(one)):
-            raise Trouble(f"`wrap {name}`: the equation of {state} isn't the same a turn, {turn:g}, on: it differs by {difference:.3g}. Count an angle in "
-                          "degrees or turns, as in cos(pi/180 * h) with h from -180 to 180")
+            raise Trouble(
+                f"`wrap {name}`: the equation of {state} isn't the same a turn, {turn:g}, on: it differs by "
+                f"{difference:.3g}. Count an angle in degrees or turns, as in cos(pi/180 * h) with h "
+                "from -180 "
+                "to 180"
+            )

@@ -1,9 +1,9 @@
-"""Functions of one variable in the place of which straight pieces stand: points on the curve, a bound of what the pieces leave out,
-and their text as `lut`, or by `min` and `max` of lines.
+"""Functions of one variable in the place of which straight pieces stand: points on the curve, a bound of what the
+pieces leave out, and their text as `lut`, or by `min` and `max` of lines.
 
-The bound is the textbook's of linear interpolation: between two points on a curve h that lie d apart the chord differs from h by at most
-d^2 / 8 times the greatest second derivative, below it where h bends down, above it where h bends up. The derivatives are bounded over
-each piece by interval arithmetic."""
+The bound is the textbook's of linear interpolation: between two points on a curve h that lie d apart the chord differs
+from h by at most d^2 / 8 times the greatest second derivative, below it where h bends down, above it where h bends up.
+The derivatives are bounded over each piece by interval arithmetic."""
 
 import math
 from fractions import Fraction
@@ -32,7 +32,9 @@ def hull(intervals):
 
 
 class Argument(NamedTuple):
-    """The whole number that stands for a function's argument: its unit, its ends, and those of real value / unit - whole number."""
+    """The whole number that stands for a function's argument: its unit, its ends, and those of real value / unit -
+    whole number."""
+
     unit: Fraction
     low: int
     high: int
@@ -42,7 +44,9 @@ class Argument(NamedTuple):
 @lru_cache(maxsize=4096)
 def curve_of(function, argument, pieces, said):
     """The Curve of a function; the same one is made once, for all plants that are tried."""
-    return Pieces(function[1], argument) if function[0] == "lut" else Curve(function, intervals(), argument, pieces, said)
+    return (
+        Pieces(function[1], argument) if function[0] == "lut" else Curve(function, intervals(), argument, pieces, said)
+    )
 
 
 @lru_cache(maxsize=1)
@@ -53,7 +57,8 @@ def intervals():
 class Curve:
     """A function of a whole number that stands for an argument: real argument / unit - whole number lies in `error`.
 
-    points: pairs of whole numbers; error_out: what (real value / unit_out - value of the pieces) may be, before any rounding down."""
+    points: pairs of whole numbers; error_out: what (real value / unit_out - value of the pieces) may be, before any
+    rounding down."""
 
     def __init__(self, function, maths, argument, pieces, said):
         self.maths, self.unit, self.error = maths, argument.unit, argument.error
@@ -87,7 +92,9 @@ class Curve:
 
     def places(self, pieces):
         """The ends of the pieces, denser where the curve bends more."""
-        bends, step = bends_of(self.bend, self.variable, self.first, self.last, self.unit), Fraction(self.last - self.first, LOOKED)
+        bends, step = bends_of(self.bend, self.variable, self.first, self.last, self.unit), Fraction(
+            self.last - self.first, LOOKED
+        )
         floor = sum(bends) / LOOKED / 20 or 1.0
         total, places, seen = sum(max(bend, floor) for bend in bends), [self.first], 0.0
         for k, bend in enumerate(bends):
@@ -113,7 +120,8 @@ class Curve:
 
 
 class Pieces:
-    """What Curve has, of straight pieces that the model itself gives: real numbers, whose points lie on whole numbers or beside."""
+    """What Curve has, of straight pieces that the model itself gives: real numbers, whose points lie on whole numbers
+    or beside."""
 
     def __init__(self, given, argument):
         self.unit, self.error = argument.unit, argument.error
@@ -131,7 +139,9 @@ class Pieces:
         slope = Fraction(next_y - y, next_x - x)
         places = [Fraction(x), Fraction(next_x)] + [at / self.unit for at, _ in given if x < at / self.unit < next_x]
         ends = [lut_value(given, at * self.unit) / self.unit_out - (y + slope * (at - x)) for at in places]
-        slopes = slope_ends(given, (x + min(self.error[0], 0)) * self.unit, (next_x + max(self.error[1], 0)) * self.unit)
+        slopes = slope_ends(
+            given, (x + min(self.error[0], 0)) * self.unit, (next_x + max(self.error[1], 0)) * self.unit
+        )
         moved = product(slopes, tuple(end * self.unit / self.unit_out for end in self.error))
         return combined((min(ends), max(ends)), moved)
 
@@ -151,9 +161,11 @@ def unit_for(interval, fineness=20000):
     size = max(abs(interval[0]), abs(interval[1]), interval[1] - interval[0])
     if not size:
         return Fraction(1)
-    if not Fraction(1, 10 ** 280) < size < 10 ** 280:
+    if not Fraction(1, 10**280) < size < 10**280:
         # Past what doubles have.
-        return Fraction(10) ** math.floor(math.log10(size.numerator) - math.log10(size.denominator) - math.log10(fineness))
+        return Fraction(10) ** math.floor(
+            math.log10(size.numerator) - math.log10(size.denominator) - math.log10(fineness)
+        )
     return Fraction(10) ** math.floor(math.log10(float(size) / fineness))
 
 
@@ -170,8 +182,10 @@ def as_lines(curve, text):
     denominator = 10 ** (len(str(most)) + 1)
     lines = lines_of(curve.points)
     whole = [(round(slope * denominator), round(constant * denominator)) for slope, constant in lines]
-    beside = max((abs(a - slope * denominator) * most + abs(b - constant * denominator)) / denominator
-                 for (a, b), (slope, constant) in zip(whole, lines))
+    beside = max(
+        (abs(a - slope * denominator) * most + abs(b - constant * denominator)) / denominator
+        for (a, b), (slope, constant) in zip(whole, lines)
+    )
     terms = lattice(lines, [x for x, _ in curve.points])
     said = nested("max", [nested("min", [line_said(whole[j], text) for j in term]) for term in terms])
     values = [y for _, y in curve.points]
@@ -209,19 +223,26 @@ def value_on(line, x):
 
 
 def lattice(lines, xs):
-    """Which lines stand in which min, so that the max of these is the function of straight pieces between the places xs: for each piece the
-    lines that lie above it there (Tarela and Martinez, 1999), without those that aren't needed."""
+    """Which lines stand in which min, so that the max of these is the function of straight pieces between the places
+    xs: for each piece the lines that lie above it there (Tarela and Martinez, 1999), without those that aren't
+    needed."""
     crossings = {(b - a) / (c - d) for (c, a), (d, b) in combinations(lines, 2) if c != d}
     places = sorted({Fraction(x) for x in xs} | {x for x in crossings if xs[0] < x < xs[-1]})
     wanted = [value_on(lines[piece_at(xs, x)], x) for x in places]
     terms = []
     for i, (low, high) in enumerate(zip(xs, xs[1:])):
-        term = [j for j, line in enumerate(lines) if all(value_on(line, x) >= value_on(lines[i], x) for x in (low, high))]
+        term = [
+            j for j, line in enumerate(lines) if all(value_on(line, x) >= value_on(lines[i], x) for x in (low, high))
+        ]
         if term not in terms:
             terms.append(term)
 
     def is_right(trial):
-        return bool(trial) and all(trial) and [max(min(value_on(lines[j], x) for j in term) for term in trial) for x in places] == wanted
+        return (
+            bool(trial)
+            and all(trial)
+            and [max(min(value_on(lines[j], x) for j in term) for term in trial) for x in places] == wanted
+        )
 
     if not is_right(terms):
         raise Trouble("straight pieces couldn't be put together by min and max")
@@ -235,7 +256,7 @@ def thinned(terms, is_right):
             terms = [one for one in terms if one is not term]
     for k in range(len(terms)):
         for line in list(terms[k]):
-            trial = terms[:k] + [[j for j in terms[k] if j != line]] + terms[k + 1:]
+            trial = terms[:k] + [[j for j in terms[k] if j != line]] + terms[k + 1 :]
             if is_right(trial):
                 terms = trial
     return terms

@@ -1,8 +1,10 @@
-"""Real expressions of models: sums, products, quotients, powers, min, max, abs and functions; read from text, derived, evaluated.
+"""Real expressions of models: sums, products, quotients, powers, min, max, abs and functions; read from text, derived,
+evaluated.
 
-A node is a tuple whose first place is its kind: ('num', fraction), ('var', name), ('add', a, b), ('mul', a, b), ('call', function, a)
-with a function of CURVES, a power ('power', exponent), straight pieces ('lut', points) or their slope ('slope', points), ('min', a, b), ('max', a, b),
-('atan2', a, b), ('abs', a), ('sign', a). Nodes are made by `made`, each once, so that what stands more than once is worked out once."""
+A node is a tuple whose first place is its kind: ('num', fraction), ('var', name), ('add', a, b), ('mul', a, b),
+('call', function, a) with a function of CURVES, a power ('power', exponent), straight pieces ('lut', points) or their
+slope ('slope', points), ('min', a, b), ('max', a, b), ('atan2', a, b), ('abs', a), ('sign', a). Nodes are made by
+`made`, each once, so that what stands more than once is worked out once."""
 
 import re
 from fractions import Fraction
@@ -22,8 +24,15 @@ PI = Fraction("3.14159265358979323846264338327950288419716939937510582097494")
 MOST_POWER, MOST_TOKENS = 12, 1000
 # Functions that are looked for, and what may stand in their place.
 CLIPPED = "; a piece of a line may stand for it, as max(-1, min(1, x/0.1)), and a `noise` for what that leaves out"
-INSTEAD = {"sign": CLIPPED, "sgn": CLIPPED, "ln": "; the natural logarithm is `log`", "arctan": "; it is `atan`",
-           "arcsin": "; it is `asin`", "arccos": "; it is `acos`", "arctan2": "; it is `atan2`"}
+INSTEAD = {
+    "sign": CLIPPED,
+    "sgn": CLIPPED,
+    "ln": "; the natural logarithm is `log`",
+    "arctan": "; it is `atan`",
+    "arcsin": "; it is `asin`",
+    "arccos": "; it is `acos`",
+    "arctan2": "; it is `atan2`",
+}
 _MADE = {}
 
 
@@ -127,7 +136,9 @@ class _Reader:
         """What to say of the token behind a whole expression."""
         token, before = self.peek(), self.tokens[self.at - 1]
         if token[0].isalnum() or token == "(":
-            return f"between `{before}` and `{token}` a sign is due, as in {before} * {token if token != '(' else '(..)'}"
+            return (
+                f"between `{before}` and `{token}` a sign is due, as in {before} * {token if token != '(' else '(..)'}"
+            )
         if token == ",":
             return "`,` isn't expected; decimals stand behind a point, as in 0.5"
         return f"`{token}` isn't expected"
@@ -158,7 +169,10 @@ class _Reader:
         if not token[0].isalpha():
             raise Fault(f"`{token}` isn't expected")
         if self.peek() == "(":
-            raise Fault(f"the function `{token}` isn't known; there are {', '.join(CURVES + tuple(OTHERS))}, lut" + INSTEAD.get(token.lower(), ""))
+            raise Fault(
+                f"the function `{token}` isn't known; there are {', '.join(CURVES + tuple(OTHERS))}, lut"
+                + INSTEAD.get(token.lower(), "")
+            )
         raise Fault(f"`{token}` is no variable of this model; they are {', '.join(self.names)}")
 
     def called(self, name):
@@ -176,7 +190,10 @@ class _Reader:
             raise Fault("behind its first comma `lut` takes numbers, x and y of each point")
         points = tuple(zip(*[iter(one[1] for one in numbers)] * 2))
         if len(numbers) % 2 or not FEWEST_POINTS <= len(points) <= MOST_POINTS:
-            raise Fault(f"`lut(a, x0, y0, x1, y1, ..)` takes {FEWEST_POINTS} to {MOST_POINTS} points, two numbers each; here are {len(numbers)} numbers")
+            raise Fault(
+                f"`lut(a, x0, y0, x1, y1, ..)` takes {FEWEST_POINTS} to {MOST_POINTS} points, two numbers each; "
+                f"here are {len(numbers)} numbers"
+            )
         if any(one >= other for (one, _), (other, _) in zip(points, points[1:])):
             raise Fault("the first numbers of the points of `lut` rise from point to point")
         return made("call", ("lut", points), argument)
@@ -259,11 +276,12 @@ def replaced(node, nodes):
         return add(*parts)
     if node[0] == "mul":
         return mul(*parts)
-    return made(*node[:len(node) - len(parts)], *parts)
+    return made(*node[: len(node) - len(parts)], *parts)
 
 
 def derivative(node, name):
-    """The derivative by a variable; that of abs, min and max has `sign` in it, anything from -1 to 1 where its argument may be 0."""
+    """The derivative by a variable; that of abs, min and max has `sign` in it, anything from -1 to 1 where its argument
+    may be 0."""
     kind = node[0]
     if kind in ("num", "var"):
         return ONE if node[:2] == ("var", name) else ZERO
@@ -332,8 +350,8 @@ def factor_text(node):
 
 
 def value_of(node, values, maths, known=None):
-    """The value where `values` has the variables' and `maths` the functions and the numbers: real numbers or intervals. `known` has the
-    values that were found before by the same of both."""
+    """The value where `values` has the variables' and `maths` the functions and the numbers: real numbers or intervals.
+    `known` has the values that were found before by the same of both."""
     if node[0] == "num":
         return maths.number(node[1])
     if node[0] == "var":

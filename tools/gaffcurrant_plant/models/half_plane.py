@@ -1,4 +1,5 @@
-"""Half-planes as obstacles of a model: those cells that a linear inequality of one or two states meets, covered by boxes of cells."""
+"""Half-planes as obstacles of a model: those cells that a linear inequality of one or two states meets, covered by
+boxes of cells."""
 
 from ..faults import Fault
 
@@ -30,7 +31,8 @@ class HalfPlane:
         return int((high - low) / width)
 
     def columns(self):
-        """Runs of places (first, last) of the first axis, each with the first and the last place that is met along the second."""
+        """Runs of places (first, last) of the first axis, each with the first and the last place that is met along the
+        second."""
         columns = []
         for place in range(self.count(0)):
             met = self.met(place)
@@ -41,7 +43,8 @@ class HalfPlane:
         return columns
 
     def met(self, place):
-        """The ends of the places along the second axis that are met, which begin or end with the axis; None where there are none."""
+        """The ends of the places along the second axis that are met, which begin or end with the axis; None where there
+        are none."""
         if len(self.axes) == 1:
             return (0, 0) if self.least((place,)) < 0 else None
         last = self.count(1) - 1
@@ -51,11 +54,12 @@ class HalfPlane:
         return (0, last - is_met[::-1].index(True)) if self.weights[1] > 0 else (is_met.index(True), last)
 
     def boxes(self, most):
-        """At most so many boxes in the model's units that cover every cell that is met; others are taken in where there are too few."""
+        """At most so many boxes in the model's units that cover every cell that is met; others are taken in where there
+        are too few."""
         columns = self.columns()
         while len(columns) > most:
             k = min(range(len(columns) - 1), key=lambda k: added(columns[k], columns[k + 1]))
-            columns[k:k + 2] = [joined(columns[k], columns[k + 1])]
+            columns[k : k + 2] = [joined(columns[k], columns[k + 1])]
         return [self.box(column) for column in columns]
 
     def box(self, column):

@@ -1,4 +1,5 @@
-"""Linear equations of a model: those of the lines A, B, c and w, and those that are found among its `d` lines. Both are sampled exactly."""
+"""Linear equations of a model: those of the lines A, B, c and w, and those that are found among its `d` lines. Both are
+sampled exactly."""
 
 from fractions import Fraction
 
@@ -15,7 +16,10 @@ def add_linear_system(model):
     for keyword, rows in model.rows.items():
         wanted = len(model.states) if rows or keyword == "A" or (keyword == "B" and model.inputs) else 0
         if len(rows) != wanted:
-            raise Trouble(f"the model has {len(rows)} line{'s' * (len(rows) != 1)} `{keyword}`, and {wanted} {'is' if wanted == 1 else 'are'} due, one for each state")
+            raise Trouble(
+                f"the model has {len(rows)} line{'s' * (len(rows) != 1)} `{keyword}`, and {wanted} "
+                f"{'is' if wanted == 1 else 'are'} due, one for each state"
+            )
     of_states, of_inputs = one_sample(model)
     for i in range(len(model.states)):
         terms = {(state[0],): a for state, a in zip(model.states, of_states[i])}
@@ -39,7 +43,8 @@ def one_sample(model):
 
 
 class Linear:
-    """What a right side is where it is linear: weights of the states, weights of the noises, and a formula of the inputs for the rest."""
+    """What a right side is where it is linear: weights of the states, weights of the noises, and a formula of the
+    inputs for the rest."""
 
     def __init__(self, weights, held):
         self.weights, self.held = weights, held
@@ -68,17 +73,23 @@ def linear_of(node, varying):
 
 
 class Block:
-    """The states of `d` lines whose equations are linear, with constant weights, and name no state that isn't among them: in groups that name none of
-    each other's."""
+    """The states of `d` lines whose equations are linear, with constant weights, and name no state that isn't among
+    them: in groups that name none of each other's."""
 
     def __init__(self, model):
         self.model, self.found = model, {}
         names = [state[0] for state in model.states]
         self.middles = {name: (low + high) / 2 for name, low, high in model.noises}
         self.radii = {name: (high - low) / 2 for name, low, high in model.noises}
-        sides = {name: linear_of(side, frozenset(names) | frozenset(self.middles)) for name, side in zip(names, model.flows)}
+        sides = {
+            name: linear_of(side, frozenset(names) | frozenset(self.middles)) for name, side in zip(names, model.flows)
+        }
         self.sides = {name: side for name, side in sides.items() if side}
-        while wrong := [name for name, side in self.sides.items() if any(other in sides and other not in self.sides for other in side.weights)]:
+        while wrong := [
+            name
+            for name, side in self.sides.items()
+            if any(other in sides and other not in self.sides for other in side.weights)
+        ]:
             for name in wrong:
                 del self.sides[name]
         self.groups = self.grouped()
@@ -125,13 +136,23 @@ class Block:
 
     def constant(self, name):
         """What is held of a state's right side, with the noises in their middles."""
-        middle = sum((weight * self.middles[noise] for noise, weight in self.sides[name].weights.items() if noise in self.middles), Fraction(0))
+        middle = sum(
+            (
+                weight * self.middles[noise]
+                for noise, weight in self.sides[name].weights.items()
+                if noise in self.middles
+            ),
+            Fraction(0),
+        )
         return add(self.sides[name].held, number(middle))
 
     def rest(self, name, time):
         """The ends of what the noises, which may vary at any time, move a state."""
         group = self.groups[name]
-        columns = [[self.sides[one].weights.get(noise, Fraction(0)) * radius for one in group] for noise, radius in self.radii.items()]
+        columns = [
+            [self.sides[one].weights.get(noise, Fraction(0)) * radius for one in group]
+            for noise, radius in self.radii.items()
+        ]
         columns = [column for column in columns if any(column)]
         if not columns:
             return Fraction(0), Fraction(0)

@@ -18,10 +18,10 @@ FINENESS = 125
 
 
 class Model:
-    """states: (name, least, greatest, width, unit); inputs: (name, unit, values); noises: (name, least, greatest); equations: of `next`
-    lines and linear systems, as formulas or polynomials; flows: of `d` lines; boxes: a keyword and two ends for each state; exact: the
-    states that are whole numbers of units by themselves; between: the word by which the ways between samples are to be looked at, or None,
-    has_bounds whether they are to stay in the domain."""
+    """states: (name, least, greatest, width, unit); inputs: (name, unit, values); noises: (name, least, greatest);
+    equations: of `next` lines and linear systems, as formulas or polynomials; flows: of `d` lines; boxes: a keyword and
+    two ends for each state; exact: the states that are whole numbers of units by themselves; between: the word by which
+    the ways between samples are to be looked at, or None, has_bounds whether they are to stay in the domain."""
 
     def __init__(self):
         self.denominator = self.sample = self.order = self.steps = self.pieces = None
@@ -71,7 +71,9 @@ def read_model(data):
         except Fault as fault:
             raise Trouble(f"line {number}: {fault}") from None
     if not model.states or model.goal is None:
-        raise Trouble("the model has no state" if not model.states else "the model has no `goal reach` line, and no `goal keep`")
+        raise Trouble(
+            "the model has no state" if not model.states else "the model has no `goal reach` line, and no `goal keep`"
+        )
     check_equations(model)
     cover_half_planes(model)
     return model
@@ -80,17 +82,25 @@ def read_model(data):
 def check_equations(model):
     """Whether the lines give one equation for each state, in one of the three forms."""
     if model.flows and (model.equations or model.rows["A"]):
-        raise Trouble(f"line {model.equation_lines[-1]}: a model has `next` lines, `d` lines or a matrix A, and no two of them")
+        raise Trouble(
+            f"line {model.equation_lines[-1]}: a model has `next` lines, `d` lines or a matrix A, and no two of them"
+        )
     if model.rows["A"]:
         add_linear_system(model)
     elif model.sample and not model.flows:
-        raise Trouble(f"line {model.sample_line}: `sample` is for lines `d` or A, B and c; `next` lines are sampled already")
+        raise Trouble(
+            f"line {model.sample_line}: `sample` is for lines `d` or A, B and c; `next` lines are sampled already"
+        )
     if model.flows and not model.sample:
         raise Trouble(f"line {model.equation_lines[0]}: lines `d NAME = ..` need a sampling time, `sample T`")
     if len(model.equations or model.flows) != len(model.states):
         missing = model.states[len(model.equations or model.flows)][0]
-        raise Trouble(f"the model has {len(model.states)} state{'s' * (len(model.states) != 1)} and {len(model.equations or model.flows)} equations: `{'d' if model.flows else 'next'} "
-                      f"{missing} = ..` is missing")
+        raise Trouble(
+            f"the model has {len(model.states)} state{'s' * (len(model.states) != 1)} and "
+            f"{len(model.equations or model.flows)} equations: `{'d' if model.flows else 'next'} "
+            f"{missing} = ..` "
+            "is missing"
+        )
 
 
 def cover_half_planes(model):
@@ -142,7 +152,10 @@ def read_line(model, words):
             fail("a sampling time is above 0")
     elif keyword == "unit":
         if len(rest) != 2 or rest[0] not in model.names() or not re.match(r"[^\s:]{1,16}\Z", rest[1]):
-            fail("`unit NAME WORD` has the name of a state or an input, and a word for its unit, of at most 16 characters and no colon")
+            fail(
+                "`unit NAME WORD` has the name of a state or an input, and a word for its unit, of at most 16 "
+                "characters and no colon"
+            )
         model.words[rest[0]] = rest[1]
     elif keyword == "between":
         read_between(model, rest)
@@ -195,13 +208,16 @@ def read_parameter(model, rest):
 def read_between(model, rest):
     """`between`, with the word that solves the plant, and `bounds`."""
     if rest not in ([], ["stay"], ["patrol"], ["bounds"], ["stay", "bounds"], ["patrol", "bounds"]):
-        fail("`between` stands alone, or before the word that solves the plant, as `between patrol`, or before `bounds`, as `between patrol bounds`")
+        fail(
+            "`between` stands alone, or before the word that solves the plant, as `between patrol`, or before "
+            "`bounds`, as `between patrol bounds`"
+        )
     model.between, model.has_bounds = rest[0] if rest and rest[0] != "bounds" else "synth", rest[-1:] == ["bounds"]
 
 
 def read_mark(model, keyword, rest):
-    """`exact NAME`, of a state that is a whole number of units by itself; `wrap NAME`, of one that comes round: behind its range's end it is at the
-    beginning."""
+    """`exact NAME`, of a state that is a whole number of units by itself; `wrap NAME`, of one that comes round: behind
+    its range's end it is at the beginning."""
     if len(rest) != 1 or rest[0] not in [state[0] for state in model.states]:
         fail(f"`{keyword} NAME` has the name of a state, behind its `state` line")
     if keyword == "exact":
@@ -234,7 +250,10 @@ def read_equation(model, keyword, rest):
         fail(f"each state has one equation, behind the `state` lines; `{keyword} {rest[0]}` is one too many")
     due = model.states[len(equations)][0]
     if rest[0] != due:
-        fail(f"the equations stand in the order of the states, one for each; `{keyword} {due} = ..` is due here, not `{keyword} {rest[0]}`")
+        fail(
+            f"the equations stand in the order of the states, one for each; `{keyword} {due} = ..` is due here, "
+            f"not `{keyword} {rest[0]}`"
+        )
     equations.append(formula.parse(" ".join(rest[2:]), model.names(), model.parameters))
     model.equation_lines.append(model.line)
 
@@ -258,7 +277,10 @@ def with_any(model, form, words):
         return words
     due = 2 * len(model.states) - min(words.count("*"), len(model.states))
     if len(words) != due:
-        fail(f"the line is `{form}`, with `*` in the place of two numbers for any: {due} words are due, here are {len(words)}")
+        fail(
+            f"the line is `{form}`, with `*` in the place of two numbers for any: {due} words are due, here are "
+            f"{len(words)}"
+        )
     left, ends = list(words), []
     for _, low, high, *_ in model.states:
         ends += [left.pop(0), low, high][1:] if left[0] == "*" else [left.pop(0), left.pop(0)]
@@ -267,11 +289,20 @@ def with_any(model, form, words):
 
 def read_goal(model, rest):
     if rest not in (["reach"], ["keep"]):
-        fail("the goal is `goal reach` or `goal keep`" + ("; a plant that is to come and stay, or to patrol, has `goal reach`, and is solved by "
-             "`stay` or `patrol`" if rest in (["stay"], ["patrol"]) else ""))
+        fail(
+            "the goal is `goal reach` or `goal keep`"
+            + (
+                "; a plant that is to come and stay, or to patrol, has `goal reach`, and is solved by `stay` or "
+                "`patrol`"
+                if rest in (["stay"], ["patrol"])
+                else ""
+            )
+        )
     if rest == ["keep"] and any(keyword == "target" for keyword, _ in model.boxes):
-        fail("`goal keep` has no targets: it keeps the plant in its ranges and off the obstacles; take the `target` lines away, or let `goal reach` "
-             "bring the plant into them")
+        fail(
+            "`goal keep` has no targets: it keeps the plant in its ranges and off the obstacles; take the "
+            "`target` lines away, or let `goal reach` bring the plant into them"
+        )
     model.goal = rest[0]
 
 
@@ -279,8 +310,26 @@ def read_goal(model, rest):
 CHOICES = {"version": (1, 2), "order": (1, 4), "steps": (1, 8), "pieces": (2, 31)}
 # Keywords of lines in which parameters may stand for numbers.
 WITH_NUMBERS = ("denominator", "sample", "state", "input", "noise", "target", "obstacle", "A", "B", "c", "w")
-KEYWORDS = ("version", "param", "exact", "wrap", "denominator", "pieces", "sample", "order", "steps", "state", "input", "noise", "unit", "next", "target", "obstacle",
-            "goal", "between")
+KEYWORDS = (
+    "version",
+    "param",
+    "exact",
+    "wrap",
+    "denominator",
+    "pieces",
+    "sample",
+    "order",
+    "steps",
+    "state",
+    "input",
+    "noise",
+    "unit",
+    "next",
+    "target",
+    "obstacle",
+    "goal",
+    "between",
+)
 # Words of others for the same.
 MEANT = {"disturbance": "noise", "avoid": "obstacle"}
 
@@ -298,8 +347,11 @@ def read_choice(model, keyword, rest):
 def numbers(words, count, form):
     """So many numbers, or any where count is None; form is the keyword before them, or how the line is written."""
     if count is not None and len(words) != count:
-        fail(f"{count} number{'s are' if count != 1 else ' is'} due behind `{form}`, here are {len(words)}" if " " not in form else
-             f"the line is `{form}`: {count} number{'s are' if count != 1 else ' is'} due, here are {len(words)}")
+        fail(
+            f"{count} number{'s are' if count != 1 else ' is'} due behind `{form}`, here are {len(words)}"
+            if " " not in form
+            else f"the line is `{form}`: {count} number{'s are' if count != 1 else ' is'} due, here are {len(words)}"
+        )
     return [word if isinstance(word, Fraction) else number_of(word) for word in words]
 
 
@@ -308,7 +360,11 @@ def read_variable(model, keyword, rest):
     name = rest[0]
     model.variable_lines[name] = model.line
     if keyword == "state":
-        low, high, width, unit = cells_by_number(name, rest[1:]) if "cells" in rest[3:4] else numbers(rest[1:], 4, "state NAME LO HI WIDTH UNIT")
+        low, high, width, unit = (
+            cells_by_number(name, rest[1:])
+            if "cells" in rest[3:4]
+            else numbers(rest[1:], 4, "state NAME LO HI WIDTH UNIT")
+        )
         if unit <= 0 or width <= 0 or low >= high:
             fail("a state has LO below HI, and a WIDTH and a UNIT above 0")
         check_widths(name, low, high, width, unit)
@@ -316,13 +372,20 @@ def read_variable(model, keyword, rest):
     elif keyword == "input":
         if len(rest) < 3:
             fail("`input NAME UNIT V1 .. Vm` has a unit and at least one value")
-        unit, *values = numbers(rest[1:2] + [value for word in rest[2:] for value in listed(model, word)], None, keyword)
+        unit, *values = numbers(
+            rest[1:2] + [value for word in rest[2:] for value in listed(model, word)], None, keyword
+        )
         if unit <= 0:
-            fail(f"`input NAME UNIT V1 .. Vm`: the unit stands before the values and is above 0, here it is {said(unit)}")
+            fail(
+                f"`input NAME UNIT V1 .. Vm`: the unit stands before the values and is above 0, here it is {said(unit)}"
+            )
         if len(values) > VALUES:
             fail(f"{VALUES} values are the most of one input, here are {len(values)}")
         if wrong := [value for value in values if value % unit]:
-            fail(f"the value {said(wrong[0])} of {name} is no multiple of its unit {said(unit)}, which stands before the values")
+            fail(
+                f"the value {said(wrong[0])} of {name} is no multiple of its unit {said(unit)}, which stands "
+                "before the values"
+            )
         model.inputs.append((name, unit, values))
     else:
         low, high = numbers(rest[1:], 2, "noise NAME LO HI")
@@ -334,7 +397,10 @@ def read_variable(model, keyword, rest):
 def check_name(model, keyword, name):
     """Whether a name may stand behind a keyword, and is new."""
     if name is None or not NAME.match(name) or name in NO_NAMES:
-        fail(f"behind `{keyword}` a name is due: a letter, then letters, digits and `_`" + (f"; `{name[:60]}` is none" if name else ""))
+        fail(
+            f"behind `{keyword}` a name is due: a letter, then letters, digits and `_`"
+            + (f"; `{name[:60]}` is none" if name else "")
+        )
     if name in model.names() or name in model.parameters:
         fail(f"behind `{keyword}` a new name is due; `{name}` is taken by an earlier line")
 
@@ -351,8 +417,10 @@ def listed(model, word):
         fail(f"`{word[:60]}`: in LO:STEP:HI the step is above 0, and LO at most HI")
     if (high - low) % step:
         last = low + (high - low) // step * step
-        fail(f"`{word[:60]}`: HI - LO is no multiple of the step; {said(low)}:{said(step)}:{said(last)} or "
-             f"{said(low)}:{said(step)}:{said(last + step)} would do")
+        fail(
+            f"`{word[:60]}`: HI - LO is no multiple of the step; {said(low)}:{said(step)}:{said(last)} or "
+            f"{said(low)}:{said(step)}:{said(last + step)} would do"
+        )
     return [low + k * step for k in range(min(int((high - low) / step) + 1, VALUES + 1))]
 
 
@@ -361,13 +429,18 @@ def check_widths(name, low, high, width, unit):
     for what, value in (("LO", low), ("WIDTH", width)):
         if value % unit:
             near = [said(end) for end in (value // unit * unit, (value // unit + 1) * unit) if what == "LO" or end > 0]
-            fail(f"{what} of {name}, {said(value)}, is no multiple of the unit {said(unit)}; {what} {' or '.join(near)} would be one, or take the "
-                 f"unit {said(common_unit([low, width]))}")
+            fail(
+                f"{what} of {name}, {said(value)}, is no multiple of the unit {said(unit)}; {what} "
+                f"{' or '.join(near)} would be one, or take the unit {said(common_unit([low, width]))}"
+            )
     if (high - low) % width:
         count = (high - low) // width
         near = [f"HI {said(low + number * width)} ({number} cells)" for number in (count, count + 1) if number > 0]
-        fail(f"HI - LO of {name}, {said(high - low)}, is no multiple of the width {said(width)}; {' or '.join(near)} would do, or "
-             f"`state {name} {said(low)} {said(high)} cells {max(1, round((high - low) / width))}`")
+        fail(
+            f"HI - LO of {name}, {said(high - low)}, is no multiple of the width {said(width)}; "
+            f"{' or '.join(near)} would do, or `state {name} {said(low)} {said(high)} cells "
+            f"{max(1, round((high - low) / width))}`"
+        )
 
 
 def common_unit(values):
@@ -377,8 +450,8 @@ def common_unit(values):
 
 
 def cells_by_number(name, rest):
-    """Range, width and unit of a state by `LO HI cells N`, with a unit of which a cell has an odd number where that can be; or by
-    `LO HI cells N UNIT`."""
+    """Range, width and unit of a state by `LO HI cells N`, with a unit of which a cell has an odd number where that can
+    be; or by `LO HI cells N UNIT`."""
     low, high = numbers(rest[:2], 2, "state NAME LO HI cells N")
     count, *unit = numbers(rest[3:], len(rest[3:]) if len(rest) == 5 else 1, "cells")
     if count < 1 or count.denominator != 1 or low >= high:

@@ -15,22 +15,23 @@ and in the model's own units. `#` begins a comment."""
 # Each line of a model with its meaning.
 LINES = {
     "version 1": (
-        "Makes a plant of version 1, in which functions become `min` and `max` of straight lines. Without this line "
-        "the plant is of version 2: functions become `lut`, and boxes lie within the spans over a cell."
+        "Makes a plant of version 1, in which functions become `min` and `max` of straight lines. Without this "
+        "line the plant is of version 2: functions become `lut`, and boxes lie within the spans over a "
+        "cell."
     ),
     "denominator D": (
-        "The coefficients become whole numbers over D. Without this line a power of ten is chosen, and polynomials are "
-        "written about the middles of the ranges if that makes the boxes smaller."
+        "The coefficients become whole numbers over D. Without this line a power of ten is chosen, and "
+        "polynomials are written about the middles of the ranges if that makes the boxes smaller."
     ),
     "pieces N": "Each function has N straight pieces, 2 to 31. Without this line it has as many as fit.",
     "sample T": "The sampling time of lines `A` or `d`.",
     "order K": (
-        "The order of the Taylor polynomials of lines `d`, 1 to 4. Without this line it is the one that gives the "
-        "smallest boxes (1 with `min`, `max`, `abs` or `lut` of what varies within a sample)."
+        "The order of the Taylor polynomials of lines `d`, 1 to 4. Without this line it is the one that gives "
+        "the smallest boxes (1 with `min`, `max`, `abs` or `lut` of what varies within a sample)."
     ),
     "steps N": (
-        "A sample of lines `d` is N Taylor polynomials, one after the other, 1 to 8. Without this line it is as many "
-        "as make the boxes smaller."
+        "A sample of lines `d` is N Taylor polynomials, one after the other, 1 to 8. Without this line it is as "
+        "many as make the boxes smaller."
     ),
     "state NAME LO HI WIDTH UNIT": (
         "A state with LO <= x < HI and cells of WIDTH. UNIT is what the number 1 of the plant stands for."
@@ -50,22 +51,27 @@ LINES = {
         "parameters."
     ),
     "wrap NAME": (
-        "The state comes round, as an angle does: after HI it is at LO. The equations have to be the same a turn on. "
-        "A cell whose box crosses the end counts as leading to every value of the state, so put the ends where the "
-        "angle matters least. An exact state with cells of one unit comes round in version 1 too, and so do its "
-        "boxes."
+        "The state comes round, as an angle does: after HI it is at LO. The equations have to be the same a turn "
+        "on. A cell whose box crosses the end counts as leading to every value of the state, so put the "
+        "ends "
+        "where the angle matters least. An exact state with cells of one unit comes round in version 1 "
+        "too, and "
+        "so do its boxes."
     ),
     "unit NAME WORD": "The name of a state's or an input's unit, such as m/s, for pictures (may be left out).",
     "next NAME = EXPRESSION": (
-        "The next value, one line for each state, with + - * / ^ (powers by numbers), sin cos tan asin acos atan sinh "
-        "cosh tanh sqrt exp log abs, min(a, b), max(a, b), atan2(y, x) and pi. `lut(a, x0, y0, x1, y1, ..)` is a curve as "
-        "it was measured, by 2 to 32 points with rising x: straight from point to point, and beyond them the first or the "
-        "last y."
+        "The next value, one line for each state, with + - * / ^ (powers by numbers), sin cos tan asin acos atan "
+        "sinh cosh tanh sqrt exp log abs, min(a, b), max(a, b), atan2(y, x) and pi. `lut(a, x0, y0, x1, "
+        "y1, ..)` "
+        "is a curve as it was measured, by 2 to 32 points with rising x: straight from point to point, "
+        "and "
+        "beyond them the first or the last y."
     ),
     "d NAME = EXPRESSION": (
-        "The same as a differential equation, instead of the `next` lines. Equations that are linear, with numbers and "
-        "parameters as weights of the states, and that name no state with another kind of equation, are sampled exactly, "
-        "as lines `A` are."
+        "The same as a differential equation, instead of the `next` lines. Equations that are linear, with "
+        "numbers and parameters as weights of the states, and that name no state with another kind of "
+        "equation, "
+        "are sampled exactly, as lines `A` are."
     ),
     "target LO HI ..": "A box, LO <= x < HI for each state.",
     "obstacle LO HI ..": "The same. In both, `*` instead of LO HI stands for any value of a state.",
@@ -74,8 +80,8 @@ LINES = {
     ),
     "goal reach": "Or `goal keep`.",
     "between [stay|patrol] [bounds]": (
-        "Widens the obstacles until no way between two samples touches one (as --between), by the plant's table, or "
-        "by what `stay` or `patrol` makes of it. With `bounds` no way leaves the domain either."
+        "Widens the obstacles until no way between two samples touches one (as --between), by the plant's table, "
+        "or by what `stay` or `patrol` makes of it. With `bounds` no way leaves the domain either."
     ),
 }
 
@@ -130,8 +136,10 @@ An example is [rail.model](../examples/rail/rail.model):
 
 def help_text():
     """The end of `tools/scale --help`."""
-    lines = (textwrap.fill(meaning, WIDTH, initial_indent=f"  {line:{COLUMN - 2}}", subsequent_indent=" " * COLUMN)
-             for line, meaning in LINES.items())
+    lines = (
+        textwrap.fill(meaning, WIDTH, initial_indent=f"  {line:{COLUMN - 2}}", subsequent_indent=" " * COLUMN)
+        for line, meaning in LINES.items()
+    )
     sections = (f"{title}:\n\n{text}" for title, text in SECTIONS.items())
     return "\n\n".join([INTRODUCTION, "\n".join(lines), *sections]) + "\n"
 

@@ -1,5 +1,6 @@
-"""Polynomials about the middles of the ranges, in Horner's scheme: each variable is taken once out of the terms that have it, and what it is a factor of
-is a whole number over a denominator of its own. So the terms' signs cancel in the coefficients, and powers need no coefficients of many digits."""
+"""Polynomials about the middles of the ranges, in Horner's scheme: each variable is taken once out of the terms that
+have it, and what it is a factor of is a whole number over a denominator of its own. So the terms' signs cancel in the
+coefficients, and powers need no coefficients of many digits."""
 
 import math
 import re
@@ -15,7 +16,9 @@ LEFT_OUT = Fraction(1, 50)
 
 
 class Inner(NamedTuple):
-    """A whole number that stands for a polynomial times a denominator: its text, term by term, and the ends of what the polynomial is more."""
+    """A whole number that stands for a polynomial times a denominator: its text, term by term, and the ends of what the
+    polynomial is more."""
+
     terms: list
     more: tuple
 
@@ -26,8 +29,14 @@ class Nested(Scaled):
     def round(self):
         """Nests the terms, and rounds the coefficients."""
         kept, left_out = self.thinned()
-        self.apart = {monomial: scale for monomial, scale in kept.items() if self.is_apart_from(monomial, kept)} if self.adds_itself(kept) else {}
-        inner = self.nest({monomial: scale for monomial, scale in kept.items() if monomial not in self.apart}, self.denominator)
+        self.apart = (
+            {monomial: scale for monomial, scale in kept.items() if self.is_apart_from(monomial, kept)}
+            if self.adds_itself(kept)
+            else {}
+        )
+        inner = self.nest(
+            {monomial: scale for monomial, scale in kept.items() if monomial not in self.apart}, self.denominator
+        )
         self.words = inner.terms
         self.more = tuple(end / self.denominator + sign * left_out for end, sign in zip(inner.more, (-1, 1)))
         self.rounding = size(self.more)
@@ -52,8 +61,12 @@ class Nested(Scaled):
 
     def is_apart_from(self, monomial, polynomial):
         """Whether a term is a variable alone, which stands in no other term, times a whole number."""
-        return len(monomial) == 1 and self.room.varies(monomial[0]) and polynomial[monomial].denominator == 1 and not any(
-            monomial[0] in other for other in polynomial if other != monomial)
+        return (
+            len(monomial) == 1
+            and self.room.varies(monomial[0])
+            and polynomial[monomial].denominator == 1
+            and not any(monomial[0] in other for other in polynomial if other != monomial)
+        )
 
     def nest(self, polynomial, denominator):
         """The Inner of a polynomial times a denominator."""
@@ -62,23 +75,35 @@ class Nested(Scaled):
             exact = polynomial.get((), Fraction(0)) * denominator
             whole = round(exact)
             return Inner([str(whole)] if whole else [], (exact - whole, exact - whole))
-        name = max(sorted(names), key=lambda one: (self.room.varies(one), sum(one in monomial for monomial in polynomial)))
+        name = max(
+            sorted(names), key=lambda one: (self.room.varies(one), sum(one in monomial for monomial in polynomial))
+        )
         factor = {without(monomial, name): scale for monomial, scale in polynomial.items() if name in monomial}
-        rest = self.nest({monomial: scale for monomial, scale in polynomial.items() if name not in monomial}, denominator)
+        rest = self.nest(
+            {monomial: scale for monomial, scale in polynomial.items() if name not in monomial}, denominator
+        )
         inner = self.factor(name, factor, denominator)
         return Inner(inner.terms + rest.terms, combined(inner.more, rest.more))
 
     def factor(self, name, polynomial, denominator):
         """The Inner of a variable times a polynomial."""
-        finer = 1 if all((scale * denominator).denominator == 1 for scale in polynomial.values()) else self.finer_for(name, polynomial)
+        finer = (
+            1
+            if all((scale * denominator).denominator == 1 for scale in polynomial.values())
+            else self.finer_for(name, polynomial)
+        )
         inner = self.nest(polynomial, denominator * finer)
         more = tuple(end / finer for end in inner.more)
         if finer > 1:
             more = more[0], more[1] + Fraction(finer - 1, finer)
-        return Inner([times(self.room.variables[name].text, inner.terms, finer)] if inner.terms else [], product(self.terms.range_of(name), more))
+        return Inner(
+            [times(self.room.variables[name].text, inner.terms, finer)] if inner.terms else [],
+            product(self.terms.range_of(name), more),
+        )
 
     def finer_for(self, name, polynomial):
-        """By how much the denominator of what a variable is a factor of is greater: about as much as the variable is."""
+        """By how much the denominator of what a variable is a factor of is greater: about as much as the variable
+        is."""
         if not any(self.room.varies(one) for monomial in polynomial for one in monomial):
             return 1
         return 10 ** math.floor(math.log10(max(1, size(self.terms.range_of(name)))))
@@ -91,19 +116,25 @@ class Nested(Scaled):
         return low, high + self.left_over()
 
     def text(self):
-        apart = joined([self.term(int(scale), monomial) for monomial, scale in self.apart.items()]) if self.apart else ""
+        apart = (
+            joined([self.term(int(scale), monomial) for monomial, scale in self.apart.items()]) if self.apart else ""
+        )
         if not self.words:
             return apart or "0"
         total = joined(self.words)
         if self.denominator > 1:
-            total = f"({total}) / {self.denominator}" if len(self.words) > 1 or apart and total.startswith("-") else f"{total} / {self.denominator}"
+            total = (
+                f"({total}) / {self.denominator}"
+                if len(self.words) > 1 or apart and total.startswith("-")
+                else f"{total} / {self.denominator}"
+            )
         return joined([apart, total]) if apart else total
 
 
 def without(monomial, name):
     """A monomial without one of its factors."""
     at = monomial.index(name)
-    return monomial[:at] + monomial[at + 1:]
+    return monomial[:at] + monomial[at + 1 :]
 
 
 def times(text, terms, finer):
@@ -113,7 +144,9 @@ def times(text, terms, finer):
         return f"{text} * (({total}) / {finer})" if len(terms) > 1 else f"{text} * ({total} / {finer})"
     if len(terms) > 1:
         return f"{text} * ({total})"
-    return {"1": text, "-1": f"-{text}"}.get(total) or (f"{total} * {text}" if total.lstrip("-").isdigit() else f"{text} * ({total})")
+    return {"1": text, "-1": f"-{text}"}.get(total) or (
+        f"{total} * {text}" if total.lstrip("-").isdigit() else f"{text} * ({total})"
+    )
 
 
 def is_curved(room, equation):

@@ -1,5 +1,5 @@
-"""Equations of a model in whole numbers of units: whole coefficients over a denominator, and the noise that bounds what rounding, quantising, straight
-pieces and sampling do."""
+"""Equations of a model in whole numbers of units: whole coefficients over a denominator, and the noise that bounds what
+rounding, quantising, straight pieces and sampling do."""
 
 import itertools
 import math
@@ -18,8 +18,8 @@ def size(interval):
 
 
 class Terms:
-    """An equation in units as a polynomial of whole numbers. scales: the coefficients by monomial; sizes: what the product of a monomial's variables may come
-    to; quantising, disturbance: the ends of what moves it beside these."""
+    """An equation in units as a polynomial of whole numbers. scales: the coefficients by monomial; sizes: what the
+    product of a monomial's variables may come to; quantising, disturbance: the ends of what moves it beside these."""
 
     def __init__(self, room, equation, unit, is_moved=False):
         self.room, self.unit = room, unit
@@ -46,7 +46,11 @@ class Terms:
 
     def scale_of(self, monomial, coefficient):
         """The coefficient of whole numbers of units."""
-        return coefficient / self.unit * math.prod([self.room.variables[name].unit for name in monomial], start=Fraction(1))
+        return (
+            coefficient
+            / self.unit
+            * math.prod([self.room.variables[name].unit for name in monomial], start=Fraction(1))
+        )
 
     def disturb(self, monomial, coefficient):
         """Takes in a term that has a noise."""
@@ -58,13 +62,14 @@ class Terms:
         variables = [self.room.variables[name] for name in monomial]
         for i, variable in enumerate(variables):
             if variable.error != NEVER:
-                ranges = [(other.low, other.high) for other in variables[i + 1:]]
+                ranges = [(other.low, other.high) for other in variables[i + 1 :]]
                 moved = [other.around() for other in variables[:i]] + [variable.error] + ranges
                 self.quantising = combined(self.quantising, times(scale, moved))
 
 
 def about_middles(room, scales):
-    """A polynomial of whole numbers with variables less the middle of their range in the place of those that stand in products."""
+    """A polynomial of whole numbers with variables less the middle of their range in the place of those that stand in
+    products."""
     moved = {name for monomial in scales if sum(map(room.varies, monomial)) > 1 for name in monomial}
     places = {name: room.about_middle(name) for name in moved}
     total = {}
@@ -83,7 +88,12 @@ class Scaled:
 
     def __init__(self, terms, denominator, name=None):
         self.terms, self.room, self.name, self.denominator = terms, terms.room, name, denominator
-        self.has_curves, self.has_steps, self.quantising, self.disturbance = terms.has_curves, terms.has_steps, terms.quantising, terms.disturbance
+        self.has_curves, self.has_steps, self.quantising, self.disturbance = (
+            terms.has_curves,
+            terms.has_steps,
+            terms.quantising,
+            terms.disturbance,
+        )
         self.rounding = Fraction(0)
         self.round()
 
@@ -101,18 +111,25 @@ class Scaled:
 
     def is_short(self):
         """Whether its numbers have as many digits as a plant's may."""
-        return max([self.denominator, *map(abs, self.coefficients.values())]) < 10 ** DIGITS
+        return max([self.denominator, *map(abs, self.coefficients.values())]) < 10**DIGITS
 
     def left_over(self):
         """The most that the quotient's rounding down may leave. The states add multiples of `step` to the dividend, and
         the inputs what they give, so not every remainder comes."""
-        step = math.gcd(self.denominator, *(whole for monomial, whole in self.coefficients.items() if any(map(self.room.varies, monomial))))
-        of_inputs = {monomial: whole for monomial, whole in self.coefficients.items() if not any(map(self.room.varies, monomial))}
+        step = math.gcd(
+            self.denominator,
+            *(whole for monomial, whole in self.coefficients.items() if any(map(self.room.varies, monomial))),
+        )
+        of_inputs = {
+            monomial: whole for monomial, whole in self.coefficients.items() if not any(map(self.room.varies, monomial))
+        }
         names = sorted({name for monomial in of_inputs for name in monomial})
         choices = [self.room.variables[name].choices for name in names]
         if math.prod(map(len, choices)) > 5000:
             return Fraction(self.denominator - 1, self.denominator)
-        remainders = [polynomial.value_of(of_inputs, dict(zip(names, values))) % step for values in itertools.product(*choices)]
+        remainders = [
+            polynomial.value_of(of_inputs, dict(zip(names, values))) % step for values in itertools.product(*choices)
+        ]
         return Fraction(self.denominator - step + int(max(remainders)), self.denominator)
 
     def error(self):
@@ -121,14 +138,15 @@ class Scaled:
         return low, self.left_over() + self.rounding + self.quantising[1] + self.disturbance[1]
 
     def noise(self):
-        """The whole numbers by which the real next state, rounded down, may differ from the plant's. A measurement may be a rounding beside: so a
-        value on the bound of a unit may count for the unit below or above."""
+        """The whole numbers by which the real next state, rounded down, may differ from the plant's. A measurement may
+        be a rounding beside: so a value on the bound of a unit may count for the unit below or above."""
         low, high = self.error()
         return math.floor(low - BESIDE), math.floor(high + BESIDE)
 
     def text(self):
-        """The equation without its noise. Where the state itself is only added, as in `x + v / 2`, it stands before the quotient
-        with all that is a whole multiple of the denominator: the value is the same, and the program finds the boxes faster."""
+        """The equation without its noise. Where the state itself is only added, as in `x + v / 2`, it stands before the
+        quotient with all that is a whole multiple of the denominator: the value is the same, and the program finds the
+        boxes faster."""
         groups = {}
         for monomial, coefficient in self.coefficients.items():
             of_states = tuple(name for name in monomial if self.room.varies(name))
@@ -136,8 +154,11 @@ class Scaled:
             groups.setdefault(of_states, {})[of_inputs] = coefficient
         if self.denominator == 1:
             return joined([self.grouped(of_states, group) for of_states, group in groups.items()])
-        apart = {of_states: {of_inputs: coefficient // self.denominator for of_inputs, coefficient in group.items()}
-                 for of_states, group in groups.items() if self.is_added(groups) and self.is_apart(of_states, groups)}
+        apart = {
+            of_states: {of_inputs: coefficient // self.denominator for of_inputs, coefficient in group.items()}
+            for of_states, group in groups.items()
+            if self.is_added(groups) and self.is_apart(of_states, groups)
+        }
         divided = {of_states: group for of_states, group in groups.items() if of_states not in apart}
         terms = [self.grouped(of_states, group) for of_states, group in apart.items()]
         return joined(terms + [self.quotient(divided, is_first=not terms)] if divided else terms)
@@ -148,10 +169,13 @@ class Scaled:
     def is_apart(self, of_states, groups):
         """Whether states have whole multiples of the denominator alone, and stand in no other term."""
         others = {name for other in groups if other != of_states for name in other}
-        return others.isdisjoint(of_states) and all(weight % self.denominator == 0 for weight in groups[of_states].values())
+        return others.isdisjoint(of_states) and all(
+            weight % self.denominator == 0 for weight in groups[of_states].values()
+        )
 
     def quotient(self, groups, is_first):
-        """The sum over the denominator. Behind another term it doesn't begin with a minus, which would turn its rounding round."""
+        """The sum over the denominator. Behind another term it doesn't begin with a minus, which would turn its
+        rounding round."""
         terms = [self.grouped(of_states, group) for of_states, group in groups.items()]
         total = joined(terms)
         is_sum = len(terms) > 1 or any(len(group) > 1 and not of_states for of_states, group in groups.items())

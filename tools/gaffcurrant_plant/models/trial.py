@@ -1,5 +1,6 @@
-"""Compares a plant text with the real model it was made of, at random points: by fractions where the model is made of sums and products, else
-by floats, and of differential equations by fine steps of Runge and Kutta's method of order four."""
+"""Compares a plant text with the real model it was made of, at random points: by fractions where the model is made of
+sums and products, else by floats, and of differential equations by fine steps of Runge and Kutta's method of order
+four."""
 
 import importlib.util
 import math
@@ -11,7 +12,7 @@ from . import formula
 from . import polynomial
 from .arithmetic import Exact, Floats, is_exact
 
-FINE, STEPS = 10 ** 6, 24
+FINE, STEPS = 10**6, 24
 # What floats may be beside, in units.
 NEAR = 1e-6
 # A disturbance of a differential equation may change before each of so many steps.
@@ -21,7 +22,8 @@ BLOCK = 10_000
 
 
 class Seen:
-    """The least and the greatest difference of the real step, in units, from the plant's without noise, and so of its whole number."""
+    """The least and the greatest difference of the real step, in units, from the plant's without noise, and so of its
+    whole number."""
 
     def __init__(self):
         self.least = self.greatest = None
@@ -57,10 +59,17 @@ class Point:
             self.inputs.append(int(self.values[name] / unit))
         self.values |= self.noises(model, draws)
         # What the disturbances become on the way; where they stay as they are, nothing.
-        self.changes = [self.noises(model, draws) if model.noises and draws.random() < 0.5 else {} for _ in range(0, STEPS, HELD)] if model.flows else []
+        self.changes = (
+            [self.noises(model, draws) if model.noises and draws.random() < 0.5 else {} for _ in range(0, STEPS, HELD)]
+            if model.flows
+            else []
+        )
 
     def noises(self, model, draws):
-        return {name: low + (high - low) * Fraction(draws.choice([0, FINE, draws.randrange(FINE)]), FINE) for name, low, high in model.noises}
+        return {
+            name: low + (high - low) * Fraction(draws.choice([0, FINE, draws.randrange(FINE)]), FINE)
+            for name, low, high in model.noises
+        }
 
 
 def trial(model, plant, count, seed=1):
@@ -97,12 +106,29 @@ def real_steps(model, points):
         return list(zip(*(exact_step(model, point) for point in points)))
     step = flow_step if model.flows else float_step
     if not importlib.util.find_spec("numpy"):
-        return list(zip(*(step(model, {name: float(value) for name, value in point.values.items()},
-                               [{name: float(value) for name, value in change.items()} for change in point.changes], Floats) for point in points)))
+        return list(
+            zip(
+                *(
+                    step(
+                        model,
+                        {name: float(value) for name, value in point.values.items()},
+                        [{name: float(value) for name, value in change.items()} for change in point.changes],
+                        Floats,
+                    )
+                    for point in points
+                )
+            )
+        )
     from ..ways.doubles import Arrays, numpy
+
     values = {name: numpy.array([float(point.values[name]) for point in points]) for name in points[0].values}
-    changes = [{name: numpy.array([float(point.changes[k][name]) if point.changes[k] else numpy.nan for point in points]) for name, *_ in model.noises}
-               for k in range(len(points[0].changes))]
+    changes = [
+        {
+            name: numpy.array([float(point.changes[k][name]) if point.changes[k] else numpy.nan for point in points])
+            for name, *_ in model.noises
+        }
+        for k in range(len(points[0].changes))
+    ]
     with numpy.errstate(all="ignore"):
         return [numpy.broadcast_to(real, len(points)).tolist() for real in step(model, values, changes, Arrays())]
 
@@ -110,7 +136,9 @@ def real_steps(model, points):
 def exact_step(model, point):
     """The real next values of equations that are polynomials, or have min, max and abs beside, as fractions."""
     for equation in model.equations:
-        yield polynomial.value_of(equation, point.values) if isinstance(equation, dict) else formula.value_of(equation, point.values, Exact)
+        yield polynomial.value_of(equation, point.values) if isinstance(equation, dict) else formula.value_of(
+            equation, point.values, Exact
+        )
 
 
 def float_step(model, values, _, maths):

@@ -1,4 +1,5 @@
-"""What the equations of a model may name: its variables, and those that stand for its functions and for the states behind a step of a sample."""
+"""What the equations of a model may name: its variables, and those that stand for its functions and for the states
+behind a step of a sample."""
 
 import math
 import re
@@ -21,13 +22,14 @@ LAST_POINTS = re.compile(r"(, -?[0-9]+:-?[0-9]+)+\)\Z")
 FINER = 10
 # The greatest power of ten that is a denominator.
 MOST_PLACES = 15
-# Bits of a denominator from which on an end is rounded outward, to one of so many bits: each step of a sample would square it.
+# Bits of a denominator from which on an end is rounded outward, to one of so many bits: each step of a sample would
+# square it.
 LONG, SHORT = 200, 80
 
 
 class Variable:
-    """What an equation may name: low and high are the ends of its whole number (of a noise those of its real value), error the ends of
-    real value / unit - whole number, text how the plant writes it."""
+    """What an equation may name: low and high are the ends of its whole number (of a noise those of its real value),
+    error the ends of real value / unit - whole number, text how the plant writes it."""
 
     def __init__(self, kind, unit, low, high, error=NEVER, text=None, choices=None):
         self.kind, self.unit = kind, unit
@@ -42,7 +44,9 @@ class Variable:
         """The variable less a whole number; a `lut` has it in its points."""
         points = LAST_POINTS.search(self.text)
         if self.kind in ("curve", "listed") and points:
-            text = self.text[:points.start()] + re.sub(r":(-?[0-9]+)", lambda found: f":{int(found[1]) - middle}", points[0])
+            text = self.text[: points.start()] + re.sub(
+                r":(-?[0-9]+)", lambda found: f":{int(found[1]) - middle}", points[0]
+            )
         else:
             text = f"({self.text} {'-' if middle > 0 else '+'} {abs(middle)})"
         choices = {value - middle for value in self.choices} if self.choices else None
@@ -67,7 +71,8 @@ class Room:
             self.variables[name] = Variable("noise", Fraction(1), low, high)
 
     def flattened(self, equation):
-        """A formula as a polynomial of variables, with a new variable for each of its functions; a polynomial stays as it is."""
+        """A formula as a polynomial of variables, with a new variable for each of its functions; a polynomial stays as
+        it is."""
         return equation if isinstance(equation, dict) else polynomial_of(self.gathered(equation), self.replaced)
 
     def varies(self, name):
@@ -89,7 +94,7 @@ class Room:
                 return node
             (((name,), _),) = self.named(("listed", id(node)), lambda: self.made_list(node, names[0], values)).items()
             return made("var", name)
-        return made(*node[:len(node) - len(parts_of(node))], *map(self.gathered, parts_of(node))) if names else node
+        return made(*node[: len(node) - len(parts_of(node))], *map(self.gathered, parts_of(node))) if names else node
 
     def replaced(self, node):
         """The polynomial for a function, min, max or abs."""
@@ -124,13 +129,19 @@ class Room:
         if low > 0 or high < 0:
             quarter = number(PI / 2 if low > 0 else -PI / 2)
             return add(quarter, minus(made("call", "atan", mul(x, power(y, Fraction(-1))))))
-        raise Trouble(f"`{text_of(node)}`: its second argument has to be above 0, or its first to keep off 0, over the ranges; else it jumps")
+        raise Trouble(
+            f"`{text_of(node)}`: its second argument has to be above 0, or its first to keep off 0, over the "
+            "ranges; else it jumps"
+        )
 
     def made_list(self, node, name, values):
-        """The variable of a function of one input alone: what it is at the input's listed values, to a part of some 20,000 of its range."""
+        """The variable of a function of one input alone: what it is at the input's listed values, to a part of some
+        20,000 of its range."""
         unit, points = self.variables[name].unit, [values[0] + k for k in range(2)] if len(values) == 1 else values
         maths = intervals()
-        ends = [maths.ends(value_of(node, {name: maths.number(min(point, values[-1]) * unit)}, maths)) for point in points]
+        ends = [
+            maths.ends(value_of(node, {name: maths.number(min(point, values[-1]) * unit)}, maths)) for point in points
+        ]
         listed = Listed([int(point) for point in points], ends, unit_for(hull(ends)))
         if self.version == 1:
             text, (low, high), error = as_lines(listed, name)
@@ -140,7 +151,9 @@ class Room:
 
     def chosen(self, kind, parts):
         """min, max or abs of polynomials."""
-        return self.named((kind, tuple(tuple(sorted(part.items())) for part in parts)), lambda: self.made_choice(kind, parts))
+        return self.named(
+            (kind, tuple(tuple(sorted(part.items())) for part in parts)), lambda: self.made_choice(kind, parts)
+        )
 
     def made_choice(self, kind, parts):
         unit = min((self.own_unit(part) for part in parts), key=lambda one: one)
@@ -152,11 +165,18 @@ class Room:
             least = max(low, -high, 0)
             return Variable("curve", unit, least, max(-low, high), (-most, most), f"abs({texts})")
         ends = min if kind == "min" else max
-        return Variable("curve", unit, ends(one.low for one in wholes), ends(one.high for one in wholes), hull([one.error for one in wholes]),
-                        f"{kind}({texts})")
+        return Variable(
+            "curve",
+            unit,
+            ends(one.low for one in wholes),
+            ends(one.high for one in wholes),
+            hull([one.error for one in wholes]),
+            f"{kind}({texts})",
+        )
 
     def behind_step(self, state, step, equation, ends):
-        """The formula of a state behind a step of a sample, whose real value lies between the ends. About the middles of the ranges a number is apart."""
+        """The formula of a state behind a step of a sample, whose real value lies between the ends. About the middles
+        of the ranges a number is apart."""
         name, *_, unit = state
         middle = round((ends[0] + ends[1]) / 2 / unit) * unit if self.is_nested else Fraction(0)
         whole = Whole(self, added(equation, {(): -middle}), unit / FINER, tuple(end - middle for end in ends))
@@ -168,7 +188,8 @@ class Room:
         return add(made("var", key), number(middle))
 
     def about_middle(self, name):
-        """The name of a variable less the whole number in the middle of its range, and that number; the variable itself where 0 is near the middle."""
+        """The name of a variable less the whole number in the middle of its range, and that number; the variable itself
+        where 0 is near the middle."""
         variable = self.variables[name]
         middle = round((variable.low + variable.high) / 2)
         if abs(middle) * 20 <= variable.high - variable.low:
@@ -192,12 +213,18 @@ class Room:
     def own_unit(self, argument):
         """The unit of a variable that stands alone, else one that is fine beside the range."""
         single = single_of(argument)
-        return self.variables[single].unit if single and self.variables[single].kind != "noise" else unit_for(self.range_of(argument))
+        return (
+            self.variables[single].unit
+            if single and self.variables[single].kind != "noise"
+            else unit_for(self.range_of(argument))
+        )
 
 
 def outward(low, high):
     """Two ends; where they have long denominators, ends of shorter ones that hold them."""
-    return (low if is_short(low) else Fraction(math.floor(low * 2 ** SHORT), 2 ** SHORT)), (high if is_short(high) else Fraction(math.ceil(high * 2 ** SHORT), 2 ** SHORT))
+    return (low if is_short(low) else Fraction(math.floor(low * 2**SHORT), 2**SHORT)), (
+        high if is_short(high) else Fraction(math.ceil(high * 2**SHORT), 2**SHORT)
+    )
 
 
 def is_short(end):
@@ -207,7 +234,7 @@ def is_short(end):
 def single_of(argument):
     """The variable that a polynomial is, or None."""
     if len(argument) == 1:
-        (monomial, coefficient), = argument.items()
+        ((monomial, coefficient),) = argument.items()
         if len(monomial) == 1 and coefficient == 1:
             return monomial[0]
     return None
@@ -230,7 +257,12 @@ class Whole:
         self.unit = unit or room.own_unit(argument)
         variable = room.variables[single] if single else None
         if variable and variable.kind != "noise" and variable.unit == self.unit:
-            self.text, self.error, self.low, self.high = variable.text, variable.error, int(variable.low), int(variable.high)
+            self.text, self.error, self.low, self.high = (
+                variable.text,
+                variable.error,
+                int(variable.low),
+                int(variable.high),
+            )
             return
         scaled = finest(room, argument, self.unit)
         self.text, self.error = scaled.text(), scaled.error()
@@ -244,11 +276,12 @@ def bracketed(text):
 
 
 def finest(room, equation, unit, name=None):
-    """The equation over the least power of ten whose rounding is at most a tenth of a unit, else over the one whose rounding is the least."""
+    """The equation over the least power of ten whose rounding is at most a tenth of a unit, else over the one whose
+    rounding is the least."""
     best, form = None, room.form_of(equation)
     terms = Terms(room, equation, unit, form is Nested)
     for places in range(MOST_PLACES + 1):
-        scaled = form(terms, 10 ** places, name)
+        scaled = form(terms, 10**places, name)
         if best and not scaled.is_short():
             break
         if not best or scaled.rounding < best.rounding:

@@ -1,5 +1,5 @@
-"""Makes a film of runs over a picture with matplotlib: FILE.gif by Pillow, FILE.mp4 by ffmpeg where that is there. The picture is drawn once, of
-a patrol once for each turn; each frame adds the ways up to a sample."""
+"""Makes a film of runs over a picture with matplotlib: FILE.gif by Pillow, FILE.mp4 by ffmpeg where that is there. The
+picture is drawn once, of a patrol once for each turn; each frame adds the ways up to a sample."""
 
 import shutil
 import subprocess
@@ -17,8 +17,14 @@ class Scene:
     def __init__(self, figure, axes, courses, turn, dpi):
         self.figure, self.axes, self.courses = figure, axes, courses
         self.said = "" if turn is None else f", turn {turn}"
-        self.trails = [axes.plot([], [], color=drawing.RUN, linewidth=1.1, path_effects=drawing.halo(), zorder=20)[0] for _ in courses]
-        self.heads = [axes.plot([], [], marker="o", markersize=6, color=drawing.TARGET, markeredgecolor="white", zorder=21)[0] for _ in courses]
+        self.trails = [
+            axes.plot([], [], color=drawing.RUN, linewidth=1.1, path_effects=drawing.halo(), zorder=20)[0]
+            for _ in courses
+        ]
+        self.heads = [
+            axes.plot([], [], marker="o", markersize=6, color=drawing.TARGET, markeredgecolor="white", zorder=21)[0]
+            for _ in courses
+        ]
         self.title = axes.set_title("sample 0", fontsize=9)
         figure.set_dpi(dpi)
         self.artists = self.trails + self.heads + [self.title]
@@ -33,16 +39,19 @@ class Scene:
     def frame(self, sample):
         """The picture with the ways up to a sample, as an image of Pillow."""
         from PIL import Image
+
         self.figure.canvas.restore_region(self.ground)
         for trail, head, course in zip(self.trails, self.heads, self.courses):
             last = min(sample, len(course.ends) - 1)
             trail.set_data(*course.upto(last))
-            head.set_data(*(column[last:last + 1] for column in course.places))
+            head.set_data(*(column[last : last + 1] for column in course.places))
         self.title.set_text(f"sample {sample}{self.said}")
         for artist in self.artists:
             self.axes.draw_artist(artist)
         size = self.figure.canvas.get_width_height()
-        return Image.frombuffer("RGBA", size, bytes(self.figure.canvas.buffer_rgba()), "raw", "RGBA", 0, 1).convert("RGB")
+        return Image.frombuffer("RGBA", size, bytes(self.figure.canvas.buffer_rgba()), "raw", "RGBA", 0, 1).convert(
+            "RGB"
+        )
 
 
 def write_film(scenes, turns, path):
@@ -67,7 +76,12 @@ def write_film(scenes, turns, path):
 def palette_of(scenes, turns):
     """An image whose colours are those of all scenes, each with its last frame."""
     from PIL import Image
-    lasts = [scene.frame(max(sample for sample, turn in enumerate(turns) if turn == number)) for number, scene in enumerate(scenes) if number in turns]
+
+    lasts = [
+        scene.frame(max(sample for sample, turn in enumerate(turns) if turn == number))
+        for number, scene in enumerate(scenes)
+        if number in turns
+    ]
     whole = Image.new("RGB", (max(image.width for image in lasts), sum(image.height for image in lasts)))
     for number, image in enumerate(lasts):
         whole.paste(image, (0, sum(other.height for other in lasts[:number])))
@@ -83,9 +97,30 @@ def write_gif(frames, palette, path):
 def write_by_ffmpeg(frames, _, path):
     """Hands frames to ffmpeg, the last one for a second. Sides of an odd number of pixels get one more."""
     first = next(frames)
-    command = ["ffmpeg", "-y", "-loglevel", "error", "-f", "rawvideo", "-pix_fmt", "rgb24", "-s", f"{first.width}x{first.height}", "-r", str(RATE), "-i", "-",
-               "-vf", "pad=ceil(iw/2)*2:ceil(ih/2)*2", "-pix_fmt", "yuv420p", path]
-    with subprocess.Popen(command, stdin=subprocess.PIPE, stdout=subprocess.DEVNULL, stderr=subprocess.DEVNULL) as ffmpeg:
+    command = [
+        "ffmpeg",
+        "-y",
+        "-loglevel",
+        "error",
+        "-f",
+        "rawvideo",
+        "-pix_fmt",
+        "rgb24",
+        "-s",
+        f"{first.width}x{first.height}",
+        "-r",
+        str(RATE),
+        "-i",
+        "-",
+        "-vf",
+        "pad=ceil(iw/2)*2:ceil(ih/2)*2",
+        "-pix_fmt",
+        "yuv420p",
+        path,
+    ]
+    with subprocess.Popen(
+        command, stdin=subprocess.PIPE, stdout=subprocess.DEVNULL, stderr=subprocess.DEVNULL
+    ) as ffmpeg:
         try:
             last = first
             ffmpeg.stdin.write(first.tobytes())

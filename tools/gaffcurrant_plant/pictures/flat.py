@@ -1,4 +1,5 @@
-"""Draws a table with matplotlib along one or two states: the cells' colours, targets, obstacles, runs and successor boxes."""
+"""Draws a table with matplotlib along one or two states: the cells' colours, targets, obstacles, runs and successor
+boxes."""
 
 import math
 from fractions import Fraction
@@ -13,29 +14,49 @@ COLUMNS, BOXES, MARKED = 2000, 64, 120
 NAMED, DISTINCT = 16, 10
 # Colours that can be told apart: up to seven also by the colour-blind (Okabe and Ito), past these sixteen.
 FEW = ("#56b4e9", "#e69f00", "#009e73", "#f0e442", "#0072b2", "#d55e00", "#cc79a7")
-MANY = ("#4363d8", "#f58231", "#3cb44b", "#ffe119", "#42d4f4", "#800000", "#f032e6", "#469990", "#9a6324", "#bfef45", "#911eb4",
-        "#fabed4", "#808000", "#e6194b", "#dcbeff", "#000075")
+MANY = (
+    "#4363d8",
+    "#f58231",
+    "#3cb44b",
+    "#ffe119",
+    "#42d4f4",
+    "#800000",
+    "#f032e6",
+    "#469990",
+    "#9a6324",
+    "#bfef45",
+    "#911eb4",
+    "#fabed4",
+    "#808000",
+    "#e6194b",
+    "#dcbeff",
+    "#000075",
+)
 
 
 def sequence(count=256):
     """Colours from light to dark that keep their order in grey, none as light as the background."""
     import numpy
     from matplotlib import colormaps, colors
+
     return colors.ListedColormap(colormaps["viridis"](numpy.linspace(0.93, 0.0, max(count, 2))))
 
 
 def distinct(count):
     from matplotlib import colors
-    return colors.ListedColormap((FEW if count <= len(FEW) else MANY)[:max(count, 1)])
+
+    return colors.ListedColormap((FEW if count <= len(FEW) else MANY)[: max(count, 1)])
 
 
 class Colouring:
-    """What the colour of a place tells: the rank, the input vector, the value of one input (variable: its number, which is 0 where there is one alone), or
-    with goal keep the share that is kept. shown has its numbers, with those masked that have none, and known what the colours are of: few values or
-    vectors have a colour of their own each, which is_named tells."""
+    """What the colour of a place tells: the rank, the input vector, the value of one input (variable: its number, which
+    is 0 where there is one alone), or with goal keep the share that is kept. shown has its numbers, with those masked
+    that have none, and known what the colours are of: few values or vectors have a colour of their own each, which
+    is_named tells."""
 
     def __init__(self, cells, view, by_input, variable=None):
         import numpy
+
         self.view, self.plant = view, cells.plant
         self.ranks, inputs, self.won = cells.seen(view.axes, view.fixed)
         self.by_input = by_input or cells.plant.goal == "keep"
@@ -48,19 +69,25 @@ class Colouring:
             shown = inputs if self.by_input else self.ranks
             self.shown = numpy.ma.masked_where(~self.won | (shown < 0), shown)
         if self.by_input and not self.is_share and self.variable is not None:
-            values = numpy.array([self.plant.vector(number)[self.variable] for number in range(self.plant.vectors)], dtype=float)
+            values = numpy.array(
+                [self.plant.vector(number)[self.variable] for number in range(self.plant.vectors)], dtype=float
+            )
             self.shown = numpy.ma.masked_array(values[self.shown.filled(0)], self.shown.mask)
         self.present = [] if self.is_share else sorted(int(value) for value in numpy.unique(self.shown.compressed()))
         self.take(self.present)
 
     def take(self, vectors):
-        """Takes the input vectors of which one of all panels shows each, so that a colour means one vector in all of them."""
+        """Takes the input vectors of which one of all panels shows each, so that a colour means one vector in all of
+        them."""
         self.known = sorted(set(vectors)) if self.variable is None else sorted(set(self.plant.inputs[self.variable][1]))
-        self.is_named = self.by_input and not self.is_share and len(self.known) <= (NAMED if self.variable is None else DISTINCT)
+        self.is_named = (
+            self.by_input and not self.is_share and len(self.known) <= (NAMED if self.variable is None else DISTINCT)
+        )
 
     def numbers(self):
         """What is shown as numbers between the limits: of named values their places in the list."""
         import numpy
+
         if not self.is_named:
             return self.shown * self.size()
         return numpy.ma.masked_array(numpy.searchsorted(self.known, self.shown.filled(0)), self.shown.mask)
@@ -98,8 +125,13 @@ class Colouring:
     def entries(self):
         """The legend's entries for the values or vectors that have a colour each, as far as they are shown."""
         from matplotlib.patches import Patch
+
         palette = self.palette()
-        return [Patch(facecolor=palette(place), label=self.said(value)) for place, value in enumerate(self.known) if value in self.present]
+        return [
+            Patch(facecolor=palette(place), label=self.said(value))
+            for place, value in enumerate(self.known)
+            if value in self.present
+        ]
 
     def said(self, value):
         if self.variable is None:
@@ -111,8 +143,17 @@ def draw_cells(figure, axes, view, colouring, equal=False):
     """The cells' colours; answers the legend's entries for few inputs, and draws a bar for all else."""
     palette, limits = colouring.palette(), colouring.limits()
     if len(view.axes) == 2:
-        axes.imshow(colouring.numbers().T, origin="lower", aspect="auto", interpolation="nearest", cmap=palette, vmin=limits[0],
-                    vmax=limits[1], extent=(*view.range(0), *view.range(1)), zorder=1)
+        axes.imshow(
+            colouring.numbers().T,
+            origin="lower",
+            aspect="auto",
+            interpolation="nearest",
+            cmap=palette,
+            vmin=limits[0],
+            vmax=limits[1],
+            extent=(*view.range(0), *view.range(1)),
+            zorder=1,
+        )
     else:
         draw_columns(axes, view, colouring, palette, limits)
     if colouring.is_named:
@@ -126,6 +167,7 @@ def draw_cells(figure, axes, view, colouring, equal=False):
 def draw_columns(axes, view, colouring, palette, limits):
     """Along one state: the rank as the height, in one colour; or with goal keep columns of one height, coloured."""
     import numpy
+
     low, end = view.range(0)
     size = colouring.shown.size
     columns = min(size, COLUMNS)
@@ -142,6 +184,7 @@ def draw_columns(axes, view, colouring, palette, limits):
 def draw_bar(figure, axes, limits, label, is_whole, gap=0.02, beside=False):
     """The colours' bar: in room taken from the axes, or, where these don't fill theirs, right beside them."""
     from matplotlib import cm, colors
+
     place = {"cax": axes.inset_axes([1.03, 0, 0.045, 1])} if beside else {"ax": axes, "pad": gap}
     bar = figure.colorbar(cm.ScalarMappable(colors.Normalize(*limits), sequence()), **place)
     bar.set_label(label, fontsize=9)
@@ -173,6 +216,7 @@ def frame(axes, view, cells, equal):
 def rectangle(axes, view, box, **style):
     """A box of whole numbers, from its least number to the one behind its greatest."""
     from matplotlib.patches import Rectangle
+
     ends = [(view.at(place, box[i][0]), view.at(place, box[i][1] + 1)) for place, i in enumerate(view.axes)]
     (left, right), (low, high) = ends[0], ends[1] if len(ends) == 2 else axes.get_ylim()
     axes.add_patch(Rectangle((left, low), right - left, high - low, **style))
@@ -181,6 +225,7 @@ def rectangle(axes, view, box, **style):
 def draw_boxes(axes, view, turn=None):
     """Targets and obstacles, and the legend's entries for them; in a turn of a patrol its target stands out."""
     from matplotlib.patches import Patch
+
     entries = []
     target = dict(facecolor="none", edgecolor=TARGET, linewidth=2, zorder=4)
     obstacle = dict(facecolor="#bbbbbb", edgecolor=OBSTACLE, hatch="////", linewidth=0.8, zorder=3)
@@ -188,9 +233,13 @@ def draw_boxes(axes, view, turn=None):
     whole = [box for box in view.plant.obstacles if view.covers(box)]
     others = [box for box in view.plant.obstacles if not view.covers(box)]
     targets = view.plant.targets if turn is None else [view.plant.targets[turn]]
-    later = [] if turn is None else view.plant.targets[:turn] + view.plant.targets[turn + 1:]
-    for boxes, style, label in ((later, dict(target, linewidth=1, linestyle=":"), "target of another turn"), (targets, target, "target"), (whole, obstacle, "obstacle"),
-                                (others, partly, "obstacle for some of the other states")):
+    later = [] if turn is None else view.plant.targets[:turn] + view.plant.targets[turn + 1 :]
+    for boxes, style, label in (
+        (later, dict(target, linewidth=1, linestyle=":"), "target of another turn"),
+        (targets, target, "target"),
+        (whole, obstacle, "obstacle"),
+        (others, partly, "obstacle for some of the other states"),
+    ):
         met = [box for box in boxes if view.meets(box)]
         for box in met:
             rectangle(axes, view, box, **style)
@@ -200,8 +249,9 @@ def draw_boxes(axes, view, turn=None):
 
 
 class Course:
-    """The way of a run on the axes. places: of its samples, in the middles of their units; line: the points that are joined, NAN between the edges at
-    which a state that comes round leaves and comes in; ends: for each sample the number of its point."""
+    """The way of a run on the axes. places: of its samples, in the middles of their units; line: the points that are
+    joined, NAN between the edges at which a state that comes round leaves and comes in; ends: for each sample the
+    number of its point."""
 
     def __init__(self, view, cells, states):
         self.places = along(view, cells, states)
@@ -218,13 +268,16 @@ class Course:
 
     def upto(self, sample):
         """The line up to a sample."""
-        return [column[:self.ends[sample] + 1] for column in self.line]
+        return [column[: self.ends[sample] + 1] for column in self.line]
 
 
 def crossings(start, end, periods, ranges):
-    """The points at which the way between two samples leaves the range of a state that comes round, each with that at which it comes in. The way is the
-    shorter one round."""
-    ways = [move if period is None else (move + period / 2) % period - period / 2 for move, period in zip((b - a for a, b in zip(start, end)), periods)]
+    """The points at which the way between two samples leaves the range of a state that comes round, each with that at
+    which it comes in. The way is the shorter one round."""
+    ways = [
+        move if period is None else (move + period / 2) % period - period / 2
+        for move, period in zip((b - a for a, b in zip(start, end)), periods)
+    ]
     cuts = []
     for i, (way, span) in enumerate(zip(ways, ranges)):
         if span and not span[0] <= start[i] + way <= span[1]:
@@ -234,7 +287,7 @@ def crossings(start, end, periods, ranges):
     for share, i in sorted(cuts):
         left = [a + share * way + shift for a, way, shift in zip(start, ways, shifts)]
         shifts[i] -= math.copysign(periods[i], ways[i])
-        yield tuple(left), tuple(left[:i] + [ranges[i][ways[i] < 0]] + left[i + 1:])
+        yield tuple(left), tuple(left[:i] + [ranges[i][ways[i] < 0]] + left[i + 1 :])
 
 
 def along(view, cells, states):
@@ -260,12 +313,15 @@ def rank_at(cells, state, is_first):
 def halo():
     """What sets a line apart from dark cells."""
     from matplotlib.patheffects import withStroke
+
     return [withStroke(linewidth=2.0, foreground="white", alpha=0.6)]
 
 
 def draw_runs(axes, view, cells, runs, asked):
-    """Runs as lines; of a long one only some samples are marked. So many are asked for, of which some may be shown in other panels alone."""
+    """Runs as lines; of a long one only some samples are marked. So many are asked for, of which some may be shown in
+    other panels alone."""
     from matplotlib.lines import Line2D
+
     style = dict(color=RUN, linewidth=0.9, marker="o", markersize=2.4, markeredgewidth=0)
     most = 1
     for states in runs:
@@ -273,9 +329,22 @@ def draw_runs(axes, view, cells, runs, asked):
         places = course.places
         every = -(-len(states) // MARKED)
         most = max(most, every)
-        axes.plot(*course.line, **style | {"marker": "", "linewidth": 0.9 if every == 1 else 0.6}, path_effects=halo(), zorder=5)
+        axes.plot(
+            *course.line,
+            **style | {"marker": "", "linewidth": 0.9 if every == 1 else 0.6},
+            path_effects=halo(),
+            zorder=5,
+        )
         axes.plot(*places, **style | {"linewidth": 0, "markevery": every}, zorder=5)
-        axes.plot(places[0][:1], places[1][:1], marker="s", markersize=5, markerfacecolor="white", markeredgecolor=RUN, zorder=6)
+        axes.plot(
+            places[0][:1],
+            places[1][:1],
+            marker="s",
+            markersize=5,
+            markerfacecolor="white",
+            markeredgecolor=RUN,
+            zorder=6,
+        )
     label = "run, from the square" if asked == 1 else f"{asked} runs, from the squares"
     if cells.kind == "patrol":
         label = "a run's ways in this turn, from the squares"
@@ -289,22 +358,36 @@ def draw_runs(axes, view, cells, runs, asked):
 def draw_successors(axes, view, cell, vectors):
     """The successor boxes of one cell, each with the number of its input at its upper corner."""
     from matplotlib.patches import Patch
+
     plant = view.plant
     if len(vectors) > BOXES:
-        raise Trouble(f"--boxes draws up to {BOXES} boxes, and there are {plant.vectors} input vectors; choose one by --input", 2)
-    rectangle(axes, view, list(zip(plant.low(cell), plant.high(cell))), facecolor="white", edgecolor="black",
-              linewidth=1.5, zorder=7)
+        raise Trouble(
+            f"--boxes draws up to {BOXES} boxes, and there are {plant.vectors} input vectors; choose one by --input", 2
+        )
+    rectangle(
+        axes,
+        view,
+        list(zip(plant.low(cell), plant.high(cell))),
+        facecolor="white",
+        edgecolor="black",
+        linewidth=1.5,
+        zorder=7,
+    )
     labels = []
     for vector in vectors:
         low, high = plant.box(cell, vector)
         style = ":" if plant.leaves(low, high) else "-"
-        rectangle(axes, view, list(zip(low, high)), facecolor="none", edgecolor=BOX, linewidth=1.5, linestyle=style, zorder=8)
+        rectangle(
+            axes, view, list(zip(low, high)), facecolor="none", edgecolor=BOX, linewidth=1.5, linestyle=style, zorder=8
+        )
         second = view.axes[1] if len(view.axes) == 2 else None
         middle = view.at(1, (low[second] + high[second] + 1) / 2) if len(view.axes) == 2 else axes.get_ylim()[1] * 0.9
         labels.append((view.at(0, high[view.axes[0]] + 1), middle, str(vector)))
     put_labels(axes, labels)
-    return [Patch(facecolor="white", edgecolor="black", label="a cell"),
-            Patch(facecolor="none", edgecolor=BOX, label="successor boxes, by input")]
+    return [
+        Patch(facecolor="white", edgecolor="black", label="a cell"),
+        Patch(facecolor="none", edgecolor=BOX, label="successor boxes, by input"),
+    ]
 
 
 def put_labels(axes, labels):
@@ -318,9 +401,18 @@ def put_labels(axes, labels):
         else:
             kept.append((at, (x, y), [text]))
     for _, place, texts in kept:
-        axes.annotate(", ".join(texts), place, xytext=(3, 0), textcoords="offset points", fontsize=8, color="black",
-                      verticalalignment="center", zorder=9, annotation_clip=True,
-                      bbox=dict(facecolor="white", edgecolor="none", pad=0.8, alpha=0.8))
+        axes.annotate(
+            ", ".join(texts),
+            place,
+            xytext=(3, 0),
+            textcoords="offset points",
+            fontsize=8,
+            color="black",
+            verticalalignment="center",
+            zorder=9,
+            annotation_clip=True,
+            bbox=dict(facecolor="white", edgecolor="none", pad=0.8, alpha=0.8),
+        )
 
 
 def put_legend(figure, entries, width, height):

@@ -20,16 +20,22 @@ def draw_residuals(figure: Any, conformity: Conformity) -> None:
     plant, units = conformity.plant, conformity.plant.units
     panels = figure.subplots(len(plant.states), 2, squeeze=False, width_ratios=(3, 1), sharey="row")
     at, label = times_of(conformity)
-    for (course, bars), (name, *_), needed, beyond, stated in zip(panels, plant.states, conformity.needed,
-                                                                  conformity.beyond, conformity.stated()):
+    for (course, bars), (name, *_), needed, beyond, stated in zip(
+        panels, plant.states, conformity.needed, conformity.beyond, conformity.stated()
+    ):
         size = float(units.size(name))
         for axes in (course, bars):
             axes.axhspan(stated[0] * size, stated[1] * size, color=PLAIN, alpha=0.18, linewidth=0, zorder=0)
             axes.tick_params(labelsize=8)
         draw_course(course, at, needed * size, beyond != 0)
         course.set_ylabel(f"beside the equation of {units.label(name)}", fontsize=8)
-        bars.hist(needed * size, bins=min(BARS, int(numpy.ptp(needed)) + 1) if needed.size else 1,
-                  orientation="horizontal", log=True, color=RUN)
+        bars.hist(
+            needed * size,
+            bins=min(BARS, int(numpy.ptp(needed)) + 1) if needed.size else 1,
+            orientation="horizontal",
+            log=True,
+            color=RUN,
+        )
         bars.set_xlim(left=0.5)
     panels[-1][0].set_xlabel(label, fontsize=9)
     panels[-1][1].set_xlabel("steps", fontsize=9)
@@ -51,8 +57,14 @@ def draw_course(axes: Any, at: numpy.ndarray, values: numpy.ndarray, is_beyond: 
     marked."""
     if at.size > 2 * COLUMNS:
         begins = numpy.arange(0, at.size, -(-at.size // COLUMNS))
-        axes.fill_between(at[begins], numpy.minimum.reduceat(values, begins), numpy.maximum.reduceat(values, begins),
-                          color=OBSTACLE, linewidth=0.4, step="post")
+        axes.fill_between(
+            at[begins],
+            numpy.minimum.reduceat(values, begins),
+            numpy.maximum.reduceat(values, begins),
+            color=OBSTACLE,
+            linewidth=0.4,
+            step="post",
+        )
     else:
         axes.plot(at, values, ".", color=OBSTACLE, markersize=3)
     far = numpy.flatnonzero(is_beyond)

@@ -7,7 +7,8 @@ from ..plants.units import decimal
 
 
 class View:
-    """axes: the numbers of the states along the axes; fixed: for others the place at which they are fixed, values: the number, said: that in words."""
+    """axes: the numbers of the states along the axes; fixed: for others the place at which they are fixed, values: the
+    number, said: that in words."""
 
     def __init__(self, plant, units, names=None, fix=()):
         known = [state[0] for state in plant.states]
@@ -46,7 +47,8 @@ class View:
         return self.units.label(self.name(place))
 
     def at(self, place, whole):
-        """Where on an axis the unit of a number of its state begins. What is a whole number by itself is a point, and has its number in the middle."""
+        """Where on an axis the unit of a number of its state begins. What is a whole number by itself is a point, and
+        has its number in the middle."""
         name = self.name(place)
         return self.units.value(name, whole - Fraction(1, 2) if name in self.units.exact else whole)
 
@@ -65,8 +67,11 @@ class View:
 
     def covers(self, box):
         """Whether a box holds all values of the states that are projected."""
-        return all(box[i][0] <= low and high <= box[i][1] for i, (_, low, high, _) in enumerate(self.plant.states)
-                   if i in self.projected())
+        return all(
+            box[i][0] <= low and high <= box[i][1]
+            for i, (_, low, high, _) in enumerate(self.plant.states)
+            if i in self.projected()
+        )
 
     def projected(self):
         """The states that are neither axes nor fixed."""
@@ -88,7 +93,11 @@ class View:
             raise Trouble(f"{option} takes {len(plant.states)} numbers, one for each state ({names})", 2)
         state = [self.units.whole(name, word) for (name, *_), word in zip(plant.states, words)]
         if plant.cell_of(state) is None:
-            out = [f"{name} is {self.range_said(i)}" for i, (name, low, high, _) in enumerate(plant.states) if not low <= state[i] <= high]
+            out = [
+                f"{name} is {self.range_said(i)}"
+                for i, (name, low, high, _) in enumerate(plant.states)
+                if not low <= state[i] <= high
+            ]
             raise Trouble(f"{option} {' '.join(words)}: the state is outside the domain, where {', '.join(out)}")
         return state
 
@@ -102,7 +111,10 @@ class View:
         if not self.units.sizes:
             return f"{low} to {high} in the plant's whole units; --model makes these numbers those of the model"
         word = self.units.words.get(name)
-        return f"{self.said_at(name, low)} to {self.said_at(name, high + (name not in self.units.exact))} in the units of the model{f', {word}' if word else ''}"
+        return (
+            f"{self.said_at(name, low)} to {self.said_at(name, high + (name not in self.units.exact))} in the "
+            f"units of the model{f', {word}' if word else ''}"
+        )
 
     def input_said(self, number):
         """An input vector in words, in the model's units."""

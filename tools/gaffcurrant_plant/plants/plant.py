@@ -79,7 +79,8 @@ class Plant:
 
     @cached_property
     def variable_radii(self):
-        """The radius of each variable: of states half a cell, of inputs 0, of noises how far they go from their rest."""
+        """The radius of each variable: of states half a cell, of inputs 0, of noises how far they go from their
+        rest."""
         noises = [high - rest for (_, _, high), rest in zip(self.noises, self.rest)]
         return self.radii + [0] * len(self.inputs) + noises
 

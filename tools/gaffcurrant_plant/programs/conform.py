@@ -37,18 +37,28 @@ followed; 1: they aren't, or a file can't be read; 2: wrong words.
 
 
 def main(words):
-    parser = Words(prog="conform", description=__doc__, epilog=FORMAT,
-                   formatter_class=argparse.RawDescriptionHelpFormatter)
+    parser = Words(
+        prog="conform", description=__doc__, epilog=FORMAT, formatter_class=argparse.RawDescriptionHelpFormatter
+    )
     parser.add_argument("log", metavar="LOG", help="the log, `-` for standard input")
     parser.add_argument("--model", metavar="MODEL", required=True, help="the model, or a plant text")
-    parser.add_argument("--table", metavar="TEXT",
-                        help="a table, a stay text or a patrol text of the plant: whether its promises were kept")
-    parser.add_argument("--turn", metavar="J", type=int,
-                        help="the turn of a patrol with which each run begins, from 0 (0)")
-    parser.add_argument("--write", metavar="FILE",
-                        help="write the model, or the plant text, with ranges that explain all judged steps")
-    parser.add_argument("-o", "--output", metavar="FILE",
-                        help="a picture, FILE.png or FILE.svg, of what the steps need, over the log and as histograms")
+    parser.add_argument(
+        "--table",
+        metavar="TEXT",
+        help="a table, a stay text or a patrol text of the plant: whether its promises were kept",
+    )
+    parser.add_argument(
+        "--turn", metavar="J", type=int, help="the turn of a patrol with which each run begins, from 0 (0)"
+    )
+    parser.add_argument(
+        "--write", metavar="FILE", help="write the model, or the plant text, with ranges that explain all judged steps"
+    )
+    parser.add_argument(
+        "-o",
+        "--output",
+        metavar="FILE",
+        help="a picture, FILE.png or FILE.svg, of what the steps need, over the log and as histograms",
+    )
     given = parser.parse_args(words)
     if given.output and not given.output.endswith((".png", ".svg")):
         raise Trouble("the output's name ends in .png or .svg", 2)
@@ -66,6 +76,7 @@ def is_of_functions(data):
     from ..models.agreement import is_plant_text
     from ..models.best_plant import needs_mpmath
     from ..models.model import read_model
+
     try:
         return not is_plant_text(data) and needs_mpmath(read_model(data))
     except Trouble:
@@ -79,6 +90,7 @@ class Run:
     def __init__(self, given, data):
         from ..measured.conformity import conform
         from ..measured.logs import read_log
+
         self.given, self.data, self.progress = given, data, Progress("conform")
         self.plant, self.sample = plant_of(given.model, self.data)
         self.text = text_of(given, self.plant)
@@ -91,6 +103,7 @@ class Run:
     def told(self):
         """Prints what is found, writes what is asked for, and answers the status."""
         from ..measured.diagnosis import diagnosed
+
         found = self.found
         with self.progress.during("looking for mistakes"):
             mistakes = diagnosed(found)
@@ -112,21 +125,24 @@ class Run:
         count, runs = found.steps.size, log.runs()
         spaced = f", {found.sample:.6g} apart" if found.sample else ""
         steps = int(log.goes_on.sum())
-        said = [f"{log.lines.size} samples{spaced}, in {runs} run{'s' * (runs > 1)}: {steps} steps, {count} of them "
-                "judged"]
+        said = [
+            f"{log.lines.size} samples{spaced}, in {runs} run{'s' * (runs > 1)}: {steps} steps, {count} of them judged"
+        ]
         said += [f"  not judged: {number}, since {reason}" for reason, number in found.left_out.items()]
         if found.gaps.size:
             said.append(f"  by the times samples are missing before {lines_said(log.lines[found.gaps + 1])}")
         if count:
             explained, followed = int(found.explained.sum()), int(found.followed.sum())
             said.append(f"explained by the stated ranges: {explained} of {count} steps, {percent(explained, count)}")
-            said.append(f"followed, with the next state in its box: {followed} of {count} steps, "
-                        f"{percent(followed, count)}")
+            said.append(
+                f"followed, with the next state in its box: {followed} of {count} steps, {percent(followed, count)}"
+            )
         return said
 
     def ranges(self):
         """The table of ranges: in whole units, and behind them in the model's."""
         from ..measured.conformity import SHARES
+
         found, units = self.found, self.plant.units
         columns = [found.stated(), *map(found.ranges, SHARES)]
         rows = [["beside the equation of", "stated", "all steps need", "99.9 per cent", "99 per cent"]]
@@ -138,16 +154,18 @@ class Run:
                 rows.append([f"  times {units.size_said(name, 1)}:"] + [f"{low} to {high}" for low, high in sized])
         widths = [max(map(len, column)) for column in zip(*rows)]
         said = ["", *("  ".join(word.ljust(width) for word, width in zip(row, widths)).rstrip() for row in rows)]
-        return said + ["A promise rests on the outermost disturbance that will ever come, and a log shows only what "
-                       "has come."]
+        return said + [
+            "A promise rests on the outermost disturbance that will ever come, and a log shows only what has come."
+        ]
 
     def worst(self):
         """The steps that lie farthest beyond the ranges."""
         found, lines = self.found, []
         for at in found.worst(WORST):
             entries = zip(self.plant.states, found.needed[:, at].tolist(), found.beyond[:, at].tolist(), found.stated())
-            beyond = [f"{state[0]} needs {need} and has {low} to {high}"
-                      for state, need, much, (low, high) in entries if much]
+            beyond = [
+                f"{state[0]} needs {need} and has {low} to {high}" for state, need, much, (low, high) in entries if much
+            ]
             sample = int(found.steps[at])
             lines.append(f"  line {found.log.lines[sample]}: {', '.join(beyond)}; {self.step_said(sample)}")
         return ["", "farthest beyond the ranges, in whole units:", *lines] if lines else []
@@ -156,8 +174,13 @@ class Run:
         """A step in the model's units."""
         log = self.found.log
         states, inputs = ([entry[0] for entry in entries] for entries in (self.plant.states, self.plant.inputs))
-        before, after = (", ".join(f"{name} = {value:.6g}" for name, value in zip(names, values)) for names, values in
-                         ((states + inputs, [*log.states[:, at], *log.inputs[:, at]]), (states, log.states[:, at + 1])))
+        before, after = (
+            ", ".join(f"{name} = {value:.6g}" for name, value in zip(names, values))
+            for names, values in (
+                (states + inputs, [*log.states[:, at], *log.inputs[:, at]]),
+                (states, log.states[:, at + 1]),
+            )
+        )
         return f"{before} led to {after}"
 
     @staticmethod
@@ -167,13 +190,17 @@ class Run:
     def promises(self):
         """What the text's promises came to, and whether one was broken at a step that is followed."""
         from ..measured.promises import promises_of
+
         found = self.found
         promises = promises_of(found, self.text, self.given.turn or 0)
         broken = promises.broken
         faults, good = broken & (found.followed | found.explained), promises.applied & ~broken & ~found.followed
         applied, broke, wrong, kept = (int(some.sum()) for some in (promises.applied, broken, faults, good))
-        said = ["", f"the text: at {applied} of {found.steps.size} judged steps its input was applied; at {broke} of "
-                "these the next state has no row, or its rank hasn't fallen"]
+        said = [
+            "",
+            f"the text: at {applied} of {found.steps.size} judged steps its input was applied; at {broke} of "
+            "these the next state has no row, or its rank hasn't fallen",
+        ]
         said += [f"  {self.lines_at(broken)}"] * (broke > 0)
         told = f": the text isn't one of this plant; {self.lines_at(faults)}" if wrong else ", as it has to be"
         said.append(f"  of them {wrong} are explained or followed{told}")
@@ -186,9 +213,11 @@ class Run:
 
     def draw(self):
         import matplotlib
+
         matplotlib.use("Agg")
         from matplotlib.figure import Figure
         from ..pictures.residuals import draw_residuals
+
         figure = Figure(figsize=(9, 1 + 2 * len(self.plant.states)), layout="constrained")
         with self.progress.during("drawing"):
             draw_residuals(figure, self.found)
@@ -196,6 +225,7 @@ class Run:
 
     def write(self):
         from ..measured.ranges import with_ranges
+
         with self.progress.during("finding ranges"):
             text = with_ranges(self.data, self.found)
         with open(self.given.write, "w", encoding="utf-8", newline="\n") as file:
@@ -208,6 +238,7 @@ def plant_of(path, data):
     from ..models.agreement import is_plant_text
     from ..models.model import read_model
     from ..plants.units import Units, read_units, units_of
+
     try:
         if not is_plant_text(data):
             model = read_model(data)
@@ -232,6 +263,7 @@ def text_of(given, plant):
         return None
     from ..models.agreement import check_variables
     from ..texts.table import read_text
+
     try:
         text = read_text(read_bytes(given.table))
     except Refused as refusal:
@@ -258,6 +290,7 @@ def percent(part, whole):
 
 def short(value):
     from ..plants.units import short as shortened
+
     return shortened(value)
 
 

@@ -124,8 +124,8 @@ def ill_fitting(ends, extent, state):
     (low, high), (first, last), (name, least, most, width) = ends, extent, state
     if first > last:
         return (
-            f"no cell of {name} lies between {low} and {high}; cells begin at {least} + {width} * k and have {width} "
-            "numbers"
+            f"no cell of {name} lies between {low} and {high}; cells begin at {least} + {width} * k and have "
+            f"{width} numbers"
         )
     begin, end = least + first * width, least + (last + 1) * width - 1
     if begin > low > max(least, begin - width) or most > high != end:
@@ -218,7 +218,8 @@ def no_use_said(plant, idle, beaten):
     stays = "; `stay` may need what leads back" if reaches and idle else ""
     return (
         f"{count} of {plant.vectors} input vectors {is_one} of no use: {' and '.join(said)}. {it_takes} "
-        f"{100 * count / plant.vectors:.3g} per cent of the pairs, and without {without} the same cells are {same}{stays}"
+        f"{100 * count / plant.vectors:.3g} per cent of the pairs, and without {without} the same cells are "
+        f"{same}{stays}"
     )
 
 
@@ -292,8 +293,8 @@ def bare_steps(plant, exact):
         if way:
             yield (
                 f"{name} has no noise, and moves by whole cells, by {plant.units.size_said(name, way)} under "
-                f"{plant.input_said(vector)}: a measurement that is a rounding beside a cell's bound counts for the "
-                "next cell; add a noise of -1 to 1, unless the state is a whole number by itself"
+                f"{plant.input_said(vector)}: a measurement that is a rounding beside a cell's bound counts for "
+                "the next cell; add a noise of -1 to 1, unless the state is a whole number by itself"
             )
 
 
@@ -313,8 +314,8 @@ def thin_obstacles(plant):
             more = f", and so {'is' if len(thin) == 2 else 'are'} {len(thin) - 1} more" if len(thin) > 1 else ""
             wide, far = (plant.units.size_said(name, size) for size in (widths[thin[0] - 1], way))
             yield (
-                f"obstacle {thin[0]} is {wide} wide along {name}, and a sample goes up to {far}{more}: the plant may "
-                "pass it between two samples; make it wider, or let tools/between look at the ways"
+                f"obstacle {thin[0]} is {wide} wide along {name}, and a sample goes up to {far}{more}: the plant "
+                "may pass it between two samples; make it wider, or let tools/between look at the ways"
             )
 
 
@@ -507,8 +508,8 @@ def edges_said(total):
     """What to say of a sample's number of edges past the limit."""
     if total > EDGES:
         yield (
-            f"note: about {total} edges by a sample of pairs, and {EDGES} are the most: `limit: edges` is likely; "
-            "wider cells, fewer inputs or a smaller deviation help"
+            f"note: about {total} edges by a sample of pairs, and {EDGES} are the most: `limit: edges` is "
+            "likely; wider cells, fewer inputs or a smaller deviation help"
         )
 
 

@@ -1,5 +1,5 @@
-"""Draws tables, stay texts and patrol texts: the cells of one to three states coloured by rank or by input, targets, obstacles, runs and
-successor boxes. Of a patrol text each turn has a panel."""
+"""Draws tables, stay texts and patrol texts: the cells of one to three states coloured by rank or by input, targets,
+obstacles, runs and successor boxes. Of a patrol text each turn has a panel."""
 
 import logging
 import os
@@ -22,33 +22,70 @@ MOST_RUNS, MOST_SAMPLES = 1000, 100_000
 
 
 def parser_of_words():
-    parser = Words(prog="picture", description=__doc__, epilog="States that are neither axes nor fixed are projected: "
-                   "each place shows the cell of the least rank over them, or with goal keep the share of them that is kept. Needs "
-                   "matplotlib (Debian: apt-get install python3-matplotlib). "
-                   "Status 0: the picture was written; 1: it couldn't be; 2: wrong words.")
-    parser.add_argument("tables", metavar="TABLE", nargs="+", help="a table, stay or patrol text, or `-` for standard input; several make "
-                        "panels side by side")
+    parser = Words(
+        prog="picture",
+        description=__doc__,
+        epilog="States that are neither axes nor fixed are projected: each place shows the cell of the least rank "
+        "over them, or with goal keep the share of them that is kept. Needs matplotlib (Debian: apt-get "
+        "install python3-matplotlib). Status 0: the picture was written; 1: it couldn't be; 2: wrong "
+        "words.",
+    )
+    parser.add_argument(
+        "tables",
+        metavar="TABLE",
+        nargs="+",
+        help="a table, stay or patrol text, or `-` for standard input; several make panels side by side",
+    )
     parser.add_argument("-o", "--output", metavar="FILE", help="the picture, FILE.png or FILE.svg")
-    parser.add_argument("--animate", metavar="FILE", help="a film of the runs, FILE.gif or FILE.mp4 (for which ffmpeg is needed); of a patrol text each frame "
-                        "shows the cells of the turn in which the run is")
-    parser.add_argument("--model", metavar="FILE", help="the model, or the plant text that tools/scale made of it: axes, legend and the "
-                        "numbers of the words below are in its units")
+    parser.add_argument(
+        "--animate",
+        metavar="FILE",
+        help="a film of the runs, FILE.gif or FILE.mp4 (for which ffmpeg is needed); of a patrol text each frame "
+        "shows the cells of the turn in which the run is",
+    )
+    parser.add_argument(
+        "--model",
+        metavar="FILE",
+        help="the model, or the plant text that tools/scale made of it: axes, legend and the numbers of the words "
+        "below are in its units",
+    )
     parser.add_argument("--turn", metavar="J", type=int, help="of a patrol text this turn alone, from 0")
-    parser.add_argument("--axes", metavar="NAME", nargs="+", help="one, two or three states; the first two, where left out")
+    parser.add_argument(
+        "--axes", metavar="NAME", nargs="+", help="one, two or three states; the first two, where left out"
+    )
     parser.add_argument("--fix", metavar="NAME=X", action="append", default=[], help="another state, fixed at a value")
     parser.add_argument("--inputs", action="store_true", help="colour by the input to apply instead of the rank")
-    parser.add_argument("--from", metavar="X", nargs="+", action="append", default=[], dest="starts", help="draw a run from this state; of a patrol in the turn "
-                        "that --from-turn names")
-    parser.add_argument("--from-turn", metavar="J", type=int, help="the turn of a patrol with which runs begin, from 0 (0)")
-    parser.add_argument("--runs", metavar="N", type=int, default=1, help="so many runs from each state, of the seeds 1 to N")
+    parser.add_argument(
+        "--from",
+        metavar="X",
+        nargs="+",
+        action="append",
+        default=[],
+        dest="starts",
+        help="draw a run from this state; of a patrol in the turn that --from-turn names",
+    )
+    parser.add_argument(
+        "--from-turn", metavar="J", type=int, help="the turn of a patrol with which runs begin, from 0 (0)"
+    )
+    parser.add_argument(
+        "--runs", metavar="N", type=int, default=1, help="so many runs from each state, of the seeds 1 to N"
+    )
     parser.add_argument("--samples", metavar="N", type=int, default=1000, help="the most samples of a run")
     parser.add_argument("--trace", metavar="FILE", action="append", default=[], help="draw a trace that `sim` wrote")
     parser.add_argument("--boxes", metavar="X", nargs="+", help="the successor boxes of the cell of this state")
-    parser.add_argument("--input", metavar="U", action="append", default=[], help="the name of an input: colour by its values, each of up to ten with a colour of "
-                        "its own; or, with --boxes, the number of an input vector, whose box alone is drawn")
+    parser.add_argument(
+        "--input",
+        metavar="U",
+        action="append",
+        default=[],
+        help="the name of an input: colour by its values, each of up to ten with a colour of its own; or, with "
+        "--boxes, the number of an input vector, whose box alone is drawn",
+    )
     parser.add_argument("--equal", action="store_true", help="both axes in one scale")
     parser.add_argument("--title", metavar="TEXT", help="a line above the picture")
-    parser.add_argument("--size", metavar="INCHES", type=float, nargs=2, default=(6.0, 4.5), help="width and height of a panel")
+    parser.add_argument(
+        "--size", metavar="INCHES", type=float, nargs=2, default=(6.0, 4.5), help="width and height of a panel"
+    )
     parser.add_argument("--dpi", metavar="N", type=int, default=100, help="pixels to the inch")
     return parser
 
@@ -62,8 +99,18 @@ def check_words(given):
         raise Trouble("a film's name ends in .gif or .mp4", 2)
     if given.animate and (len(given.tables) > 1 or len(given.axes or []) > 2):
         raise Trouble("a film has one panel, along one or two states", 2)
-    if not 1 <= given.runs <= MOST_RUNS or not 0 <= given.samples <= MOST_SAMPLES or given.dpi < 20 or given.dpi > 600 or not all(1 <= side <= 40 for side in given.size):
-        raise Trouble(f"--runs is from 1 to {MOST_RUNS}, --samples from 0 to {MOST_SAMPLES}, --dpi from 20 to 600, --size from 1 to 40 inches", 2)
+    if (
+        not 1 <= given.runs <= MOST_RUNS
+        or not 0 <= given.samples <= MOST_SAMPLES
+        or given.dpi < 20
+        or given.dpi > 600
+        or not all(1 <= side <= 40 for side in given.size)
+    ):
+        raise Trouble(
+            f"--runs is from 1 to {MOST_RUNS}, --samples from 0 to {MOST_SAMPLES}, --dpi from 20 to 600, --size "
+            "from 1 to 40 inches",
+            2,
+        )
 
 
 def load_matplotlib():
@@ -83,11 +130,14 @@ def load_matplotlib():
 
 
 def room_for_settings():
-    """A new folder for matplotlib's settings where the one that it would take isn't there and can't be made; else None."""
+    """A new folder for matplotlib's settings where the one that it would take isn't there and can't be made; else
+    None."""
     given = os.environ.get("MPLCONFIGDIR")
     try:
         os.listdir(Path(given).parent if given else Path.home())
-        for folder in [Path(given)] if given else [Path.home() / ".config/matplotlib", Path.home() / ".cache/matplotlib"]:
+        for folder in (
+            [Path(given)] if given else [Path.home() / ".config/matplotlib", Path.home() / ".cache/matplotlib"]
+        ):
             folder.mkdir(parents=True, exist_ok=True)
             if not os.access(folder, os.W_OK):
                 raise OSError
@@ -100,6 +150,7 @@ def room_for_settings():
 def runs_of(given, cells, view):
     """The states of all runs and traces to draw."""
     from ..texts.loop import read_trace, run
+
     plant = cells.plant
     if cells.kind == "patrol":
         return patrol_runs_of(given, cells, view)
@@ -119,11 +170,22 @@ def check_starts(given, panels):
     turn = given.from_turn or 0
     for panel in panels:
         if given.from_turn is not None and not (panel.turn is not None and 0 <= turn < len(panel.cells.plant.targets)):
-            raise Trouble(f"--from-turn {turn}: " + ("it is for patrol texts" if panel.turn is None else f"the turns are 0 to {len(panel.cells.plant.targets) - 1}"), 2)
+            raise Trouble(
+                f"--from-turn {turn}: "
+                + (
+                    "it is for patrol texts"
+                    if panel.turn is None
+                    else f"the turns are 0 to {len(panel.cells.plant.targets) - 1}"
+                ),
+                2,
+            )
     for words in given.starts:
         firsts = [(panel.view, panel.cells if panel.turn is None else panel.cells.of_turn(turn)) for panel in panels]
         if not any(cells.won[cells.plant.cell_of(view.state(words, "--from"))] for view, cells in firsts):
-            raise Trouble(f"--from {' '.join(words)}: the cell of this state has no row" + (f" in turn {turn}" if panels[0].turn is not None else ""))
+            raise Trouble(
+                f"--from {' '.join(words)}: the cell of this state has no row"
+                + (f" in turn {turn}" if panels[0].turn is not None else "")
+            )
 
 
 def seeds_of(given, plant):
@@ -138,13 +200,22 @@ def asked(given, plant):
 def patrol_runs_of(given, cells, view):
     """The parts of the runs in the panel's turn; for a film whole runs, with their turns."""
     from ..texts.loop import patrol_run, stretches
+
     if given.trace:
         raise Trouble("--trace draws the traces of `sim`, which knows no patrols; give --from", 2)
     plant, runs, begin_turn = cells.plant, [], given.from_turn or 0
     for words in given.starts:
         begin = view.state(words, "--from")
         for seed in seeds_of(given, plant) if cells.of_turn(begin_turn).won[plant.cell_of(begin)] else []:
-            samples = patrol_run(plant, lambda turn, cell: cells.of_turn(turn).row_of(cell), cells.is_arrival, begin, seed, given.samples, begin_turn)
+            samples = patrol_run(
+                plant,
+                lambda turn, cell: cells.of_turn(turn).row_of(cell),
+                cells.is_arrival,
+                begin,
+                seed,
+                given.samples,
+                begin_turn,
+            )
             runs += [samples] if given.animate else stretches(samples, cells.turn)
     return runs
 
@@ -158,7 +229,8 @@ def boxes_of(given, view):
 
 
 def inputs_asked(given, plant):
-    """The number of the input by which is to be coloured, and that of the vector whose box is to be drawn, each None where it isn't asked for."""
+    """The number of the input by which is to be coloured, and that of the vector whose box is to be drawn, each None
+    where it isn't asked for."""
     names, variable, vector = [name for name, _ in plant.inputs], None, None
     for word in given.input:
         if word in names:
@@ -166,7 +238,11 @@ def inputs_asked(given, plant):
         elif given.boxes and word.isdecimal() and int(word) < plant.vectors:
             vector = int(word)
         else:
-            numbers = f", and the input vectors are 0 to {plant.vectors - 1}" if given.boxes else "; the number of an input vector goes with --boxes"
+            numbers = (
+                f", and the input vectors are 0 to {plant.vectors - 1}"
+                if given.boxes
+                else "; the number of an input vector goes with --boxes"
+            )
             raise Trouble(f"--input {word}: the inputs are {', '.join(names) or 'none'}{numbers}", 2)
     return variable, vector
 
@@ -177,6 +253,7 @@ class Panel:
     def __init__(self, figure, cells, given, units):
         from ..pictures.flat import Colouring
         from ..pictures.view import View
+
         self.figure, self.given = figure, given
         self.cells = cells
         self.turn = cells.turn if cells.kind == "patrol" else None
@@ -188,25 +265,36 @@ class Panel:
         self.runs = runs_of(self.given, self.cells, self.view)
         self.axes = axes
         self.entries = self.draw_solid() if len(self.view.axes) == 3 else self.draw_flat()
-        said = [f"plant {self.cells.plant.version}"] * tell_version + ([] if self.turn is None else [f"turn {self.turn}"])
+        said = [f"plant {self.cells.plant.version}"] * tell_version + (
+            [] if self.turn is None else [f"turn {self.turn}"]
+        )
         axes.set_title(", ".join(said + list(filter(None, [self.view.note(self.colouring.is_share)]))), fontsize=9)
 
     def draw_flat(self):
         from ..pictures import flat as drawing
+
         axes, view = self.axes, self.view
         entries = drawing.draw_cells(self.figure, axes, view, self.colouring, self.given.equal)
         drawing.frame(axes, view, self.cells, self.given.equal)
         boxes = drawing.draw_boxes(axes, view, self.turn)
-        runs = [] if self.given.animate else \
-            drawing.draw_runs(axes, view, self.cells, self.runs, asked(self.given, view.plant))
+        runs = (
+            []
+            if self.given.animate
+            else drawing.draw_runs(axes, view, self.cells, self.runs, asked(self.given, view.plant))
+        )
         sides = drawing.draw_successors(axes, view, *boxes_of(self.given, view)) if self.given.boxes else []
         return boxes + runs + sides + entries
 
     def draw_solid(self):
         from ..pictures import solid
+
         entries = solid.draw_solid(self.figure, self.axes, self.view, self.colouring)
         solid.frame_solid(self.axes, self.view)
-        return solid.draw_edges(self.axes, self.view) + solid.draw_solid_runs(self.axes, self.view, self.cells, self.runs) + entries
+        return (
+            solid.draw_edges(self.axes, self.view)
+            + solid.draw_solid_runs(self.axes, self.view, self.cells, self.runs)
+            + entries
+        )
 
 
 @lru_cache(maxsize=None)
@@ -218,6 +306,7 @@ def bytes_at(path):
 def units_of_tables(given):
     """The units of the model; raises Trouble where a table is of another one."""
     from ..texts.rows import VERSIONS, front_of
+
     units = units_for(None, None)
     for path in given.tables if given.model is not None else ():
         with named(path):
@@ -228,6 +317,7 @@ def units_of_tables(given):
 def cells_of(given):
     """What the panels show: each table or stay text, and each turn of a patrol text."""
     from ..texts.arrays import Turns
+
     for path in given.tables:
         with named(path):
             turns = Turns(bytes_at(path))
@@ -252,6 +342,7 @@ def drawn(given, units):
     """The figure with a panel for each table and each turn, and the panels."""
     from matplotlib import pyplot
     from ..pictures.flat import put_legend
+
     shown = list(cells_of(given))
     if not shown:
         raise Trouble("the patrol has no target, so there is nothing to draw")
@@ -267,7 +358,10 @@ def drawn(given, units):
     tell_versions = len({panel.cells.plant.version for panel in panels}) > 1
     entries = {}
     for number, panel in enumerate(panels, 1):
-        panel.draw(tell_versions, figure.add_subplot(rows, columns, number, projection="3d" if len(panel.view.axes) == 3 else None))
+        panel.draw(
+            tell_versions,
+            figure.add_subplot(rows, columns, number, projection="3d" if len(panel.view.axes) == 3 else None),
+        )
         for entry in panel.entries:
             entries.setdefault(entry.get_label(), entry)
     put_legend(figure, list(entries.values()), width, height)
@@ -280,15 +374,19 @@ def write(given, units):
     if given.output:
         with Progress("picture").during("drawing"):
             figure, _ = drawn(given_with(given, animate=None), units)
-            figure.savefig(given.output, dpi=given.dpi, metadata={"Date": None} if given.output.endswith(".svg") else None)
+            figure.savefig(
+                given.output, dpi=given.dpi, metadata={"Date": None} if given.output.endswith(".svg") else None
+            )
     if given.animate:
         write_scenes(given, units)
 
 
 def write_scenes(given, units):
-    """The film: of a patrol text, where no turn is chosen, each frame shows the cells of the turn in which the run is."""
+    """The film: of a patrol text, where no turn is chosen, each frame shows the cells of the turn in which the run
+    is."""
     from ..pictures import flat as drawing
     from ..pictures import film
+
     with named(given.tables[0]):
         shown = next(cells_of(given_with(given, output=None)), None)
     turns = range(len(shown.plant.targets)) if shown and shown.kind == "patrol" and given.turn is None else [given.turn]
@@ -299,7 +397,9 @@ def write_scenes(given, units):
         runs = [[state for _, state in samples] for samples in panel.runs] if is_patrol else panel.runs
         longest = max(panel.runs, key=len, default=[])
         if len(turns) > 1 and len(runs) > 1:
-            raise Trouble("a film of a patrol shows one run, and the cells of its turn; choose the cells of a turn by --turn", 2)
+            raise Trouble(
+                "a film of a patrol shows one run, and the cells of its turn; choose the cells of a turn by --turn", 2
+            )
         course = [turn for turn, _ in longest] if len(turns) > 1 else [0] * len(longest)
         courses = [drawing.Course(panel.view, panel.cells, states) for states in runs]
         scenes.append(film.Scene(figure, panel.axes, courses, panel.turn, given.dpi))

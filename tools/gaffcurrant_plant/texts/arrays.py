@@ -165,7 +165,9 @@ def run_of(samples, units=None, plant=None):
     applied = [sample.inputs or (0,) * wide for sample in samples]
     inputs = numpy.ma.masked_array(applied, [[sample.inputs is None] * wide for sample in samples])
     if units:
-        states = (states + [0.5 * (name not in units.exact) for name, *_ in plant.states]) * sizes_of(units, plant.states)
+        states = (states + [0.5 * (name not in units.exact) for name, *_ in plant.states]) * sizes_of(
+            units, plant.states
+        )
         inputs = inputs * sizes_of(units, plant.inputs)[:wide]
     ranks, turns = (filled([getattr(sample, name) for sample in samples]) for name in ("rank", "turn"))
     return Run(numpy.array([sample.time for sample in samples]), states, ranks, inputs, turns)

@@ -139,7 +139,9 @@ def quick_rows(lines, front):
     numbers = list(map(int, text.replace("-", "-1").split()))
     firsts, lasts = numbers[::wide], numbers[wide - 3 :: wide]
     pairs = list(zip(numbers[wide - 2 :: wide], numbers[wide - 1 :: wide]))
-    are_right = do_rise(firsts, lasts, front.plant.cells) and not any(is_wrong_pair(*pair, front) for pair in set(pairs))
+    are_right = do_rise(firsts, lasts, front.plant.cells) and not any(
+        is_wrong_pair(*pair, front) for pair in set(pairs)
+    )
     if not are_right or wide == 4 and does_one_go_on(firsts, lasts, pairs):
         return None
     rows = {}

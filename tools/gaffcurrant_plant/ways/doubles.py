@@ -1,5 +1,5 @@
-"""A model's own equations over arrays of doubles, many runs at once: the way of a sample by fine steps of Runge and Kutta's method of order four.
-Needs numpy."""
+"""A model's own equations over arrays of doubles, many runs at once: the way of a sample by fine steps of Runge and
+Kutta's method of order four. Needs numpy."""
 
 import math
 
@@ -47,18 +47,24 @@ class Arrays(Floats):
     def call(function, value, _):
         if function[0] == "lut":
             return numpy.interp(value, *zip(*[map(float, point) for point in function[1]]))
-        return getattr(numpy, OF_NUMPY.get(function, function))(value) if isinstance(function, str) else value ** float(function[1])
+        return (
+            getattr(numpy, OF_NUMPY.get(function, function))(value)
+            if isinstance(function, str)
+            else value ** float(function[1])
+        )
 
 
 def sum_of(terms):
     """A function of values for a sum of (coefficient, names)."""
     terms = [(float(coefficient), names) for coefficient, names in terms if coefficient]
-    return lambda values: sum((math.prod([values[name] for name in names], start=coefficient) for coefficient, names in terms), 0.0)
+    return lambda values: sum(
+        (math.prod([values[name] for name in names], start=coefficient) for coefficient, names in terms), 0.0
+    )
 
 
 class RealPlant:
-    """sides: functions of the variables' arrays for the derivatives of the states, or, of a model with `next` lines, for the next states. States and
-    inputs are arrays of a row for each variable and a column for each run."""
+    """sides: functions of the variables' arrays for the derivatives of the states, or, of a model with `next` lines,
+    for the next states. States and inputs are arrays of a row for each variable and a column for each run."""
 
     def __init__(self, model):
         need_numpy()
@@ -67,11 +73,15 @@ class RealPlant:
         self.input_names = [entry[0] for entry in model.inputs]
         self.noise_names = [noise[0] for noise in model.noises]
         self.units = column([state[4] for state in model.states])
-        self.lows, self.highs = column([state[1] for state in model.states]), column([state[2] for state in model.states])
+        self.lows, self.highs = column([state[1] for state in model.states]), column(
+            [state[2] for state in model.states]
+        )
         self.noise_ends = [column([noise[k] for noise in model.noises]) for k in (1, 2)]
         self.of_matrix = bool(model.rows["A"]) and bool(model.sample)
         self.is_flow = bool(model.flows) or self.of_matrix
-        self.sides = self.matrix_sides() if self.of_matrix else [self.side(node) for node in model.flows or model.equations]
+        self.sides = (
+            self.matrix_sides() if self.of_matrix else [self.side(node) for node in model.flows or model.equations]
+        )
         self.targets = [ends_of(box) for keyword, box in model.boxes if keyword == "target"]
         self.obstacles = [ends_of(box) for keyword, box in model.boxes if keyword == "obstacle"]
 
@@ -85,16 +95,22 @@ class RealPlant:
         rows = self.model.rows
         inputs = rows["B"] or [[]] * len(self.names)
         constants = rows["c"] or [[0]] * len(self.names)
-        return [sum_of([(a, (name,)) for a, name in zip(of_states, self.names)] + [(b, (name,)) for b, name in zip(of_inputs, self.input_names)]
-                       + [(constant, ())]) for of_states, of_inputs, (constant,) in zip(rows["A"], inputs, constants)]
+        return [
+            sum_of(
+                [(a, (name,)) for a, name in zip(of_states, self.names)]
+                + [(b, (name,)) for b, name in zip(of_inputs, self.input_names)]
+                + [(constant, ())]
+            )
+            for of_states, of_inputs, (constant,) in zip(rows["A"], inputs, constants)
+        ]
 
     def slope(self, values, states):
         values.update(zip(self.names, states))
         return numpy.stack([numpy.broadcast_to(side(values), states.shape[1:]) for side in self.sides])
 
     def way(self, states, inputs, noises):
-        """The states on the way of a sample, the last one being those behind it. noises: for each of PARTS an array of a row for each noise. Between
-        the samples of `next` lines, whose way isn't known, it is taken as straight."""
+        """The states on the way of a sample, the last one being those behind it. noises: for each of PARTS an array of
+        a row for each noise. Between the samples of `next` lines, whose way isn't known, it is taken as straight."""
         values = dict(zip(self.input_names, inputs))
         if not self.is_flow:
             values.update(zip(self.noise_names, noises[0]))
@@ -102,7 +118,11 @@ class RealPlant:
             yield from (self.wrapped(states + (after - states) * (k / STEPS)) for k in range(1, STEPS))
             yield self.wrapped(after, True)
             return
-        moved = noises[0][[self.noise_names.index(f"w_{name}") for name in self.names]] if self.of_matrix and self.model.rows["w"] else 0.0
+        moved = (
+            noises[0][[self.noise_names.index(f"w_{name}") for name in self.names]]
+            if self.of_matrix and self.model.rows["w"]
+            else 0.0
+        )
         step, at = float(self.model.sample) / STEPS, numpy.array(states)
         for k in range(STEPS):
             if not self.of_matrix:

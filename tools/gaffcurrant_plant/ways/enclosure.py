@@ -1,10 +1,11 @@
-"""Encloses the ways of whole samples: for many cells at once, under an input and all disturbances, boxes that hold every state on the way, by interval
-arithmetic in doubles whose ends are rounded outward. Needs numpy.
+"""Encloses the ways of whole samples: for many cells at once, under an input and all disturbances, boxes that hold
+every state on the way, by interval arithmetic in doubles whose ends are rounded outward. Needs numpy.
 
-Of differential equations a sample is cut into substeps, and a box for each is found as in the proof of Picard and Lindeloef: a box B with D + [0, h] f(B)
-within B holds every solution from D up to the time h, and D + h f(B) holds the states behind it (R. E. Moore, Interval Analysis, 1966; N. S. Nedialkov, K. R.
-Jackson, G. F. Corliss, Validated solutions of initial value problems for ordinary differential equations, 1999). The ways of `next` lines aren't known, and
-taken as straight."""
+Of differential equations a sample is cut into substeps, and a box for each is found as in the proof of Picard and
+Lindeloef: a box B with D + [0, h] f(B) within B holds every solution from D up to the time h, and D + h f(B) holds the
+states behind it (R. E. Moore, Interval Analysis, 1966; N. S. Nedialkov, K. R. Jackson, G. F. Corliss, Validated
+solutions of initial value problems for ordinary differential equations, 1999). The ways of `next` lines aren't known,
+and taken as straight."""
 
 from fractions import Fraction
 
@@ -21,13 +22,13 @@ SUBSTEPS, TRIALS = (1, 4, 16), 12
 WIDER = 1 / 16
 # A box comes to rest where errors grow by less than this factor in a substep; cells at which that is looked at.
 AT_REST, SAMPLED = 0.8, 64
-# Cells along each state that are enclosed together, where these boxes are fewer than the cells by this factor; columns that are enclosed at once, so that
-# arrays stay in a processor's cache, and so few that aren't halved any more.
+# Cells along each state that are enclosed together, where these boxes are fewer than the cells by this factor; columns
+# that are enclosed at once, so that arrays stay in a processor's cache, and so few that aren't halved any more.
 SIZES, FEWER = (8, 4, 2), 2
-COLUMNS, FEWEST = 2 ** 14, 2 ** 8
+COLUMNS, FEWEST = 2**14, 2**8
 UNKNOWN = -1
 # More than the rounding of how many turns on a state that comes round is.
-ROUNDED = 2.0 ** -40
+ROUNDED = 2.0**-40
 
 
 class Ways:
@@ -46,11 +47,17 @@ class Ways:
         """The right sides of lines A, B and c, as polynomials; what w adds in a sample comes evenly."""
         rows, names = self.model.rows, self.names
         inputs, constants = rows["B"] or [[]] * len(names), rows["c"] or [[Fraction(0)]] * len(names)
-        return [added({(name,): a for name, a in zip(names, of_states)}, {(entry[0],): b for entry, b in zip(self.model.inputs, of_inputs)} | {(): c})
-                for of_states, of_inputs, (c,) in zip(rows["A"], inputs, constants)]
+        return [
+            added(
+                {(name,): a for name, a in zip(names, of_states)},
+                {(entry[0],): b for entry, b in zip(self.model.inputs, of_inputs)} | {(): c},
+            )
+            for of_states, of_inputs, (c,) in zip(rows["A"], inputs, constants)
+        ]
 
     def move(self, name, equation):
-        """By how much a sample moves a state: a polynomial of variables and of functions, whose nodes stand in it as names."""
+        """By how much a sample moves a state: a polynomial of variables and of functions, whose nodes stand in it as
+        names."""
         functions = {}
 
         def named(node):
@@ -68,19 +75,30 @@ class Ways:
         return [count for count in SUBSTEPS if growth <= AT_REST * count] or SUBSTEPS[-1:]
 
     def growth(self, plant):
-        """About how fast errors grow at some cells: the spectral radius of the matrix of how much wider each slope is over cells that are wider in a state."""
+        """About how fast errors grow at some cells: the spectral radius of the matrix of how much wider each slope is
+        over cells that are wider in a state."""
         draws = numpy.random.default_rng(1)
         places = numpy.array([draws.integers(0, count, SAMPLED) for count in plant.counts])
-        lows = numpy.array([low for _, low, *_ in plant.states]).reshape(-1, 1) + places * numpy.array([state[3] for state in plant.states]).reshape(-1, 1)
+        lows = numpy.array([low for _, low, *_ in plant.states]).reshape(-1, 1) + places * numpy.array(
+            [state[3] for state in plant.states]
+        ).reshape(-1, 1)
         highs = lows + numpy.array([state[3] - 1 for state in plant.states]).reshape(-1, 1)
         inputs = {name: around(values[0]) for name, _, values in self.model.inputs} | self.noises
         area, widths = self.areas(lows, highs), [float(state[3]) for state in self.model.states]
         try:
             before = self.sizes(area, inputs)
-            wider = [self.sizes(area[:j] + [Span(one.low - width, one.high + width)] + area[j + 1:], inputs) for j, (one, width) in enumerate(zip(area, widths))]
+            wider = [
+                self.sizes(area[:j] + [Span(one.low - width, one.high + width)] + area[j + 1 :], inputs)
+                for j, (one, width) in enumerate(zip(area, widths))
+            ]
         except Trouble:
             return 0.0
-        rates = numpy.array([[numpy.max(after[i] - before[i]) / (2 * width) for after, width in zip(wider, widths)] for i in range(len(widths))])
+        rates = numpy.array(
+            [
+                [numpy.max(after[i] - before[i]) / (2 * width) for after, width in zip(wider, widths)]
+                for i in range(len(widths))
+            ]
+        )
         return float(max(abs(numpy.linalg.eigvals(rates)))) if numpy.isfinite(rates).all() else 0.0
 
     def sizes(self, area, values):
@@ -104,7 +122,8 @@ class Ways:
         return total
 
     def areas(self, lows, highs):
-        """Spans for cells whose ends are whole numbers, in rows for the states: a measurement may be a rounding beside."""
+        """Spans for cells whose ends are whole numbers, in rows for the states: a measurement may be a rounding
+        beside."""
         spans = []
         for (name, *_, unit), low, high in zip(self.model.states, lows, highs):
             beside = 0 if name in self.model.exact else 1
@@ -114,7 +133,8 @@ class Ways:
         return spans
 
     def boxes(self, area, inputs, count):
-        """For each of so many substeps the spans of the states on the way, and which columns have one. inputs: the values by name."""
+        """For each of so many substeps the spans of the states on the way, and which columns have one. inputs: the
+        values by name."""
         values = {name: around(value) for name, value in inputs.items()} | self.noises
         yield from (self.flow_boxes if self.is_flow else self.straight_boxes)(area, values, count)
 
@@ -122,7 +142,11 @@ class Ways:
         values = values | dict(zip(self.names, area))
         moves = []
         for polynomial, functions in self.moves:
-            moves.append(self.sum_of(polynomial, values | {name: value_of(node, values, self.maths) for name, node in functions.items()}))
+            moves.append(
+                self.sum_of(
+                    polynomial, values | {name: value_of(node, values, self.maths) for name, node in functions.items()}
+                )
+            )
         known = numpy.ones(area[0].low.shape, dtype=bool)
         for k in range(count):
             share = Span(down(k / count), up((k + 1) / count))
@@ -131,7 +155,11 @@ class Ways:
     def flow_boxes(self, area, values, count):
         time = around(self.model.sample / count)
         known, start = numpy.ones(area[0].low.shape, dtype=bool), area
-        shifts = [self.noises[f"w_{name}"] for name in self.names] if self.of_matrix and self.model.rows["w"] else [Span(0.0, 0.0)] * len(area)
+        shifts = (
+            [self.noises[f"w_{name}"] for name in self.names]
+            if self.of_matrix and self.model.rows["w"]
+            else [Span(0.0, 0.0)] * len(area)
+        )
         for k in range(count):
             box, slopes, found = self.enclosure(start, values, time)
             known = known & found
@@ -149,30 +177,48 @@ class Ways:
             done = numpy.logical_and.reduce([one.lies_in(other) for one, other in zip(after, box)])
             if done.all():
                 break
-            box = [Span(numpy.where(done, old.low, new.low - (old_start.low - new.low) * WIDER - 1e-12),
-                        numpy.where(done, old.high, new.high + (new.high - old_start.high) * WIDER + 1e-12))
-                   for old, new, old_start in zip(box, after, start)]
+            box = [
+                Span(
+                    numpy.where(done, old.low, new.low - (old_start.low - new.low) * WIDER - 1e-12),
+                    numpy.where(done, old.high, new.high + (new.high - old_start.high) * WIDER + 1e-12),
+                )
+                for old, new, old_start in zip(box, after, start)
+            ]
         return box, slopes, done
 
 
 class Walls:
-    """Where a way may not come: the obstacles as the model has them, and outside of its domain where has_bounds says so. What lies in them by no more than a
-    measurement may be beside isn't counted: so cells beside an obstacle don't touch it. A state that comes round meets an obstacle in each turn of its range."""
+    """Where a way may not come: the obstacles as the model has them, and outside of its domain where has_bounds says
+    so. What lies in them by no more than a measurement may be beside isn't counted: so cells beside an obstacle don't
+    touch it. A state that comes round meets an obstacle in each turn of its range."""
 
     def __init__(self, model, has_bounds=True):
         grazes = [unit * 2 * BESIDE for *_, unit in model.states]
-        self.boxes = [[(around(low + graze).low, around(high - graze).high) for (low, high), graze in zip(box, grazes)]
-                      for keyword, box in model.boxes if keyword == "obstacle"]
+        self.boxes = [
+            [(around(low + graze).low, around(high - graze).high) for (low, high), graze in zip(box, grazes)]
+            for keyword, box in model.boxes
+            if keyword == "obstacle"
+        ]
         self.ranges = [float(high - low) if name in model.wraps else None for name, low, high, *_ in model.states]
-        self.domain = [(-numpy.inf, numpy.inf) if name in model.wraps else (around(low - graze).high, around(high + graze).low)
-                       for (name, low, high, *_), graze in zip(model.states, grazes)] if has_bounds else []
+        self.domain = (
+            [
+                (-numpy.inf, numpy.inf) if name in model.wraps else (around(low - graze).high, around(high + graze).low)
+                for (name, low, high, *_), graze in zip(model.states, grazes)
+            ]
+            if has_bounds
+            else []
+        )
         self.count = len(self.boxes) + 2 * len(self.domain)
         self.model, self.units = model, units_of(model)
 
     def name(self, number):
         """A wall in words, by its number: an obstacle, or behind all of them a bound."""
         at = number - len(self.boxes)
-        return f"obstacle {number + 1}" if at < 0 else f"the {('low', 'high')[at % 2]} bound of {self.model.states[at // 2][0]}"
+        return (
+            f"obstacle {number + 1}"
+            if at < 0
+            else f"the {('low', 'high')[at % 2]} bound of {self.model.states[at // 2][0]}"
+        )
 
     def said(self, number):
         """The same with where it lies, along the states that an obstacle doesn't take up whole."""
@@ -181,7 +227,11 @@ class Walls:
             name, *ends = self.model.states[at // 2][:3]
             return f"{self.name(number)}, {short(ends[at % 2])}{self.units.word(name)}"
         box = [box for keyword, box in self.model.boxes if keyword == "obstacle"][number]
-        ends = [f"{name} {short(low)} to {short(high)}{self.units.word(name)}" for (name, least, most, *_), (low, high) in zip(self.model.states, box) if low > least or high < most]
+        ends = [
+            f"{name} {short(low)} to {short(high)}{self.units.word(name)}"
+            for (name, least, most, *_), (low, high) in zip(self.model.states, box)
+            if low > least or high < most
+        ]
         return self.name(number) + (f" ({', '.join(ends)})" if ends else "")
 
     def met(self, box):
@@ -190,7 +240,10 @@ class Walls:
 
     def touched(self, box):
         """For each obstacle which columns of a box may touch it."""
-        return [numpy.logical_and.reduce([meets(one, *ends, turn) for one, ends, turn in zip(box, wall, self.ranges)]) for wall in self.boxes]
+        return [
+            numpy.logical_and.reduce([meets(one, *ends, turn) for one, ends, turn in zip(box, wall, self.ranges)])
+            for wall in self.boxes
+        ]
 
     def left(self, box):
         """For each state and side of the domain, low then high, which columns may leave it."""
@@ -206,17 +259,19 @@ def meets(one, low, high, turn):
 
 
 class Touch:
-    """cells: those with a row whose way may touch something; walls: for each of these, which obstacles it may touch, and behind them which sides of the
-    domain it may leave; lost: whether no enclosure was found for it. turn: of a patrol."""
+    """cells: those with a row whose way may touch something; walls: for each of these, which obstacles it may touch,
+    and behind them which sides of the domain it may leave; lost: whether no enclosure was found for it. turn: of a
+    patrol."""
 
     def __init__(self, cells, walls, lost, turn):
         self.cells, self.walls, self.lost, self.turn = cells, walls, lost, turn
 
 
 class Looked:
-    """What the ways of pairs, of a cell and an input, may touch. Each pair is enclosed once, whichever tables have it as a row: first together with its
-    neighbours, and alone where these together may touch something. kinds: for each pair the number of what it may touch in `patterns`, whose first
-    is nothing, or UNKNOWN; a pattern tells of each wall, and behind them whether no enclosure was found."""
+    """What the ways of pairs, of a cell and an input, may touch. Each pair is enclosed once, whichever tables have it
+    as a row: first together with its neighbours, and alone where these together may touch something. kinds: for each
+    pair the number of what it may touch in `patterns`, whose first is nothing, or UNKNOWN; a pattern tells of each
+    wall, and behind them whether no enclosure was found."""
 
     def __init__(self, model, plant, has_bounds=True):
         self.model, self.plant = model, plant
@@ -225,7 +280,9 @@ class Looked:
         self.kinds = numpy.full((plant.vectors, plant.cells), UNKNOWN, dtype=numpy.int32)
         self.patterns = numpy.zeros((1, self.walls.count + 1), dtype=bool)
         self.numbers = {numpy.packbits(self.patterns[0]).tobytes(): 0}
-        self.low, self.high, self.width = (numpy.array([state[k] for state in plant.states]).reshape(-1, 1) for k in (1, 2, 3))
+        self.low, self.high, self.width = (
+            numpy.array([state[k] for state in plant.states]).reshape(-1, 1) for k in (1, 2, 3)
+        )
 
     def touch(self, won, inputs, turn=0):
         """The Touch of rows: for each cell whether it has one, and its input, below 0 where nothing is applied."""
@@ -255,7 +312,8 @@ class Looked:
             self.kinds[vector, cells] = self.numbers_of(found)
 
     def left_together(self, cells, inputs, size):
-        """Those of some cells whose ways may touch something when they are enclosed together, in boxes of so many cells along each state."""
+        """Those of some cells whose ways may touch something when they are enclosed together, in boxes of so many cells
+        along each state."""
         blocks = self.places(cells) // size
         counts = [-(-count // size) for count in self.plant.counts]
         numbers, at = numpy.unique(numpy.ravel_multi_index(tuple(blocks), counts), return_inverse=True)
@@ -269,8 +327,8 @@ class Looked:
         return numpy.array(numpy.unravel_index(cells, self.plant.counts))
 
     def patterns_of(self, firsts, lasts, inputs, count):
-        """For each wall which ways from boxes of cells may touch it, by so many substeps, and behind these for which no enclosure was found. firsts and
-        lasts: the places of the boxes' corners, in columns."""
+        """For each wall which ways from boxes of cells may touch it, by so many substeps, and behind these for which no
+        enclosure was found. firsts and lasts: the places of the boxes' corners, in columns."""
         found = numpy.zeros((self.walls.count + 1, firsts.shape[1]), dtype=bool)
         for begin in range(0, firsts.shape[1], COLUMNS):
             part = slice(begin, begin + COLUMNS)
@@ -279,7 +337,8 @@ class Looked:
         return found
 
     def enclose(self, lows, highs, inputs, count, found):
-        """Puts what the ways may touch into `found`. Where something can't be evaluated at a column, the columns are halved until they are few."""
+        """Puts what the ways may touch into `found`. Where something can't be evaluated at a column, the columns are
+        halved until they are few."""
         size = lows.shape[1]
         try:
             found[:-1] = False
@@ -294,7 +353,9 @@ class Looked:
     def numbers_of(self, found):
         """The numbers of patterns, in columns, that a pair may touch; new ones are added."""
         packed = numpy.ascontiguousarray(numpy.packbits(found, axis=0).T)
-        _, firsts, at = numpy.unique(packed.view(f"V{packed.shape[1]}").reshape(-1), return_index=True, return_inverse=True)
+        _, firsts, at = numpy.unique(
+            packed.view(f"V{packed.shape[1]}").reshape(-1), return_index=True, return_inverse=True
+        )
         numbers = []
         for first in firsts:
             key = packed[first].tobytes()

@@ -6,7 +6,7 @@ from ..faults import Trouble
 from .doubles import OF_NUMPY, numpy
 
 # How far functions of numpy may be beside, as a share of the value and at least: far more than they are.
-SHARE, LEAST = 2.0 ** -48, 1e-300
+SHARE, LEAST = 2.0**-48, 1e-300
 
 
 def down(values):
@@ -36,7 +36,10 @@ class Span:
 
     def __mul__(self, other):
         ends = (self.low * other.low, self.low * other.high, self.high * other.low, self.high * other.high)
-        return Span(down(numpy.minimum(numpy.minimum(*ends[:2]), numpy.minimum(*ends[2:]))), up(numpy.maximum(numpy.maximum(*ends[:2]), numpy.maximum(*ends[2:]))))
+        return Span(
+            down(numpy.minimum(numpy.minimum(*ends[:2]), numpy.minimum(*ends[2:]))),
+            up(numpy.maximum(numpy.maximum(*ends[:2]), numpy.maximum(*ends[2:]))),
+        )
 
     def hull(self, other):
         return Span(numpy.minimum(self.low, other.low), numpy.maximum(self.high, other.high))
@@ -68,12 +71,16 @@ class Spans:
     @staticmethod
     def square(value):
         high = numpy.maximum(numpy.abs(value.low), numpy.abs(value.high))
-        low = numpy.where((value.low <= 0) & (value.high >= 0), 0.0, numpy.minimum(numpy.abs(value.low), numpy.abs(value.high)))
+        low = numpy.where(
+            (value.low <= 0) & (value.high >= 0), 0.0, numpy.minimum(numpy.abs(value.low), numpy.abs(value.high))
+        )
         return Span(numpy.maximum(down(low * low), 0.0), up(high * high))
 
     @staticmethod
     def size(value):
-        low = numpy.where((value.low <= 0) & (value.high >= 0), 0.0, numpy.minimum(numpy.abs(value.low), numpy.abs(value.high)))
+        low = numpy.where(
+            (value.low <= 0) & (value.high >= 0), 0.0, numpy.minimum(numpy.abs(value.low), numpy.abs(value.high))
+        )
         return Span(low, numpy.maximum(numpy.abs(value.low), numpy.abs(value.high)))
 
     @staticmethod
@@ -102,10 +109,16 @@ class Spans:
             raise Trouble(f"what stands in {function} may be 0 or less on the way")
         if function in ("asin", "acos") and numpy.any((value.low < -1) | (value.high > 1)):
             raise Trouble(f"what stands in {function} may be beyond -1 or 1 on the way")
-        if function == "tan" and numpy.any(numpy.floor(value.low / numpy.pi + 0.5 - 1e-9) != numpy.floor(value.high / numpy.pi + 0.5 + 1e-9)):
+        if function == "tan" and numpy.any(
+            numpy.floor(value.low / numpy.pi + 0.5 - 1e-9) != numpy.floor(value.high / numpy.pi + 0.5 + 1e-9)
+        ):
             raise Trouble("what stands in tan may come to a pole on the way")
         ends = [getattr(numpy, OF_NUMPY.get(function, function))(end) for end in (value.low, value.high)]
-        least = numpy.where((value.low <= 0) & (value.high >= 0), 1.0, numpy.minimum(*ends)) if function == "cosh" else numpy.minimum(*ends)
+        least = (
+            numpy.where((value.low <= 0) & (value.high >= 0), 1.0, numpy.minimum(*ends))
+            if function == "cosh"
+            else numpy.minimum(*ends)
+        )
         return widened(least, numpy.maximum(*ends))
 
     @staticmethod
@@ -124,7 +137,9 @@ def pieces(points, value):
     least, most = numpy.minimum(low, high), numpy.maximum(low, high)
     for x, y in zip(*columns):
         is_met = (value.low <= x) & (x <= value.high)
-        least, most = numpy.where(is_met, numpy.minimum(least, y), least), numpy.where(is_met, numpy.maximum(most, y), most)
+        least, most = numpy.where(is_met, numpy.minimum(least, y), least), numpy.where(
+            is_met, numpy.maximum(most, y), most
+        )
     # What is rounded is a difference of values too.
     room = max(map(abs, columns[1])) * SHARE
     return widened(least - room, most + room)

@@ -68,7 +68,9 @@ class Desk {
       this.panel.showsAll = false;
       this.panel.show(view);
     }
-    if (this.toSay) byId("said").textContent = this.toSay === "run" ? byId("ran").textContent : this.cellSaid(view.cell);
+    if (this.toSay) {
+      byId("said").textContent = this.toSay === "run" ? byId("ran").textContent : this.cellSaid(view.cell);
+    }
     this.toSay = null;
   }
 

@@ -98,7 +98,8 @@ class Plant {
   obstacleCells() {
     const cells = new Uint8Array(this.cells);
     for (const box of this.obstacles) {
-      const extents = this.extents(box).map(([first, last], i) => [Math.max(first, 0), Math.min(last, this.counts[i] - 1)]);
+      const inRange = ([first, last], i) => [Math.max(first, 0), Math.min(last, this.counts[i] - 1)];
+      const extents = this.extents(box).map(inRange);
       const [first, last] = extents.pop();
       for (const base of first <= last ? this.cellsOf(extents) : []) cells.fill(1, base + first, base + last + 1);
     }

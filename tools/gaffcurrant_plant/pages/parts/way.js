@@ -14,7 +14,8 @@ const REALS = {
   power: (node, a) => (v) => Math.pow(a(v), node[1]),
 };
 
-/** The value of straight pieces between points, whose numbers are listed as x0, y0, x1, y1, ..; beyond them the first or the last one's. */
+/** The value of straight pieces between points, whose numbers are listed as x0, y0, x1, y1, ..; beyond them the first
+    or the last one's. */
 function onPieces(numbers, x) {
   let k = 0;
   while (k < numbers.length && numbers[k] <= x) k += 2;
