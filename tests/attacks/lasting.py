@@ -6,9 +6,9 @@ import os
 import random
 from pathlib import Path
 
-from gaffcurrant_plant.bounds import SHAPES, value_at
-from gaffcurrant_plant.expression import parts_of
-from gaffcurrant_plant.reader import read_plant
+from gaffcurrant_plant.plants.bounds import SHAPES, value_at
+from gaffcurrant_plant.plants.expression import parts_of
+from gaffcurrant_plant.plants.reader import read_plant
 
 from .oracle import TableReader
 
@@ -64,8 +64,8 @@ def box_said(plant, box):
 
 
 def driver(plant, rows):
-    """A function that drives the plant from a state in a turn, and tells what is wrong, or None. rows: for each turn the
-    rows of its cells."""
+    """A function that drives the plant from a state in a turn, and tells what is wrong, or None. rows: for each turn
+    the rows of its cells."""
     is_patrol = len(rows) > 1 or rows[0] and min(rank for rank, _ in rows[0].values()) > 0
     said = words_of(plant) | {"turns": len(rows)}
     said["judge"] = (PATROL if is_patrol else STAY).format(**said)
@@ -117,7 +117,7 @@ def cells_in(plant, box):
 def border(plant, rows):
     """The cells with a row beside which, along some state, there is none."""
     for cell in rows:
-        indices = plant.places_of(cell)
+        indices = plant.indices_of(cell)
         beside = [[*indices[:i], indices[i] + side, *indices[i + 1 :]] for i in range(len(indices)) for side in (-1, 1)]
         if not all(is_cell(plant, other) and plant.cell_at(other) in rows for other in beside):
             yield cell

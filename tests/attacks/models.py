@@ -261,9 +261,9 @@ def model_of(seed):
 
 def outcome(text):
     """What becomes of a model: `text`, or the one line that is said of it; raises what it mustn't."""
-    from gaffcurrant_plant.choosing import planted
+    from gaffcurrant_plant.models.best_plant import planted
     from gaffcurrant_plant.command import Trouble
-    from gaffcurrant_plant.model import read_model
+    from gaffcurrant_plant.models.model import read_model
 
     try:
         planting = planted(read_model(text.encode("utf-8", "surrogateescape")))

@@ -3,10 +3,11 @@ docs/FORMATS.md (plants by the reader of tools/), and solve games by rounds over
 
 import re
 
-from gaffcurrant_plant.expression import text_of
-from gaffcurrant_plant.loop import noises
-from gaffcurrant_plant.plant import EDGES
-from gaffcurrant_plant.reader import Draft, Refused, Wrong, read_plant, words_of
+from gaffcurrant_plant.plants.expression import text_of
+from gaffcurrant_plant.texts.loop import noises
+from gaffcurrant_plant.plants.plant import EDGES
+from gaffcurrant_plant.faults import Fault as Wrong
+from gaffcurrant_plant.plants.reader import Draft, Refused, read_plant, words_of
 
 TABLE_LIMIT = 67108864
 SCRIPT_LIMIT = 67108864

@@ -8,8 +8,8 @@ import os
 import subprocess
 import tempfile
 
-from gaffcurrant_plant.expression import walk
-from gaffcurrant_plant.reader import read_plant
+from gaffcurrant_plant.plants.expression import walk
+from gaffcurrant_plant.plants.reader import read_plant
 
 from .oracle import row_text
 from .program import CART, CHECK, LIVE, SYNTH, TABLE, WORKERS

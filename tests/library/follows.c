@@ -37,7 +37,8 @@ int main(int count, char **words)
                     && (gaffcurrant_follows(&controller, state, n, input, m, next, states) != WRONG
                         || gaffcurrant_follows(&controller, state, states, input, m, next, n) != WRONG))
                     return 1;
-                else if (m != inputs && gaffcurrant_follows(&controller, state, states, input, m, next, states) != WRONG)
+                else if (m != inputs
+                         && gaffcurrant_follows(&controller, state, states, input, m, next, states) != WRONG)
                     return 1;
     }
     gaffcurrant_close(&controller);

@@ -3,7 +3,7 @@
 import unittest
 from pathlib import Path
 
-from gaffcurrant_plant.table import read_text
+from gaffcurrant_plant.texts.table import read_text
 
 from .browser import Browser, browser_there
 from .tool_case import TOP, ToolCase

@@ -1,6 +1,6 @@
 """Runs by stay texts and patrol texts under random and extreme disturbances, judged by what the texts promise."""
 
-from gaffcurrant_plant.solving import simulate
+from gaffcurrant_plant.texts.solver import simulate
 
 SAMPLES = 120
 

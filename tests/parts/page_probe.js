@@ -94,9 +94,11 @@ const probe = {
     return probe.framesOf(count, (k) => probe.slide(k % (most + 1)));
   },
 
-  /** To compare with: frames in which as many pixels as the map has cells are made of random numbers, and drawn in its place. */
+  /** To compare with: frames in which as many pixels as the map has cells are made of random numbers, and drawn
+   * instead of it. */
   plainFrames: (count) => {
-    const [{ canvas, slice }] = gaffcurrant.desk.maps, board = document.createElement("canvas"), pen = canvas.getContext("2d");
+    const [{ canvas, slice }] = gaffcurrant.desk.maps;
+    const board = document.createElement("canvas"), pen = canvas.getContext("2d");
     [board.width, board.height] = [slice.wide, slice.high];
     const image = new ImageData(slice.wide, slice.high), pixels = new Uint32Array(image.data.buffer);
     return probe.framesOf(count, () => {

@@ -4,7 +4,7 @@ import math
 import os
 import random
 
-from gaffcurrant_plant.reader import read_plant
+from gaffcurrant_plant.plants.reader import read_plant
 
 from .tool_case import ToolCase
 

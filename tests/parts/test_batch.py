@@ -4,15 +4,16 @@ useless."""
 import random
 
 from attacks import games
-from gaffcurrant_plant import rows
-from gaffcurrant_plant.counting import TooMuch, edges_of
-from gaffcurrant_plant.reader import read_plant
-from gaffcurrant_plant.table import read_table, text_of_table
+from gaffcurrant_plant.texts import rows
+from gaffcurrant_plant.faults import TooMuch
+from gaffcurrant_plant.plants.edge_count import edges_of
+from gaffcurrant_plant.plants.reader import read_plant
+from gaffcurrant_plant.texts.table import read_table, text_of_table
 
 from .tool_case import TOP, ToolCase, has, needs_numpy
 
 if has("numpy"):
-    from gaffcurrant_plant.useless import useless
+    from gaffcurrant_plant.plants.useless_inputs import useless
 
 DRAWN, CELLS, VECTORS = 40, 40, 6
 # Numbers past 64 bits, which Python's integers hold.

@@ -5,16 +5,16 @@ import itertools
 import random
 import re
 
-from gaffcurrant_plant.model import read_model
+from gaffcurrant_plant.models.model import read_model
 
 from . import ways
 from .tool_case import TOP, ToolCase, has, needs_numpy
 
 if has("numpy"):
     import numpy
-    from gaffcurrant_plant.enclosing import Walls
-    from gaffcurrant_plant.spans import Span
-    from gaffcurrant_plant.widening import Looks, widenings_left
+    from gaffcurrant_plant.ways.enclosure import Walls
+    from gaffcurrant_plant.ways.spans import Span
+    from gaffcurrant_plant.ways.wider_obstacles import Looks, widenings_left
 
 # A carriage that steps by up to a metre and a half, and a wall a tenth of a metre thick with a gap; with another target
 # before it, it goes between two stations in turn.

@@ -7,24 +7,24 @@ import random
 import re
 from fractions import Fraction
 
-from gaffcurrant_plant.reader import read_plant
-from gaffcurrant_plant.table import read_table, read_text
-from gaffcurrant_plant.units import Units, read_units
+from gaffcurrant_plant.plants.reader import read_plant
+from gaffcurrant_plant.texts.table import read_table, read_text
+from gaffcurrant_plant.plants.units import Units, read_units
 
 from .tool_case import TOP, ToolCase, has, needs_matplotlib, needs_numpy
 from .worked_texts import PATROL, STAY
 
 if has("numpy"):
     import numpy
-    from gaffcurrant_plant.conforming import conform
-    from gaffcurrant_plant.diagnosing import diagnosed
-    from gaffcurrant_plant.logs import log_of, read_log
-    from gaffcurrant_plant.model import read_model
-    from gaffcurrant_plant.promises import promises_of
-    from gaffcurrant_plant.ranging import with_ranges
-    from gaffcurrant_plant.real import Loop, Record
+    from gaffcurrant_plant.measured.conformity import conform
+    from gaffcurrant_plant.measured.diagnosis import diagnosed
+    from gaffcurrant_plant.measured.logs import log_of, read_log
+    from gaffcurrant_plant.models.model import read_model
+    from gaffcurrant_plant.measured.promises import promises_of
+    from gaffcurrant_plant.measured.ranges import with_ranges
+    from gaffcurrant_plant.ways.real_runs import Loop, Record
 if has("numpy") and has("matplotlib"):
-    from gaffcurrant_plant.residuals import draw_residuals
+    from gaffcurrant_plant.pictures.residuals import draw_residuals
     from matplotlib.figure import Figure
 
 # Of each example; and those in which mistakes are planted.

@@ -11,10 +11,10 @@ import unittest
 import zlib
 from fractions import Fraction
 
-from gaffcurrant_plant.model import read_model
-from gaffcurrant_plant.monitor import Monitor
-from gaffcurrant_plant.solving import simulate
-from gaffcurrant_plant.table import read_text, text_of_table
+from gaffcurrant_plant.models.model import read_model
+from gaffcurrant_plant.texts.monitor import Monitor
+from gaffcurrant_plant.texts.solver import simulate
+from gaffcurrant_plant.texts.table import read_text, text_of_table
 
 from .device_readers import (
     COMPILER,

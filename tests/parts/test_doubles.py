@@ -5,7 +5,7 @@ a rounding beside, a table that promises too much."""
 import re
 import sys
 
-from gaffcurrant_plant.reader import read_plant
+from gaffcurrant_plant.plants.reader import read_plant
 
 from .product import ran
 from .tool_case import TOP, ToolCase, needs_numpy
@@ -153,7 +153,7 @@ class FromPython(GateCase):
 
     def test_runs(self):
         script = (
-            "from gaffcurrant_plant.real import real_runs\n"
+            "from gaffcurrant_plant.ways.real_runs import real_runs\n"
             f"model = open({str(self.gate)!r}).read()\n"
             f"table = read_text(open({str(self.table)!r}, 'rb').read())\n"
             "outcome = real_runs(model, table, runs=200, seed=3)\n"
@@ -165,7 +165,8 @@ class FromPython(GateCase):
     def test_starts_of_patrols(self):
         docks = TOP / "examples/docks"
         script = (
-            "from gaffcurrant_plant.matching import model_at\nfrom gaffcurrant_plant.real import Loop\n"
+            "from gaffcurrant_plant.models.agreement import model_at\n"
+            "from gaffcurrant_plant.ways.real_runs import Loop\n"
             f"text = read_text(open({str(docks / 'docks.patrol')!r}, 'rb').read())\n"
             f"loop = Loop(model_at({str(docks / 'docks.model')!r}), text, 200, 1)\n"
             "turns = loop.turns.copy()\nloop.drive(None, 0)\n"
@@ -177,7 +178,7 @@ class FromPython(GateCase):
     def test_runs_by_bytes(self):
         docks = TOP / "examples/docks/docks"
         script = (
-            "from gaffcurrant_plant.real import real_runs\n"
+            "from gaffcurrant_plant.ways.real_runs import real_runs\n"
             f"model, text = (open({str(docks)!r} + end, 'rb').read() for end in ('.model', '.patrol'))\n"
             "outcome = real_runs(model, text, runs=20, samples=1, turn=1)\n"
             "print(outcome.runs, sum(outcome.violations.values()))\n"

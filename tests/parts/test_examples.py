@@ -6,8 +6,8 @@ import re
 import subprocess
 import sys
 
-from gaffcurrant_plant.reader import read_plant
-from gaffcurrant_plant.table import read_text
+from gaffcurrant_plant.plants.reader import read_plant
+from gaffcurrant_plant.texts.table import read_text
 
 from .driving import lies_in_any, runs_of
 from .product import ran

@@ -5,8 +5,8 @@ import re
 import sys
 from fractions import Fraction
 
-from gaffcurrant_plant.reader import read_plant
-from gaffcurrant_plant.table import read_table
+from gaffcurrant_plant.plants.reader import read_plant
+from gaffcurrant_plant.texts.table import read_table
 
 from .product import ran
 from .tool_case import TOP, ToolCase, needs_mpmath, needs_numpy

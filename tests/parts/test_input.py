@@ -6,7 +6,7 @@ import os
 import subprocess
 import sys
 
-from gaffcurrant_plant.table import read_table, text_of_table
+from gaffcurrant_plant.texts.table import read_table, text_of_table
 
 from .tool_case import TOP, ToolCase
 

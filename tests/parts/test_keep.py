@@ -6,7 +6,7 @@ import functools
 import itertools
 import random
 
-from gaffcurrant_plant.table import read_table
+from gaffcurrant_plant.texts.table import read_table
 
 from .tool_case import ToolCase
 

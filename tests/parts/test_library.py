@@ -13,9 +13,9 @@ import unittest
 from concurrent.futures import ThreadPoolExecutor
 from pathlib import Path
 
-from gaffcurrant_plant.controller import APPLY, ARRIVED, NO_ROW, Controller
-from gaffcurrant_plant.reader import Refused
-from gaffcurrant_plant.table import NoRow, read_table, read_text, text_of_table
+from gaffcurrant_plant.texts.controller import APPLY, ARRIVED, NO_ROW, Controller
+from gaffcurrant_plant.faults import Refused
+from gaffcurrant_plant.texts.table import NoRow, read_table, read_text, text_of_table
 
 from .device_readers import c_answers, expected, lines_of, random_states
 from .following import followed_samples, steps_of

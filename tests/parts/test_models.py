@@ -5,13 +5,13 @@ import math
 import random
 import re
 
-from gaffcurrant_plant.reader import read_plant
-from gaffcurrant_plant.table import read_table
+from gaffcurrant_plant.plants.reader import read_plant
+from gaffcurrant_plant.texts.table import read_table
 
 from .tool_case import ToolCase, has, needs_mpmath, needs_numpy
 
 if has("numpy"):
-    from gaffcurrant_plant.useless import useless
+    from gaffcurrant_plant.plants.useless_inputs import useless
 
 STATE = "state x 0 10 0.1 0.001\n"
 # A model, and lines that its plant has.

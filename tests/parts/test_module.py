@@ -13,14 +13,14 @@ from fractions import Fraction
 from unittest import mock
 
 from gaffcurrant_plant import NoRow, Refused, Trouble, Units, read_plant, read_table, read_text, scale, simulate, solve
-from gaffcurrant_plant.loop import read_trace
-from gaffcurrant_plant.model import read_model
+from gaffcurrant_plant.texts.loop import read_trace
+from gaffcurrant_plant.models.model import read_model
 
 from .product import ran
 from .tool_case import TOP, ToolCase, has, needs_numpy
 
 if has("numpy"):
-    from gaffcurrant_plant import arrays
+    from gaffcurrant_plant.texts import arrays
 
 LINE = "plant 1\nstate x 0 14 3\ninput u -3 3\nnext x = x + u\ntarget 12 14\ngoal reach\nend\n"
 
@@ -269,7 +269,7 @@ class Types(ToolCase):
         return ran("mypy", *words, used, *files, env=os.environ | {"MYPYPATH": str(TOP / "tools")})[:2]
 
     def test_module_and_use(self):
-        files = [TOP / "tools/gaffcurrant_plant" / name for name in ("table.py", "solving.py", "asking.py")]
+        files = [TOP / "tools/gaffcurrant_plant/texts" / name for name in ("table.py", "solver.py", "real_states.py")]
         status, output = self.mypy(USE, *files)
         self.holds("mypy on the module and a use of it", status == 0, output)
 
@@ -315,7 +315,8 @@ class Install(ToolCase):
         self.equal("a program for each of tools/ but the scripts library and program", tools, names)
 
     def test_module_finds_launcher(self):
-        output = self.user_runs("python", "-c", "from gaffcurrant_plant.solving import program; print(program())")[1]
+        script = "from gaffcurrant_plant.texts.solver import program; print(program())"
+        output = self.user_runs("python", "-c", script)[1]
         self.equal("the installed module runs the launcher", str(TOP / "gaffcurrant"), output.strip())
 
 

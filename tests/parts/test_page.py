@@ -4,10 +4,10 @@ and does in a browser is tried by the parts page_cells and page_hand."""
 import re
 import sys
 
-from gaffcurrant_plant import paging
-from gaffcurrant_plant.reader import Refused as RefusedText
-from gaffcurrant_plant.rows import VERSIONS, Lines, front_of
-from gaffcurrant_plant.table import read_text
+from gaffcurrant_plant.pages import page as paging
+from gaffcurrant_plant.faults import Refused as RefusedText
+from gaffcurrant_plant.texts.rows import VERSIONS, Lines, front_of
+from gaffcurrant_plant.texts.table import read_text
 
 from .product import ran
 from .test_page_cells import WIDE, large_table

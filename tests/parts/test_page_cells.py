@@ -5,13 +5,13 @@ import json
 import random
 from typing import NamedTuple
 
-from gaffcurrant_plant import formula
-from gaffcurrant_plant.bounds import TOP as TOP_OF_RANGE
-from gaffcurrant_plant.maths import Floats
-from gaffcurrant_plant.model import read_model
-from gaffcurrant_plant.reader import read_plant
-from gaffcurrant_plant.table import read_text, text_of_table
-from gaffcurrant_plant.trying import runge_kutta
+from gaffcurrant_plant.models import formula
+from gaffcurrant_plant.plants.bounds import TOP as TOP_OF_RANGE
+from gaffcurrant_plant.models.arithmetic import Floats
+from gaffcurrant_plant.models.model import read_model
+from gaffcurrant_plant.plants.reader import read_plant
+from gaffcurrant_plant.texts.table import read_text, text_of_table
+from gaffcurrant_plant.models.trial import runge_kutta
 
 from .browser_case import BrowserCase
 from .worked_texts import PATROL, STAY

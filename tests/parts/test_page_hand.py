@@ -3,7 +3,7 @@ reader finds."""
 
 import random
 
-from gaffcurrant_plant.table import read_text
+from gaffcurrant_plant.texts.table import read_text
 
 from .browser_case import PANEL, SAID, BrowserCase
 from .test_page_cells import stop_of

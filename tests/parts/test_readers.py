@@ -6,8 +6,8 @@ import shutil
 import sys
 import unittest
 
-from gaffcurrant_plant.loop import read_trace, run
-from gaffcurrant_plant.table import read_table, text_of_table
+from gaffcurrant_plant.texts.loop import read_trace, run
+from gaffcurrant_plant.texts.table import read_table, text_of_table
 
 from .device_readers import (
     COMPILER,

@@ -3,7 +3,7 @@ functions and fine steps of its own, lies within the plant's noise; and what is 
 
 import re
 
-from gaffcurrant_plant.reader import read_plant
+from gaffcurrant_plant.plants.reader import read_plant
 
 from .real_models import GOAL, Real, RealCase, outside
 from .tool_case import needs_mpmath

@@ -6,7 +6,7 @@ import random
 import re
 from fractions import Fraction
 
-from gaffcurrant_plant.reader import read_plant
+from gaffcurrant_plant.plants.reader import read_plant
 
 from .tool_case import ToolCase, needs_mpmath
 

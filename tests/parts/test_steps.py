@@ -3,7 +3,7 @@ real steps from random points lie within the noise."""
 
 import re
 
-from gaffcurrant_plant.reader import read_plant
+from gaffcurrant_plant.plants.reader import read_plant
 
 from .real_models import GOAL, RealCase
 from .tool_case import TOP, needs_mpmath

@@ -6,8 +6,8 @@ import random
 import re
 
 from attacks import games, oracle
-from gaffcurrant_plant.reader import Refused
-from gaffcurrant_plant.table import read_text, text_of_patrol, text_of_stay
+from gaffcurrant_plant.faults import Refused
+from gaffcurrant_plant.texts.table import read_text, text_of_patrol, text_of_stay
 
 from .device_readers import COMPILER, DEVICE, c_answers, python_answers, said_of_row
 from .driving import runs_of

@@ -1,7 +1,7 @@
 """`sim` on each example's table, from its farthest cell under ten seeds: each run arrives within the rank of its first
 row."""
 
-from gaffcurrant_plant.table import read_table
+from gaffcurrant_plant.texts.table import read_table
 
 from .tool_case import ToolCase
 

@@ -5,10 +5,10 @@ import math
 from fractions import Fraction
 
 from gaffcurrant_plant.command import Trouble
-from gaffcurrant_plant.drawing import Course
-from gaffcurrant_plant.reader import read_plant
-from gaffcurrant_plant.units import Units, decimal, read_units
-from gaffcurrant_plant.view import View
+from gaffcurrant_plant.pictures.flat import Course
+from gaffcurrant_plant.plants.reader import read_plant
+from gaffcurrant_plant.plants.units import Units, decimal, read_units
+from gaffcurrant_plant.pictures.view import View
 
 from .tool_case import TOP, ToolCase
 

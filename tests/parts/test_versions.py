@@ -3,10 +3,12 @@
 import itertools
 import random
 
-from gaffcurrant_plant.bounds import bounds_of, compiled, compiled_span, span_of
-from gaffcurrant_plant.expression import Fault, parse, text_of
-from gaffcurrant_plant.reader import Refused, read_plant
-from gaffcurrant_plant.table import read_table, text_of_table
+from gaffcurrant_plant.plants.bounds import bounds_of, compiled, compiled_span, span_of
+from gaffcurrant_plant.plants.expression import parse, text_of
+from gaffcurrant_plant.faults import Fault
+from gaffcurrant_plant.faults import Refused
+from gaffcurrant_plant.plants.reader import read_plant
+from gaffcurrant_plant.texts.table import read_table, text_of_table
 
 from .tool_case import ToolCase
 

@@ -2,7 +2,7 @@
 
 import re
 
-from gaffcurrant_plant.table import read_table
+from gaffcurrant_plant.texts.table import read_table
 
 from .tool_case import TOP, ToolCase, needs_numpy
 

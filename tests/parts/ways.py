@@ -2,13 +2,13 @@
 
 import math
 
-from gaffcurrant_plant.model import read_model
+from gaffcurrant_plant.models.model import read_model
 
 from .tool_case import has
 
 if has("numpy"):
     import numpy
-    from gaffcurrant_plant.enclosing import Ways
+    from gaffcurrant_plant.ways.enclosure import Ways
 
 NAMES = ("sin", "cos", "tan", "asin", "acos", "atan", "atan2", "sinh", "cosh", "tanh", "sqrt", "exp", "log", "pi")
 FUNCTIONS = {name: getattr(math, name) for name in NAMES}

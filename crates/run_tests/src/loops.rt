@@ -83,7 +83,7 @@ fn is_followed(text: &PackedText, start: i64) -> bool {
         {
             return false;
         }
-        state = next;
+        state[0] = next[0];
     }
     true
 }
