@@ -1,5 +1,5 @@
-/* Counts the calls of malloc, calloc, realloc and free by each call of the library (linked with --wrap): prints whether only gaffcurrant_open and
-   gaffcurrant_close make any. */
+/* Counts the calls of malloc, calloc, realloc and free by each call of the library (linked with --wrap): prints whether
+   only gaffcurrant_open and gaffcurrant_close make any. */
 #include <stdio.h>
 #include <stdlib.h>
 #include "gaffcurrant.h"
@@ -35,7 +35,8 @@ int main(int count, char **words)
     for (int64_t x = -1000; x < 1000; x++) {
         for (uint32_t i = 0; i < 6; i++) state[i] = x, states_of_two[i] = states_of_two[6 + i] = x;
         gaffcurrant_visit(&c, state, states, &turn);
-        if (gaffcurrant_control(&c, state, states, input, inputs) == GAFFCURRANT_APPLY) gaffcurrant_follows(&c, state, states, input, inputs, state, states);
+        if (gaffcurrant_control(&c, state, states, input, inputs) == GAFFCURRANT_APPLY)
+            gaffcurrant_follows(&c, state, states, input, inputs, state, states);
         gaffcurrant_control_each(&c, states_of_two, 2 * states, inputs_of_two, 2 * inputs, replies, 2);
         gaffcurrant_rank(&c, state, states, &rank);
         gaffcurrant_begin_turn(&c, 0);

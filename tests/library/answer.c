@@ -1,5 +1,5 @@
-/* By a table: reads states, one a line, and prints for each the reply, the rank and the inputs to apply, as `1 12 100 -3`. Then it asks for all at
-   once, and prints whether that told the same. */
+/* By a table: reads states, one a line, and prints for each the reply, the rank and the inputs to apply, as `1 12 100
+   -3`. Then it asks for all at once, and prints whether that told the same. */
 #include <inttypes.h>
 #include <stdio.h>
 #include <stdlib.h>
@@ -60,7 +60,8 @@ int main(int count, char **words)
     /* All at once: the same replies, the same inputs, and no other number is written. */
     for (size_t k = 0; k < MOST * 3; k++) inputs[k] = 77;
     for (size_t k = 0; k < MOST; k++) replies[k] = 77;
-    status = gaffcurrant_control_each(&controller, states, many * state_count, inputs, many * input_count, replies, many);
+    status = gaffcurrant_control_each(&controller, states, many * state_count, inputs, many * input_count, replies,
+                                      many);
     int is_same = status == 0;
     for (size_t k = 0; k < many; k++) {
         is_same = is_same && replies[k] == reply[k];

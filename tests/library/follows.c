@@ -1,8 +1,11 @@
-/* By a text: reads a state, inputs and a next state, one line each, and prints for each line what gaffcurrant_follows answers. */
+/* By a text: reads a state, inputs and a next state, one line each, and prints for each line what gaffcurrant_follows
+   answers. */
 #include <inttypes.h>
 #include <stdio.h>
 #include <stdlib.h>
 #include "gaffcurrant.h"
+
+static const int32_t WRONG = GAFFCURRANT_WRONG_SIZE;
 
 int main(int count, char **words)
 {
@@ -30,9 +33,13 @@ int main(int count, char **words)
         /* Any other number of states, inputs or next states is a wrong size, whatever the numbers are. */
         for (uint32_t n = 0; n <= 6; n++)
             for (uint32_t m = 0; m <= 3; m++)
-                if ((n != states && gaffcurrant_follows(&controller, state, n, input, m, next, states) != GAFFCURRANT_WRONG_SIZE)
-                    || (n != states && gaffcurrant_follows(&controller, state, states, input, m, next, n) != GAFFCURRANT_WRONG_SIZE)
-                    || (m != inputs && gaffcurrant_follows(&controller, state, states, input, m, next, states) != GAFFCURRANT_WRONG_SIZE)) return 1;
+                if (n != states
+                    && (gaffcurrant_follows(&controller, state, n, input, m, next, states) != WRONG
+                        || gaffcurrant_follows(&controller, state, states, input, m, next, n) != WRONG))
+                    return 1;
+                else if (m != inputs
+                         && gaffcurrant_follows(&controller, state, states, input, m, next, states) != WRONG)
+                    return 1;
     }
     gaffcurrant_close(&controller);
     return gaffcurrant_follows(&controller, NULL, 0, NULL, 0, NULL, 0) != GAFFCURRANT_CLOSED;

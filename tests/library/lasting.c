@@ -1,4 +1,5 @@
-/* Opens and closes a table ROUNDS times, in turn with a cut text, and prints whether the memory that malloc has given is the same after each tenth. */
+/* Opens and closes a table ROUNDS times, in turn with a cut text, and prints whether the memory that malloc has given
+   is the same after each tenth. */
 #include <malloc.h>
 #include <stdio.h>
 #include <stdlib.h>

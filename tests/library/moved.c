@@ -1,4 +1,5 @@
-/* Opens a table in one thread, asks in others, one after the other, and closes it in a last one: prints whether each was told the same. */
+/* Opens a table in one thread, asks in others, one after the other, and closes it in a last one: prints whether each
+   was told the same. */
 #include <pthread.h>
 #include <stdio.h>
 #include <stdlib.h>

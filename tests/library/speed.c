@@ -1,5 +1,6 @@
-/* Beside control.c, by a table of tools/header (table.h) and its text: prints whether both answer the same, milliseconds to open, bytes held, and
-   nanoseconds a step of the library, of its call for many states at once, of control.c, and of gaffcurrant_follows. */
+/* Beside control.c, by a table of tools/header (table.h) and its text: prints whether both answer the same,
+   milliseconds to open, bytes held, and nanoseconds a step of the library, of its call for many states at once, of
+   control.c, and of gaffcurrant_follows. */
 #include <stdio.h>
 #include <stdlib.h>
 #include <string.h>
@@ -53,25 +54,29 @@ int main(int count, char **words)
     }
     /* Steps from each state under an input vector to another state. */
     for (int k = 0; k < MANY; k++) {
-        if (gaffcurrant_control(&c, states[k], STATES, inputs[k], INPUTS) != GAFFCURRANT_APPLY) memcpy(inputs[k], last, sizeof last);
-        is_same = is_same && gaffcurrant_follows(&c, states[k], STATES, inputs[k], INPUTS, states[(k + 1) % MANY], STATES) >= 0;
+        if (gaffcurrant_control(&c, states[k], STATES, inputs[k], INPUTS) != GAFFCURRANT_APPLY)
+            memcpy(inputs[k], last, sizeof last);
+        const int64_t *next = states[(k + 1) % MANY];
+        is_same = is_same && gaffcurrant_follows(&c, states[k], STATES, inputs[k], INPUTS, next, STATES) >= 0;
     }
     double at[5];
     at[0] = seconds();
     for (int r = 0; r < ROUNDS; r++)
         for (int k = 0; k < MANY; k++) sum += gaffcurrant_control(&c, states[k], STATES, value, INPUTS);
     at[1] = seconds();
-    for (int r = 0; r < ROUNDS; r++) sum += gaffcurrant_control_each(&c, states[0], MANY * STATES, values, MANY * INPUTS, replies, MANY);
+    for (int r = 0; r < ROUNDS; r++)
+        sum += gaffcurrant_control_each(&c, states[0], MANY * STATES, values, MANY * INPUTS, replies, MANY);
     at[2] = seconds();
     for (int r = 0; r < ROUNDS; r++)
         for (int k = 0; k < MANY; k++) sum += control(states[k], value);
     at[3] = seconds();
     for (int r = 0; r < ROUNDS; r++)
-        for (int k = 0; k < MANY; k++) sum += gaffcurrant_follows(&c, states[k], STATES, inputs[k], INPUTS, states[(k + 1) % MANY], STATES);
+        for (int k = 0; k < MANY; k++)
+            sum += gaffcurrant_follows(&c, states[k], STATES, inputs[k], INPUTS, states[(k + 1) % MANY], STATES);
     at[4] = seconds();
     double each = 1e9 / (MANY * (double)ROUNDS);
     gaffcurrant_close(&c);
-    printf("%s %.2f %zu %.1f %.1f %.1f %.1f %ld\n", is_same ? "same" : "differ", opening * 1e3, held, (at[1] - at[0]) * each, (at[2] - at[1]) * each, (at[3] - at[2]) * each,
-           (at[4] - at[3]) * each, sum & 1);
+    printf("%s %.2f %zu %.1f %.1f %.1f %.1f %ld\n", is_same ? "same" : "differ", opening * 1e3, held,
+           (at[1] - at[0]) * each, (at[2] - at[1]) * each, (at[3] - at[2]) * each, (at[4] - at[3]) * each, sum & 1);
     return 0;
 }

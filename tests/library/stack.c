@@ -1,5 +1,5 @@
-/* Opens a text, asks and closes in a thread that has KIB of stack and no more, with a page behind them that can't be touched: prints what opening
-   answers and how many KiB were touched. */
+/* Opens a text, asks and closes in a thread that has KIB of stack and no more, with a page behind them that can't be
+   touched: prints what opening answers and how many KiB were touched. */
 #include <inttypes.h>
 #include <pthread.h>
 #include <stdio.h>

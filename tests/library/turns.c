@@ -1,5 +1,5 @@
-/* By a text along a run: reads states, one a line, visits each but the first, and prints for each whether a turn began, the turn that is due, the reply,
-   the rank and the inputs to apply, as `1 0 1 12 100 -3`. */
+/* By a text along a run: reads states, one a line, visits each but the first, and prints for each whether a turn began,
+   the turn that is due, the reply, the rank and the inputs to apply, as `1 0 1 12 100 -3`. */
 #include <inttypes.h>
 #include <stdio.h>
 #include <stdlib.h>
@@ -27,7 +27,8 @@ int main(int count, char **words)
         for (uint32_t i = 0; i < states; i++) state[i] = strtoll(rest, &rest, 10);
         int32_t visit = sample ? gaffcurrant_visit(&controller, state, states, &turn) : 0;
         /* A visit of a wrong size leaves the turn, and tells it. */
-        if (gaffcurrant_visit(&controller, state, states + 1, &same) != GAFFCURRANT_WRONG_SIZE || same != turn) return 1;
+        if (gaffcurrant_visit(&controller, state, states + 1, &same) != GAFFCURRANT_WRONG_SIZE || same != turn)
+            return 1;
         int32_t reply = gaffcurrant_control(&controller, state, states, input, inputs);
         if ((gaffcurrant_rank(&controller, state, states, &rank) == 1) != (reply >= 0)) return 1;
         printf("%" PRId32 " %" PRIu32 " %" PRId32 " %" PRIu32, visit, turn, reply, rank);

@@ -1,4 +1,5 @@
-/* Right and wrong uses by a table of two states and one input (examples/cart): prints each answer that isn't the one that the header tells. */
+/* Right and wrong uses by a table of two states and one input (examples/cart): prints each answer that isn't the one
+   that the header tells. */
 #include <inttypes.h>
 #include <stdio.h>
 #include <stdlib.h>
@@ -49,7 +50,8 @@ static void expect_refused(struct gaffcurrant *c, const uint8_t *bytes, size_t l
 
 static void expect_open(struct gaffcurrant *c)
 {
-    int64_t state[6] = {395, 55, 0, 0, 0, 0}, input[3] = {77, 77, 77}, far[2] = {INT64_MIN, INT64_MAX}, two[4] = {395, 55, INT64_MAX, 0}, values[2] = {77, 77};
+    int64_t state[6] = {395, 55, 0, 0, 0, 0}, input[3] = {77, 77, 77}, values[2] = {77, 77};
+    int64_t far[2] = {INT64_MIN, INT64_MAX}, two[4] = {395, 55, INT64_MAX, 0};
     int32_t replies[2] = {77, 77};
     uint32_t states = 9, inputs = 9, rank = 9, turn = 9;
     expect("sizes", 0, gaffcurrant_sizes(c, &states, &inputs));
@@ -134,7 +136,8 @@ int main(int count, char **words)
         /* Each byte of the text changed: no table, or another one. */
         memcpy(other, text, length), other[k] ^= 1;
         int32_t status = gaffcurrant_open(&c, other, length, &line);
-        expect("a changed byte", 1, status >= 0 && status <= 2 && c.is_open == (status == 0) && (line > 0) == (status == 1));
+        int is_told = c.is_open == (status == 0) && (line > 0) == (status == 1);
+        expect("a changed byte", 1, status >= 0 && status <= 2 && is_told);
         if (k > 400) k += 97;
     }
     expect("open at last", 0, gaffcurrant_open(&c, text, length, &line));

@@ -3,7 +3,8 @@ calls it, with what it made:
 
     hand_on.py install PREFIX --made FOLDER --verdicts FILE    puts them below PREFIX, or below $DESTDIR/PREFIX
     hand_on.py uninstall PREFIX                                takes away what the list there names
-    hand_on.py archive FOLDER --made FOLDER --verdicts FILE    makes an archive for each processor, sums, and the page PROOF
+    hand_on.py archive FOLDER --made FOLDER --verdicts FILE    makes an archive for each processor, sums, and the page \
+PROOF
 
 FOLDER/PROCESSOR of --made holds the program, the library and what the proofs said; the file of --verdicts, the lines of
 the crates in the current folder."""
@@ -50,8 +51,23 @@ def install(top, entries):
 
 
 def uninstall(top):
-    """Takes away what the list names: files, what Python compiled of them, and the folders that were made for them, where
-    these are then empty."""
+    """Takes away what the list names: files, what Python compiled of them, and the folders that were made for them,
+    where these are then empty."""
+    names = listed(top)
+    files = [top / name for name in names if not name.endswith("/")]
+    folders = [top / name for name in names if name.endswith("/")]
+    caches = {path.parent / "__pycache__" for path in files if path.suffix == ".py"}
+    for path in filter(os.path.lexists, files):
+        path.unlink()
+        for compiled in (path.parent / "__pycache__").glob(f"{path.stem}.*.pyc") if path.suffix == ".py" else ():
+            compiled.unlink()
+    for folder in [*caches, *reversed(folders)]:
+        if folder.is_dir() and not folder.is_symlink() and not any(folder.iterdir()):
+            folder.rmdir()
+
+
+def listed(top):
+    """The names in the list of what was installed below a folder."""
     try:
         names = (top / tree.LIST).read_text().splitlines()
     except FileNotFoundError:
@@ -59,19 +75,7 @@ def uninstall(top):
     for name in names:
         if name.startswith("/") or ".." in Path(name).parts:
             raise Trouble(f"{top / tree.LIST} names {name}, which doesn't lie below {top}")
-    caches = set()
-    for name in names:
-        path = top / name
-        if not name.endswith("/") and os.path.lexists(path):
-            path.unlink()
-            if path.suffix == ".py":
-                compiled = path.parent / "__pycache__"
-                caches.add(compiled)
-                for file in compiled.glob(f"{path.stem}.*.pyc"):
-                    file.unlink()
-    for folder in [*caches, *reversed([top / name for name in names if name.endswith("/")])]:
-        if folder.is_dir() and not folder.is_symlink() and not any(folder.iterdir()):
-            folder.rmdir()
+    return names
 
 
 def time_of(known):
@@ -86,8 +90,18 @@ def archive(folder, entries, name, time):
         top = Path(room) / name
         top.mkdir()
         tree.write(entries, top)
-        pack = ["tar", "--create", "--format=gnu", "--sort=name", f"--mtime={time}", "--owner=0", "--group=0",
-                "--numeric-owner", "--mode=u=rwX,go=rX", name]
+        pack = [
+            "tar",
+            "--create",
+            "--format=gnu",
+            "--sort=name",
+            f"--mtime={time}",
+            "--owner=0",
+            "--group=0",
+            "--numeric-owner",
+            "--mode=u=rwX,go=rX",
+            name,
+        ]
         press = ["xz", "--threads=1", "-9", "--check=crc64"]
         with open(folder / f"{name}.tar.xz", "wb") as file:
             packed = subprocess.Popen(pack, cwd=room, stdout=subprocess.PIPE, env=os.environ | {"LC_ALL": "C"})

@@ -12,8 +12,8 @@ INCLUDE = "#include <gaffcurrant.h>"
 
 
 class Pages:
-    """Pages of one version, for the programs gaffcurrant-NAME by their names: each method answers them as texts by their
-    files' names."""
+    """Pages of one version, for the programs gaffcurrant-NAME by their names: each method answers them as texts by
+    their files' names."""
 
     def __init__(self, version, date, programs):
         self.version, self.date = version, date
@@ -64,27 +64,49 @@ class Pages:
         """A page of the whole header, and one of each call, by the comment that stands before it."""
         whole, *_ = re.match(r"/\* gaffcurrant\.h: (.*?)\*/", header, re.DOTALL).groups()
         comment = r"^/\* ((?:(?!\*/).)*)\*/\n"
-        calls = re.findall(rf"{comment}((?:u?int32_t|void) (gaffcurrant_\w+)\([^;]*\);)", header, re.DOTALL | re.MULTILINE)
+        calls = re.findall(
+            rf"{comment}((?:u?int32_t|void) (gaffcurrant_\w+)\([^;]*\);)", header, re.DOTALL | re.MULTILINE
+        )
         answers = re.findall(r"^#define (GAFFCURRANT_\w+) +(\(?-?\d+\)?) */\* (.*?) \*/$", header, re.MULTILINE)
-        (said, struct), = re.findall(rf"{comment}(struct gaffcurrant \{{.*?\}};)", header, re.DOTALL | re.MULTILINE)
+        ((said, struct),) = re.findall(rf"{comment}(struct gaffcurrant \{{.*?\}};)", header, re.DOTALL | re.MULTILINE)
         names = [name for *_, name in calls]
         first, *rest = paragraphs(whole)
-        lines = [self.title("gaffcurrant", 3), *self.head("gaffcurrant", first.rstrip(".")), *verbatim(INCLUDE), ".PP",
-                 *verbatim(struct), ".PP", *verbatim("\n".join(call for _, call, _ in calls)),
-                 ".SH DESCRIPTION", *told(rest + paragraphs(said)), ".SH ANSWERS"]
+        lines = [
+            self.title("gaffcurrant", 3),
+            *self.head("gaffcurrant", first.rstrip(".")),
+            *verbatim(INCLUDE),
+            ".PP",
+            *verbatim(struct),
+            ".PP",
+            *verbatim("\n".join(call for _, call, _ in calls)),
+            ".SH DESCRIPTION",
+            *told(rest + paragraphs(said)),
+            ".SH ANSWERS",
+        ]
         for name, number, what in answers:
             lines += [".TP", f".B {plain(name)} {plain(number.strip('()'))}", plain(what)]
         pages = {"gaffcurrant.3": joined(lines + see_also([f"{name}(3)" for name in names]))}
         for comment, call, name in calls:
             said = paragraphs(comment)
             first = said[0].partition(". ")[0].rstrip(".")
-            pages[f"{name}.3"] = joined([self.title(name, 3), *self.head(name, first), *verbatim(INCLUDE), ".PP", *verbatim(call),
-                                         ".SH DESCRIPTION", *told(said), *see_also(["gaffcurrant(3)"])])
+            pages[f"{name}.3"] = joined(
+                [
+                    self.title(name, 3),
+                    *self.head(name, first),
+                    *verbatim(INCLUDE),
+                    ".PP",
+                    *verbatim(call),
+                    ".SH DESCRIPTION",
+                    *told(said),
+                    *see_also(["gaffcurrant(3)"]),
+                ]
+            )
         return pages
 
 
 def plain(text):
-    """Text as troff prints it: backslashes, signs that it would make others of, and lines that it would take for its own."""
+    """Text as troff prints it: backslashes, signs that it would make others of, and lines that it would take for its
+    own."""
     for sign, name in SIGNS.items():
         text = text.replace(sign, name)
     return re.sub(r"^(?=\.)", r"\\&", text, flags=re.MULTILINE)

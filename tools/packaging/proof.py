@@ -30,7 +30,8 @@ Sums (SHA-256) of what was built of the proved crates:
 
 ## Verdicts
 
-The last line that the kit's prover printed of each crate, in `rt ci`, which proves from nothing. `functions` counts those
+The last line that the kit's prover printed of each crate, in `rt ci`, which proves from nothing. `functions` counts \
+those
 that were proved. A word with `=trusted` names what was taken as it was built: the kit's logic, and the libraries below,
 whose own lines stand here.
 
@@ -47,7 +48,8 @@ For the processors, whose files stand above:
 ## What this page rests on
 
 It was written by the program that made the files, on the machine on which the crates were proved. Nothing signs it, and
-no part of it can be checked without the kit. With the kit, `./gaffcurrant --archive FOLDER` in a clone of the commit makes
+no part of it can be checked without the kit. With the kit, `./gaffcurrant --archive FOLDER` in a clone of the commit \
+makes
 all of it again.
 """
 
@@ -55,12 +57,21 @@ all of it again.
 def page(about, made, processors, lines):
     """The page of what lies in made/PROCESSOR, with the verdict lines of the crates by their names."""
     names = verdicts.needed(Path(), ROOTS)
-    logs = [(processor, log.read_text()) for processor in processors for log in sorted((made / processor).glob("*.log"))]
+    logs = [
+        (processor, log.read_text()) for processor in processors for log in sorted((made / processor).glob("*.log"))
+    ]
     built = [f"{processor} {line}" for processor, log in logs for line in log.splitlines() if line.startswith("logic=")]
     logic = re.search(r"^logic \S+: (.*)$", logs[0][1], re.M)
-    return PAGE.format(about=about, logic=logic.group(1) if logic else "not told", trusted=trusted(), built=indented(built),
-                       files=indented(f"{sum_of(made / processor / name)}  {name} ({processor})" for processor in processors for name in FILES),
-                       verdicts=indented(f"{name} {lines.get(name, LACKING)}" for name in names))
+    return PAGE.format(
+        about=about,
+        logic=logic.group(1) if logic else "not told",
+        trusted=trusted(),
+        built=indented(built),
+        files=indented(
+            f"{sum_of(made / processor / name)}  {name} ({processor})" for processor in processors for name in FILES
+        ),
+        verdicts=indented(f"{name} {lines.get(name, LACKING)}" for name in names),
+    )
 
 
 def sum_of(path):

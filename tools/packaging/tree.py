@@ -9,7 +9,7 @@ from pathlib import Path
 from typing import NamedTuple
 
 from manual import Pages
-from wheel import module_files, programs
+from plain_wheel import module_files, programs
 
 TOP = Path(__file__).resolve().parents[2]
 TOOLS = TOP / "tools"
@@ -58,6 +58,7 @@ class Link(NamedTuple):
 
 class About(NamedTuple):
     """What the tree is made of."""
+
     version: str
     date: str
     commit: str
@@ -86,18 +87,35 @@ def commit():
 
 
 def tree_of(made, known, processor, page):
-    """The files and links by their paths. In the folder `made` lie the program and the library for the processor; `known` is
-    the About, and page is what was proved."""
+    """The files and links by their paths. In the folder `made` lie the program and the library for the processor;
+    `known` is the About, and page is what was proved."""
     names = [path.name for path in programs()]
-    return (programs_of(made, known, processor, names) | library_of(made, known) | module() | manual_of(known, names)
-            | completion_of(names) | documents() | {f"{DOCUMENTS}/PROOF": File(page.encode())})
+    return (
+        programs_of(made, known, processor, names)
+        | library_of(made, known)
+        | module()
+        | manual_of(known, names)
+        | completion_of(names)
+        | documents()
+        | {f"{DOCUMENTS}/PROOF": File(page.encode())}
+    )
 
 
 def programs_of(made, known, processor, names):
-    said = "\n".join([f"gaffcurrant {known.version}", f"commit: {known.commit}", f"kit: {known.kit}",
-                      f"program: proved, for Linux on {processor}; {DOCUMENTS}/PROOF has the verdicts", ""])
-    tree = {"bin/gaffcurrant": File(launcher().encode(), 0o755), "lib/gaffcurrant/version": File(said.encode()),
-            "lib/gaffcurrant/gaffcurrant": File((made / "gaffcurrant").read_bytes(), 0o755)}
+    said = "\n".join(
+        [
+            f"gaffcurrant {known.version}",
+            f"commit: {known.commit}",
+            f"kit: {known.kit}",
+            f"program: proved, for Linux on {processor}; {DOCUMENTS}/PROOF has the verdicts",
+            "",
+        ]
+    )
+    tree = {
+        "bin/gaffcurrant": File(launcher().encode(), 0o755),
+        "lib/gaffcurrant/version": File(said.encode()),
+        "lib/gaffcurrant/gaffcurrant": File((made / "gaffcurrant").read_bytes(), 0o755),
+    }
     tree |= {f"lib/gaffcurrant/{path.name}": File(path.read_bytes(), 0o755) for path in programs()}
     return tree | {f"bin/gaffcurrant-{name}": Link(f"../lib/gaffcurrant/{name}") for name in names}
 
@@ -119,11 +137,14 @@ def function(script, name):
 
 def library_of(made, known):
     name = f"libgaffcurrant.so.{known.version}"
-    return {"lib/libgaffcurrant.a": File((made / "libgaffcurrant.a").read_bytes()),
-            f"lib/{name}": File((made / "libgaffcurrant.so").read_bytes(), 0o755),
-            f"lib/libgaffcurrant.so.{known.version.split('.')[0]}": Link(name), "lib/libgaffcurrant.so": Link(name),
-            "include/gaffcurrant.h": File((TOP / "include/gaffcurrant.h").read_bytes()),
-            "lib/pkgconfig/gaffcurrant.pc": File((PKG_CONFIG % known.version).encode())}
+    return {
+        "lib/libgaffcurrant.a": File((made / "libgaffcurrant.a").read_bytes()),
+        f"lib/{name}": File((made / "libgaffcurrant.so").read_bytes(), 0o755),
+        f"lib/libgaffcurrant.so.{known.version.split('.')[0]}": Link(name),
+        "lib/libgaffcurrant.so": Link(name),
+        "include/gaffcurrant.h": File((TOP / "include/gaffcurrant.h").read_bytes()),
+        "lib/pkgconfig/gaffcurrant.pc": File((PKG_CONFIG % known.version).encode()),
+    }
 
 
 def module():
@@ -165,7 +186,11 @@ def completion_of(names):
 def documents():
     """The repository's documents and examples; of a clone those that are its own."""
     own = git("ls-files", "-z", *KEPT)
-    paths = own.split("\0")[:-1] if own else [str(path.relative_to(TOP)) for one in KEPT for path in (TOP / one, *(TOP / one).rglob("*"))]
+    paths = (
+        own.split("\0")[:-1]
+        if own
+        else [str(path.relative_to(TOP)) for one in KEPT for path in (TOP / one, *(TOP / one).rglob("*"))]
+    )
     paths = [path for path in paths if path not in LEFT and "__pycache__" not in path and (TOP / path).is_file()]
     return {f"{DOCUMENTS}/{path}": document(TOP / path) for path in sorted(paths)}
 

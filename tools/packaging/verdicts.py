@@ -1,9 +1,9 @@
-"""Keeps the verdict line of each crate, as the kit's gate prints it, by a sum of what the verdict is about: the kit, the
-crate's files, and those of the crates below. The gate prints no line of a crate that an earlier run proved, so its line of
-then is kept here. In a folder with crates.txt:
+"""Keeps the verdict line of each crate, as the kit's gate prints it, by a sum of what the verdict is about: the kit,
+the crate's files, and those of the crates below. The gate prints no line of a crate that an earlier run proved, so its
+line of then is kept here. In a folder with crates.txt:
 
-    rt ci | verdicts.py keep FILE    hands on what `rt ci` prints, and keeps the lines of the crates that it proves in the file
-    verdicts.py lacking FILE         prints the crates whose line isn't in the file
+rt ci | verdicts.py keep FILE    hands on what `rt ci` prints, and keeps the lines of the crates that it proves in the
+file verdicts.py lacking FILE         prints the crates whose line isn't in the file
 
 No line is kept of a crate whose files have changed meanwhile."""
 
@@ -30,7 +30,9 @@ def kit():
 
 def crates(top):
     """The crates of crates.txt, lowest first: each one's line, and the crates that it names."""
-    lines = [line for line in (top / "crates.txt").read_text().splitlines() if line.strip() and not line.startswith("#")]
+    lines = [
+        line for line in (top / "crates.txt").read_text().splitlines() if line.strip() and not line.startswith("#")
+    ]
     named = {line.split(":")[0].split()[0]: line for line in lines}
     below = {name: line.split(":", 1)[1].split() for name, line in named.items()}
     return {name: (line, [one for one in below[name] if one in named]) for name, line in named.items()}
@@ -90,7 +92,9 @@ def keep(top, file, log):
         sys.stdout.flush()
         lines.append(line)
     verdicts, after = said("".join(lines)), sums(top)
-    new = {(name, before[name]): verdicts[name] for name in verdicts if name in before and before[name] == after.get(name)}
+    new = {
+        (name, before[name]): verdicts[name] for name in verdicts if name in before and before[name] == after.get(name)
+    }
     if new:
         old = {key: line for key, line in kept(file).items() if key not in new}
         all_of_them = [f"{name} {of_files} {line}\n" for (name, of_files), line in (old | new).items()]

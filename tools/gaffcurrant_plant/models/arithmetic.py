@@ -1,0 +1,249 @@
+"""The functions of formulas over real numbers, as floats, and over intervals that hold every value for sure, by
+mpmath's interval arithmetic (Debian: python3-mpmath)."""
+
+import bisect
+import math
+from fractions import Fraction
+
+from ..faults import Trouble
+from .formula import parts_of, text_of
+
+# Ends of intervals are fractions: a number of more bits before or behind the point would fill the memory, and help no
+# plant.
+MOST_BITS, FEWEST_BITS = 1000, 20_000
+
+
+def load_mpmath():
+    """mpmath's intervals; raises Trouble where it isn't there."""
+    try:
+        import mpmath
+    except ImportError:
+        raise Trouble(
+            "functions and differential equations need mpmath; on Debian: apt-get install python3-mpmath"
+        ) from None
+    mpmath.iv.prec = 80
+    return mpmath.iv
+
+
+def lut_value(points, value):
+    """The value of straight pieces between points: beyond them the first or the last one's."""
+    k = bisect.bisect_right(points, value, key=lambda point: point[0])
+    if k in (0, len(points)):
+        return points[min(k, len(points) - 1)][1]
+    (x, y), (next_x, next_y) = points[k - 1], points[k]
+    return y + (next_y - y) / (next_x - x) * (value - x)
+
+
+def lut_ends(points, low, high):
+    """The ends of the values of straight pieces from low to high."""
+    values = [lut_value(points, low), lut_value(points, high)] + [y for x, y in points if low < x < high]
+    return min(values), max(values)
+
+
+def slope_ends(points, low, high):
+    """The ends of the slopes of the straight pieces that meet what lies from low to high."""
+    slopes = [
+        (next_y - y) / (next_x - x)
+        for (x, y), (next_x, next_y) in zip(points, points[1:])
+        if x <= high and low <= next_x
+    ]
+    slopes += [Fraction(0)] * (low <= points[0][0] or high >= points[-1][0])
+    return min(slopes), max(slopes)
+
+
+class Floats:
+    """Real numbers as floats."""
+
+    least, greatest, size = staticmethod(min), staticmethod(max), staticmethod(abs)
+
+    @staticmethod
+    def number(value):
+        return float(value)
+
+    @staticmethod
+    def square(value):
+        return value * value
+
+    @staticmethod
+    def sign(value):
+        return (value > 0) - (value < 0)
+
+    @staticmethod
+    def held(_, new):
+        return new
+
+    @staticmethod
+    def atan2(one, other, _):
+        return math.atan2(one, other)
+
+    @staticmethod
+    def call(function, value, _):
+        """A function's value, no number where it has none."""
+        try:
+            if function[0] == "lut":
+                return float(lut_value(function[1], value))
+            if function[0] == "slope":
+                return float(slope_ends(function[1], value, value)[1])
+            found = getattr(math, function)(value) if isinstance(function, str) else value ** float(function[1])
+        except (ArithmeticError, ValueError):
+            return math.nan
+        return found if isinstance(found, float) else math.nan
+
+
+class Exact(Floats):
+    """Fractions, for formulas without functions."""
+
+    @staticmethod
+    def number(value):
+        return value
+
+
+def is_exact(node):
+    """Whether a formula has sums, products, min, max and abs alone."""
+    return node[0] not in ("call", "atan2") and all(map(is_exact, parts_of(node)))
+
+
+class Intervals:
+    """Intervals by mpmath, from fractions and back."""
+
+    def __init__(self):
+        self.iv, self.numbers = load_mpmath(), {}
+
+    def number(self, value):
+        if value not in self.numbers:
+            exact = Fraction(value)
+            self.numbers[value] = self.iv.mpf(exact.numerator) / self.iv.mpf(exact.denominator)
+        return self.numbers[value]
+
+    def between(self, low, high):
+        return self.hull(self.number(low), self.number(high))
+
+    def hull(self, *intervals):
+        return self.iv.mpf([min(one.a for one in intervals), max(one.b for one in intervals)])
+
+    def common(self, one, other):
+        """The common part of two intervals that both hold a value."""
+        return self.iv.mpf([max(one.a, other.a), min(one.b, other.b)])
+
+    def ends(self, interval):
+        """The two ends as fractions; raises Trouble where one is infinite."""
+        return tuple(map(fraction_of, interval._mpi_))
+
+    def square(self, value):
+        return value**2
+
+    def size(self, value):
+        low, high = value.a, value.b
+        if low >= 0:
+            return value
+        return -value if high <= 0 else self.iv.mpf([0, max(-low, high)])
+
+    def least(self, one, other):
+        return self.iv.mpf([min(one.a, other.a), min(one.b, other.b)])
+
+    def greatest(self, one, other):
+        return self.iv.mpf([max(one.a, other.a), max(one.b, other.b)])
+
+    def sign(self, value):
+        return self.iv.mpf(
+            [-1 if value.a < 0 else 0 if value.a == 0 else 1, 1 if value.b > 0 else 0 if value.b == 0 else -1]
+        )
+
+    # Functions that rise or fall all over, but for cosh, from those that mpmath has for intervals.
+    BY_ENDS = {
+        "atan": lambda iv, x: iv.atan2(x, iv.mpf(1)),
+        "asin": lambda iv, x: iv.atan2(x, iv.sqrt(1 - x**2)),
+        "acos": lambda iv, x: iv.atan2(iv.sqrt(1 - x**2), x),
+        "sinh": lambda iv, x: (iv.exp(x) - iv.exp(-x)) / 2,
+        "cosh": lambda iv, x: (iv.exp(x) + iv.exp(-x)) / 2,
+        "tanh": lambda iv, x: 1 - 2 / (iv.exp(2 * x) + 1),
+    }
+
+    def by_ends(self, name, value):
+        """A function that rises or falls all over, by the interval's ends; cosh has its least value, 1, at 0."""
+        at_ends = [self.BY_ENDS[name](self.iv, self.iv.mpf([end, end])) for end in (value.a, value.b)]
+        least = [self.iv.mpf(1)] if name == "cosh" and value.a <= 0 <= value.b else []
+        return self.hull(*at_ends, *least)
+
+    def atan2(self, one, other, node):
+        if one.a <= 0 <= one.b and other.a <= 0:
+            raise Trouble(
+                f"`{text_of(node)}` jumps where its first argument is 0 and its second below it, and these may "
+                "be so; narrower ranges do it"
+            )
+        return self.iv.atan2(one, other)
+
+    def call(self, function, value, argument):
+        low, high = self.ends(value)
+        if function[0] in ("lut", "slope"):
+            return self.between(*(lut_ends if function[0] == "lut" else slope_ends)(function[1], low, high))
+        name = function if isinstance(function, str) else f"power {function[1]}"
+        is_whole = not isinstance(function, str) and function[1].denominator == 1
+        if (
+            name in ("sqrt", "log")
+            and low <= 0
+            or not isinstance(function, str)
+            and (low <= 0 if not is_whole else low <= 0 <= high)
+        ):
+            raise Trouble(off_zero(function, low, high, argument))
+        if name == "tan" and high - low >= 3 or name == "tan" and self.iv.cos(value).a <= 0 <= self.iv.cos(value).b:
+            raise Trouble(
+                f"what stands in `tan({text_of(argument)})` may lie between {float(low):.4g} and "
+                f"{float(high):.4g}, with a pole between; a narrower range does it, or tan(max(-1.5, "
+                "min(1.5, "
+                f"{text_of(argument)})))"
+            )
+        if name in ("asin", "acos") and not -1 < low <= high < 1:
+            raise Trouble(
+                f"what stands in `{name}({text_of(argument)})` may lie between {float(low):.4g} and "
+                f"{float(high):.4g}, and has to be within -1 and 1; {name}(max(-0.999, min(0.999, "
+                f"{text_of(argument)}))) does it"
+            )
+        if name in self.BY_ENDS:
+            return self.by_ends(name, value)
+        if isinstance(function, str):
+            return getattr(self.iv, name)(value)
+        if is_whole:
+            return 1 / value ** int(-function[1]) if function[1] < 0 else value ** int(function[1])
+        return self.iv.exp(self.iv.log(value) * self.number(function[1]))
+
+
+def off_zero(function, low, high, argument):
+    """What to say of a root, a logarithm or a quotient whose argument may be 0, or below it, and what would do."""
+    text, least = text_of(argument), f"{max(float(high), 1.0) / 100:.1g}"
+    ends = f"between {float(low):.4g} and {float(high):.4g}"
+    if function == ("power", Fraction(-1)):
+        # What is below 0 by a measurement's rounding alone keeps to one side.
+        clipped = (
+            f"; a `max` does it, as in 1 / max({text}, {least})"
+            if low * 500 >= -high
+            else f", as 1 / max({text}, {least}) does, or 1 / min({text}, -{least})"
+        )
+        return f"the divisor `{text}` may lie {ends}, and has to keep off 0{clipped}"
+    if isinstance(function, str):
+        return (
+            f"what stands in `{function}({text})` may lie {ends}, and has to be above 0; a `max` does it, as in "
+            f"{function}(max({text}, {least}))"
+        )
+    sign = "keep off 0" if function[1].denominator == 1 else "be above 0"
+    return (
+        f"what stands in the power `{text if text.isidentifier() else f'({text})'}^{float(function[1]):g}` may "
+        f"lie {ends}, and has to {sign}; a `max` does it, as in max({text}, {least})"
+    )
+
+
+def fraction_of(parts):
+    """The fraction of an end of an interval, by its sign, mantissa and exponent."""
+    sign, mantissa, exponent, _ = parts
+    if not mantissa:
+        if exponent:
+            raise Trouble("a bound is infinite: the ranges are too wide for a function, or reach its pole")
+        return Fraction(0)
+    size = int(mantissa).bit_length() + exponent
+    if not -FEWEST_BITS < size < MOST_BITS:
+        raise Trouble(
+            "a bound is past 10^300, or next to nothing: the sampling time is too long, or the ranges are too "
+            "wide for a function"
+        )
+    value = Fraction(int(mantissa)) * (Fraction(2) ** exponent)
+    return -value if sign else value

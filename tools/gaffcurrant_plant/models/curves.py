@@ -1,0 +1,266 @@
+"""Functions of one variable in the place of which straight pieces stand: points on the curve, a bound of what the
+pieces leave out, and their text as `lut`, or by `min` and `max` of lines.
+
+The bound is the textbook's of linear interpolation: between two points on a curve h that lie d apart the chord differs
+from h by at most d^2 / 8 times the greatest second derivative, below it where h bends down, above it where h bends up.
+The derivatives are bounded over each piece by interval arithmetic."""
+
+import math
+from fractions import Fraction
+from functools import lru_cache
+from itertools import combinations
+from typing import NamedTuple
+
+from ..faults import Trouble
+from .arithmetic import Floats, Intervals, lut_ends, lut_value, slope_ends
+from .formula import derivative, made, value_of
+
+LOOKED = 400
+
+
+def combined(one, other):
+    return one[0] + other[0], one[1] + other[1]
+
+
+def product(one, other):
+    ends = [a * b for a in one for b in other]
+    return min(ends), max(ends)
+
+
+def hull(intervals):
+    return min(one[0] for one in intervals), max(one[1] for one in intervals)
+
+
+class Argument(NamedTuple):
+    """The whole number that stands for a function's argument: its unit, its ends, and those of real value / unit -
+    whole number."""
+
+    unit: Fraction
+    low: int
+    high: int
+    error: tuple
+
+
+@lru_cache(maxsize=4096)
+def curve_of(function, argument, pieces, said):
+    """The Curve of a function; the same one is made once, for all plants that are tried."""
+    return (
+        Pieces(function[1], argument) if function[0] == "lut" else Curve(function, intervals(), argument, pieces, said)
+    )
+
+
+@lru_cache(maxsize=1)
+def intervals():
+    return Intervals()
+
+
+class Curve:
+    """A function of a whole number that stands for an argument: real argument / unit - whole number lies in `error`.
+
+    points: pairs of whole numbers; error_out: what (real value / unit_out - value of the pieces) may be, before any
+    rounding down."""
+
+    def __init__(self, function, maths, argument, pieces, said):
+        self.maths, self.unit, self.error = maths, argument.unit, argument.error
+        # The argument is a variable by what the model writes, which messages tell.
+        self.variable = said
+        self.node = made("call", function, made("var", said))
+        self.slope = derivative(self.node, said)
+        self.bend = derivative(self.slope, said)
+        self.first, self.last = argument.low, max(argument.high, argument.low + 1)
+        self.values = {}
+        self.range = self.over(self.node, self.first + min(self.error[0], 0), self.last + max(self.error[1], 0))
+        self.unit_out = unit_for(self.range)
+        xs = self.places(pieces)
+        self.points = [(x, self.rounded(x)) for x in xs]
+        self.error_out = hull([self.piece_error(*pair) for pair in zip(self.points, self.points[1:])])
+
+    def over(self, node, low, high):
+        """The ends of a node over arguments from low to high units."""
+        area = {self.variable: self.maths.between(low * self.unit, high * self.unit)}
+        return self.maths.ends(value_of(node, area, self.maths))
+
+    def at(self, x):
+        """The ends of the value at a whole number."""
+        if x not in self.values:
+            self.values[x] = self.over(self.node, x, x)
+        return self.values[x]
+
+    def rounded(self, x):
+        low, high = self.at(x)
+        return round((low + high) / 2 / self.unit_out)
+
+    def places(self, pieces):
+        """The ends of the pieces, denser where the curve bends more."""
+        bends, step = bends_of(self.bend, self.variable, self.first, self.last, self.unit), Fraction(
+            self.last - self.first, LOOKED
+        )
+        floor = sum(bends) / LOOKED / 20 or 1.0
+        total, places, seen = sum(max(bend, floor) for bend in bends), [self.first], 0.0
+        for k, bend in enumerate(bends):
+            seen += max(bend, floor)
+            if seen >= total * len(places) / pieces and len(places) < pieces:
+                places.append(round(self.first + (k + 1) * step))
+        return sorted(set(places) | {self.last})
+
+    def piece_error(self, one, other):
+        """What (real value / unit_out - the piece's value) may be where the whole number lies between two points."""
+        (x, y), (next_x, next_y) = one, other
+        bend = self.over(self.bend, x, next_x)
+        share = (self.unit * (next_x - x)) ** 2 / 8
+        chord = -share * max(bend[1], 0), share * max(-bend[0], 0)
+        ends = []
+        for at, value in ((x, y), (next_x, next_y)):
+            low, high = self.at(at)
+            ends += [low - value * self.unit_out, high - value * self.unit_out]
+        slope = self.over(self.slope, x + min(self.error[0], 0), next_x + max(self.error[1], 0))
+        moved = product(slope, (self.error[0] * self.unit, self.error[1] * self.unit))
+        total = combined(combined(chord, (min(ends), max(ends))), moved)
+        return total[0] / self.unit_out, total[1] / self.unit_out
+
+
+class Pieces:
+    """What Curve has, of straight pieces that the model itself gives: real numbers, whose points lie on whole numbers
+    or beside."""
+
+    def __init__(self, given, argument):
+        self.unit, self.error = argument.unit, argument.error
+        self.first, self.last = argument.low, max(argument.high, argument.low + 1)
+        low, high = (end * self.unit for end in (self.first + min(self.error[0], 0), self.last + max(self.error[1], 0)))
+        self.unit_out = unit_for(lut_ends(given, low, high))
+        inside = [x for x, _ in given if self.first * self.unit < x < self.last * self.unit]
+        places = sorted({self.first, self.last} | {round(x / self.unit) for x in inside})
+        self.points = [(x, round(lut_value(given, x * self.unit) / self.unit_out)) for x in places]
+        self.error_out = hull([self.piece_error(given, *pair) for pair in zip(self.points, self.points[1:])])
+
+    def piece_error(self, given, one, other):
+        """What (real value / unit_out - the piece's value) may be where the whole number lies between two points."""
+        (x, y), (next_x, next_y) = one, other
+        slope = Fraction(next_y - y, next_x - x)
+        places = [Fraction(x), Fraction(next_x)] + [at / self.unit for at, _ in given if x < at / self.unit < next_x]
+        ends = [lut_value(given, at * self.unit) / self.unit_out - (y + slope * (at - x)) for at in places]
+        slopes = slope_ends(
+            given, (x + min(self.error[0], 0)) * self.unit, (next_x + max(self.error[1], 0)) * self.unit
+        )
+        moved = product(slopes, tuple(end * self.unit / self.unit_out for end in self.error))
+        return combined((min(ends), max(ends)), moved)
+
+
+@lru_cache(maxsize=1024)
+def bends_of(bend, name, first, last, unit):
+    """The roots of the second derivative's size at places that are spread evenly."""
+    bends, step = [], Fraction(last - first, LOOKED)
+    for k in range(LOOKED):
+        at = float((first + (k + Fraction(1, 2)) * step) * unit)
+        bends.append(math.sqrt(abs(value_of(bend, {name: at}, Floats))))
+    return bends
+
+
+def unit_for(interval, fineness=20000):
+    """A power of ten of which an interval has tens of thousands, or 1 where it is one number."""
+    size = max(abs(interval[0]), abs(interval[1]), interval[1] - interval[0])
+    if not size:
+        return Fraction(1)
+    if not Fraction(1, 10**280) < size < 10**280:
+        # Past what doubles have.
+        return Fraction(10) ** math.floor(
+            math.log10(size.numerator) - math.log10(size.denominator) - math.log10(fineness)
+        )
+    return Fraction(10) ** math.floor(math.log10(float(size) / fineness))
+
+
+def as_lut(curve, text):
+    """The text of `lut`, the ends of its values, and the error with its rounding down."""
+    said = ", ".join(f"{x}:{y}" for x, y in curve.points)
+    values = [y for _, y in curve.points]
+    return f"lut({text}, {said})", (min(values), max(values)), combined(curve.error_out, (0, 1))
+
+
+def as_lines(curve, text):
+    """The same by min and max of lines over a common denominator."""
+    most = max(abs(curve.first), abs(curve.last), 1)
+    denominator = 10 ** (len(str(most)) + 1)
+    lines = lines_of(curve.points)
+    whole = [(round(slope * denominator), round(constant * denominator)) for slope, constant in lines]
+    beside = max(
+        (abs(a - slope * denominator) * most + abs(b - constant * denominator)) / denominator
+        for (a, b), (slope, constant) in zip(whole, lines)
+    )
+    terms = lattice(lines, [x for x, _ in curve.points])
+    said = nested("max", [nested("min", [line_said(whole[j], text) for j in term]) for term in terms])
+    values = [y for _, y in curve.points]
+    ends = math.floor(min(values) - beside), math.ceil(max(values) + beside)
+    return f"({said} / {denominator})", ends, combined(combined(curve.error_out, (-beside, beside)), (0, 1))
+
+
+def lines_of(points):
+    """Slope and constant of each piece."""
+    lines = []
+    for (x, y), (next_x, next_y) in zip(points, points[1:]):
+        slope = Fraction(next_y - y, next_x - x)
+        lines.append((slope, y - slope * x))
+    return lines
+
+
+def line_said(line, text):
+    slope, constant = line
+    said = f"{slope} * ({text})" if not text.isidentifier() else f"{slope} * {text}"
+    if not slope:
+        return str(constant)
+    return said + (f" - {-constant}" if constant < 0 else f" + {constant}" if constant else "")
+
+
+def nested(name, parts):
+    """min or max of any number of parts, halves within halves."""
+    if len(parts) == 1:
+        return parts[0]
+    half = len(parts) // 2
+    return f"{name}({nested(name, parts[:half])}, {nested(name, parts[half:])})"
+
+
+def value_on(line, x):
+    return line[0] * x + line[1]
+
+
+def lattice(lines, xs):
+    """Which lines stand in which min, so that the max of these is the function of straight pieces between the places
+    xs: for each piece the lines that lie above it there (Tarela and Martinez, 1999), without those that aren't
+    needed."""
+    crossings = {(b - a) / (c - d) for (c, a), (d, b) in combinations(lines, 2) if c != d}
+    places = sorted({Fraction(x) for x in xs} | {x for x in crossings if xs[0] < x < xs[-1]})
+    wanted = [value_on(lines[piece_at(xs, x)], x) for x in places]
+    terms = []
+    for i, (low, high) in enumerate(zip(xs, xs[1:])):
+        term = [
+            j for j, line in enumerate(lines) if all(value_on(line, x) >= value_on(lines[i], x) for x in (low, high))
+        ]
+        if term not in terms:
+            terms.append(term)
+
+    def is_right(trial):
+        return (
+            bool(trial)
+            and all(trial)
+            and [max(min(value_on(lines[j], x) for j in term) for term in trial) for x in places] == wanted
+        )
+
+    if not is_right(terms):
+        raise Trouble("straight pieces couldn't be put together by min and max")
+    return thinned(terms, is_right)
+
+
+def thinned(terms, is_right):
+    """The terms without those, and without the lines of them, that can be left out one after the other."""
+    for term in list(terms):
+        if is_right([one for one in terms if one is not term]):
+            terms = [one for one in terms if one is not term]
+    for k in range(len(terms)):
+        for line in list(terms[k]):
+            trial = terms[:k] + [[j for j in terms[k] if j != line]] + terms[k + 1 :]
+            if is_right(trial):
+                terms = trial
+    return terms
+
+
+def piece_at(xs, x):
+    return max(i for i in range(len(xs) - 1) if xs[i] <= x)

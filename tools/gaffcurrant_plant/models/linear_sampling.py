@@ -1,0 +1,112 @@
+"""Samples a linear differential equation x' = A x + B u with the input held: the exponential of its matrix, by its
+series."""
+
+import math
+from fractions import Fraction
+
+from ..faults import Trouble
+from ..plants.units import decimal
+
+PLACES, KEPT, MOST_NORM = 80, 20, 50
+# In how many parts of a sample the weight of a disturbance is looked at, and the share that rounding may come to.
+PARTS, ROUNDED = 32, Fraction(1, 10**12)
+# Beside what a sampling time is too long.
+SYSTEM = " beside the fastest time of the system"
+
+
+def too_long(model, times, said="", does="would"):
+    """What is wrong with a sampling time, and a shorter one, so many times shorter or a little more."""
+    shorter = model.sample / times
+    places = 1 - math.floor(math.log10(shorter))
+    shorter = math.floor(shorter * Fraction(10) ** places) / Fraction(10) ** places
+    return Trouble(
+        f"line {model.sample_line}: the sampling time is too long{said}; `sample {decimal(shorter)}` {does} do"
+    )
+
+
+def sampled(states, inputs, time, model):
+    """The matrices of a time, where states and inputs are the rows of A and B: exact where a power of A is 0, else to
+    KEPT decimals."""
+    norm = max(sum(abs(entry * time) for entry in row) for row in states)
+    if norm > MOST_NORM:
+        raise too_long(model, norm / MOST_NORM, SYSTEM)
+    return exact_sum(states, inputs, time) or rounded_sum(states, inputs, time)
+
+
+def exact_sum(states, inputs, time):
+    """The matrices by a series that ends; None where it doesn't."""
+    size = range(len(states))
+    power = [[Fraction(i == j) for j in size] for i in size]
+    of_states, of_inputs = power, [[Fraction(0)] * len(inputs[0]) for _ in size]
+    for number in range(1, len(states) + 1):
+        of_inputs = plus(of_inputs, times(product(power, inputs), time**number / math.factorial(number)))
+        power = product(power, states)
+        if not any(map(any, power)):
+            return of_states, of_inputs
+        of_states = plus(of_states, times(power, time**number / math.factorial(number)))
+    return None
+
+
+def product(one, other):
+    return [[sum(x * y for x, y in zip(row, column)) for column in zip(*other)] for row in one]
+
+
+def plus(one, other):
+    return [[x + y for x, y in zip(*rows)] for rows in zip(one, other)]
+
+
+def times(matrix, factor):
+    return [[entry * factor for entry in row] for row in matrix]
+
+
+def rounded_sum(states, inputs, time):
+    """The matrices by the series to KEPT decimals."""
+    wide = len(states)
+    rows = [list(a) + list(b) for a, b in zip(states, inputs)]
+    size = len(rows[0])
+    one = 10**PLACES
+    matrix = [[round(entry * time * one) for entry in row] for row in rows] + [[0] * size for _ in range(size - wide)]
+    power = [[one * (i == j) for j in range(size)] for i in range(size)]
+    total, number = [row[:] for row in power], 0
+    while any(map(any, power)):
+        number += 1
+        power = [
+            [quotient(sum(row[k] * matrix[k][j] for k in range(size)), one * number) for j in range(size)]
+            for row in power
+        ]
+        total = [[a + b for a, b in zip(left, right)] for left, right in zip(total, power)]
+    kept = [[kept_of(Fraction(entry, one)) for entry in row] for row in total[:wide]]
+    return [row[:wide] for row in kept], [row[wide:] for row in kept]
+
+
+def quotient(dividend, divisor):
+    """Rounded towards zero, so that the powers of the series end at zero."""
+    return dividend // divisor if dividend >= 0 else -(-dividend // divisor)
+
+
+def kept_of(value):
+    return Fraction(round(value * 10**KEPT), 10**KEPT)
+
+
+def held_integrals(states, columns, time, model):
+    """For each state at least the integral over a time of the size of its entry in e^(A s) times a column, summed up
+    over the columns: by how much disturbances of these weights move it that may vary at any time. The entries' size is
+    integrated exactly over parts in which their sign is known."""
+    part = time / PARTS
+    start = [list(row) for row in zip(*columns)]
+    step, whole = sampled(states, start, part, model)
+    grown, _ = sampled([[abs(entry) for entry in row] for row in states], start, part, model)
+    total = [Fraction(0)] * len(states)
+    for _ in range(PARTS):
+        sizes = [[abs(entry) for entry in row] for row in start]
+        most = product(grown, sizes)
+        # An entry moves by at most what the greatest size is above its own.
+        ends = [
+            sum(abs(way) if 2 * size >= top else part * top for way, size, top in zip(*rows))
+            for rows in zip(whole, sizes, most)
+        ]
+        total = [one + other for one, other in zip(total, ends)]
+        start, whole = (
+            [[kept_of(entry) for entry in row] for row in product(step, matrix)] for matrix in (start, whole)
+        )
+    return [one * (1 + ROUNDED) + ROUNDED * max(total) if one else one for one in total]

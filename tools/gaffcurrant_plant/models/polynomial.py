@@ -1,0 +1,54 @@
+"""Polynomials with real coefficients kept as fractions, and decimal numbers.
+
+A polynomial is a dict from a monomial to its coefficient; a monomial is the sorted tuple of its variables' names."""
+
+import re
+from fractions import Fraction
+
+from ..faults import Fault
+
+
+def number_of(word):
+    """A decimal number as a fraction; else raises Fault."""
+    if not re.match(r"[+-]?([0-9]+\.?[0-9]*|\.[0-9]+)([eE][+-]?[0-9]+)?\Z", word):
+        raise Fault(f"`{word[:60]}` is no number{hint_of(word)}")
+    if not re.match(r"[^eE]{1,40}([eE][+-]?[0-3]?[0-9])?\Z", word):
+        raise Fault(f"`{word[:60]}` has more than 40 places or an exponent past 39")
+    return Fraction(word)
+
+
+def hint_of(word):
+    """What may be meant by a word that is no number, or nothing."""
+    if re.match(r"[+-]?[0-9]+,[0-9]+\Z", word):
+        return "; decimals stand behind a point, as in 0.5"
+    if re.match(r"[+-]?[0-9.]+[,;]\Z", word):
+        return ": numbers are set apart by blanks alone"
+    if word[:1] in ("\u2212", "\u2013"):
+        return ": write the minus of the keyboard, `-`"
+    return ""
+
+
+def added(left, right, sign=1):
+    total = dict(left)
+    for monomial, coefficient in right.items():
+        total[monomial] = total.get(monomial, 0) + sign * coefficient
+    return {monomial: coefficient for monomial, coefficient in total.items() if coefficient}
+
+
+def multiplied(left, right):
+    total = {}
+    for first, a in left.items():
+        for second, b in right.items():
+            monomial = tuple(sorted(first + second))
+            total[monomial] = total.get(monomial, 0) + a * b
+    return {monomial: coefficient for monomial, coefficient in total.items() if coefficient}
+
+
+def value_of(polynomial, values):
+    """The value at the numbers that a dict gives for the names."""
+    total = Fraction(0)
+    for monomial, coefficient in polynomial.items():
+        for name in monomial:
+            coefficient = coefficient * values[name]
+        total += coefficient
+    return total

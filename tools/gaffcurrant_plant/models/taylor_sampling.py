@@ -1,0 +1,251 @@
+"""Samples differential equations x' = f(x, u, w) with the input held, in one step or in several: each by a Taylor
+polynomial of f, with a bound of all that it leaves out.
+
+The bound is that of Taylor's theorem with its remainder over an enclosure of the states on the way, which is found as
+in the proof of Picard and Lindeloef: a box B with D + [0, T] f(B) within B holds every solution from D up to the time T
+(R. E. Moore, Interval Analysis, 1966; N. S. Nedialkov, K. R. Jackson, G. F. Corliss, Validated solutions of initial
+value problems for ordinary differential equations, 1999). A disturbance may vary at any time: by how much it moves a
+state is bounded by the linear system whose matrix bounds the derivatives of f (a growth bound, as in the method of the
+program)."""
+
+import itertools
+import math
+from fractions import Fraction
+
+from ..faults import Trouble
+from .formula import add, derivative, is_smooth, mul, number, replaced, value_of
+from .linear_sampling import SYSTEM, too_long
+
+# How far a measurement may be beside its real value, in units of the state, as by the rounding of doubles.
+BESIDE = Fraction(1, 1000)
+MOST_TRIALS, TERMS, FASTEST, HALVINGS = 30, 24, 100, 12
+TINY = Fraction(1, 10**12)
+# In how many parts a box for a step is looked for, one after the other.
+PARTS = (1, 4, 16)
+
+
+class NoBox(Trouble):
+    """No box was found that holds the solutions up to the end of a step."""
+
+
+class Flow:
+    """The right sides of the states' equations, the ranges of all variables, and the steps of a sample: polynomials has
+    for each state that of a step, course for each step the ends of what these leave out, and of the states behind
+    it."""
+
+    def __init__(self, model, maths, order, count, block, boxes):
+        self.model, self.maths, self.order, self.count, self.block = model, maths, order, count, block
+        # How often a box was tried, by which the cost is known.
+        self.time, self.found, self.trials = model.sample / count, {}, 0
+        self.names = [state[0] for state in model.states]
+        self.sides = model.flows
+        middles = {name: number((low + high) / 2) for name, low, high in model.noises}
+        self.held = [replaced(side, middles) for side in self.sides]
+        if self.order > 1 and not all(is_smooth(side, held_names(model)) for side in self.sides):
+            raise Trouble(
+                f"line {model.order_line}: with min, max, abs or lut of what varies a differential equation is "
+                "sampled by order 1 alone"
+            )
+        self.derivatives = [self.held]
+        for _ in range(self.order):
+            self.derivatives.append([self.along(node) for node in self.derivatives[-1]])
+        self.polynomials = [self.polynomial(i, name) for i, name in enumerate(self.names)]
+        self.slopes = [[derivative(node, name) for name in self.names] for node in self.polynomials]
+        self.course = [tuple(map(self.hulls, zip(*step))) for step in zip(*map(self.course_from, self.areas(*boxes)))]
+
+    def nodes(self, step, before):
+        """The formulas of the states behind a step, where others stand for those behind the step before; of those of
+        the block since the sample's beginning."""
+        time = self.time * step
+        return [
+            self.block.node(name, time) if name in self.block else replaced(node, before)
+            for name, node in zip(self.names, self.polynomials)
+        ]
+
+    def rests(self, step):
+        """For each state the ends of what its formula behind a step leaves out."""
+        rests, time = self.course[step - 1][0], self.time * step
+        return [self.block.rest(name, time) if name in self.block else rest for name, rest in zip(self.names, rests)]
+
+    def along(self, node):
+        """The derivative of a node along the solutions."""
+        total = number(0)
+        for name, side in zip(self.names, self.held):
+            total = add(total, mul(derivative(node, name), side))
+        return total
+
+    def polynomial(self, i, name):
+        """The Taylor polynomial of a state's step."""
+        total = ("var", name)
+        for k in range(self.order):
+            total = add(total, mul(number(self.time ** (k + 1) / math.factorial(k + 1)), self.derivatives[k][i]))
+        return total
+
+    def hulls(self, found):
+        """For each state the least and the greatest of the ends that were found from all areas."""
+        return [(min(low for low, _ in ends), max(high for _, high in ends)) for ends in zip(*found)]
+
+    def course_from(self, area):
+        """For each step from an area, with its inputs and disturbances: the ends of what the polynomials leave out, and
+        of the states behind it."""
+        course = []
+        for step in range(self.count):
+            box, end = self.enclosure(area)
+            rests = self.rests_in(box)
+            course.append((rests, [self.ends(name, end[name]) for name in self.names]))
+            if step + 1 < self.count:
+                area = self.narrowed(area, end, rests)
+                course[-1] = rests, [self.ends(name, area[name]) for name in self.names]
+        return course
+
+    def narrowed(self, area, end, rests):
+        """The common part of a box of the states behind a step and of what the polynomials give from the area, by the
+        mean value theorem: the value at the middle, and the derivatives times the way from it."""
+        maths = self.maths
+        middle = {name: maths.number(sum(self.ends(name, area[name])) / 2) for name in self.names}
+        at_middle, narrow, known, middle_known = area | middle, dict(end), {}, {}
+        for polynomial, slopes, name, rest in zip(self.polynomials, self.slopes, self.names, rests):
+            moved = self.value(name, polynomial, at_middle, middle_known) + maths.between(*rest)
+            for other, slope in zip(self.names, slopes):
+                moved += self.value(name, slope, area, known) * (area[other] - middle[other])
+            narrow[name] = maths.common(end[name], moved)
+        return narrow
+
+    def slope(self, side, name):
+        """The derivative of a side, found once."""
+        if (id(side), name) not in self.found:
+            self.found[id(side), name] = derivative(side, name)
+        return self.found[id(side), name]
+
+    def value(self, name, node, area, known):
+        """The value over an area of a node that a state's equation gave; known has those that were found before.
+        Trouble names the equation's line."""
+        with self.model.at_equation(self.names.index(name)):
+            return value_of(node, area, self.maths, known)
+
+    def ends(self, name, interval):
+        """The ends of an interval that a state's equation gave."""
+        with self.model.at_equation(self.names.index(name)):
+            return self.maths.ends(interval)
+
+    def bound(self, state, node, box, known, signed=False):
+        """The greatest absolute value of a node over a box; with `signed` the greatest value, or 0 where that is below
+        it."""
+        low, high = self.ends(state, self.value(state, node, box, known))
+        return max(high, Fraction(0)) if signed else max(abs(low), abs(high))
+
+    def areas(self, most_boxes, most_vectors):
+        """The domain in boxes, with each input vector, or with the inputs' ranges where these are too many."""
+        maths, model = self.maths, self.model
+        choices = [[(value, value) for value in values] for _, _, values in model.inputs]
+        if math.prod(map(len, choices)) > most_vectors:
+            choices = [[(min(values), max(values))] for _, _, values in model.inputs]
+        vectors = list(itertools.product(*choices))
+        parts = max(1, int((most_boxes / len(vectors)) ** (1 / len(model.states))))
+        ranges = [(low - BESIDE * unit, high + BESIDE * unit) for _, low, high, _, unit in model.states]
+        cuts = [
+            [(low + (high - low) * k / parts, low + (high - low) * (k + 1) / parts) for k in range(parts)]
+            for low, high in ranges
+        ]
+        noises = {name: maths.between(low, high) for name, low, high in model.noises}
+        for box in itertools.product(*cuts):
+            for vector in vectors:
+                area = {name: maths.between(*ends) for name, ends in zip(self.names, box)}
+                yield area | {name: maths.between(*ends) for (name, *_), ends in zip(model.inputs, vector)} | noises
+
+    def enclosure(self, area):
+        """A box that holds the solutions from an area up to the end of a step, and one that holds their ends, found in
+        one part or in several."""
+        for parts in PARTS:
+            try:
+                return self.enclosure_in(parts, area, self.time)
+            except NoBox:
+                fault = self.shorter(area)
+            except Trouble as trouble:
+                fault = trouble
+        raise fault
+
+    def enclosure_in(self, parts, area, time):
+        """The same up to a time, found in so many parts."""
+        box, end = None, area
+        for _ in range(parts):
+            one, end = self.short_enclosure(end, time / parts)
+            box = one if box is None else {name: self.maths.hull(box[name], one[name]) for name in one}
+        return box, end
+
+    def shorter(self, area):
+        """The fault of a sampling time up to which no box was found from an area, with one for which there is a box."""
+        said = ": no box was found that holds the solutions up to it"
+        for halvings in range(1, HALVINGS):
+            try:
+                self.enclosure_in(PARTS[-1], area, self.time / 2**halvings)
+                return too_long(self.model, 2**halvings, said, "may")
+            except Trouble:
+                continue
+        return Trouble(f"line {self.model.sample_line}: the sampling time is too long{said}")
+
+    def short_enclosure(self, area, time):
+        """A box that holds the solutions from an area up to a time, and one that holds their ends."""
+        maths, box = self.maths, dict(area)
+        whole, end = maths.between(0, time), maths.number(time)
+        for _ in range(MOST_TRIALS):
+            known = {}
+            self.trials += 1
+            slopes = {name: self.value(name, side, box, known) for name, side in zip(self.names, self.sides)}
+            after = {name: area[name] + whole * slope for name, slope in slopes.items()}
+            if all(box[name].a <= one.a and one.b <= box[name].b for name, one in after.items()):
+                return box, area | {name: area[name] + end * slope for name, slope in slopes.items()}
+            for name, one in after.items():
+                box[name] = one + (one - area[name]) / 20 + maths.between(-TINY, TINY)
+        raise NoBox("no box")
+
+    def rests_in(self, box):
+        """For each state the ends of what the polynomial of a step leaves out, where a box holds the solutions."""
+        known = {}
+        share = number(self.time ** (self.order + 1) / math.factorial(self.order + 1))
+        rests = [
+            self.ends(name, self.value(name, mul(share, node), box, known))
+            for name, node in zip(self.names, self.derivatives[self.order])
+        ]
+        moved = self.disturbed(box, known)
+        return [(low - more, high + more) for (low, high), more in zip(rests, moved)]
+
+    def disturbed(self, box, known):
+        """By how much disturbances move each state within a step. known has the values of nodes over the box."""
+        size = len(self.names)
+        pushes = [
+            sum(
+                (
+                    self.bound(state, self.slope(side, name), box, known) * (high - low) / 2
+                    for name, low, high in self.model.noises
+                ),
+                Fraction(0),
+            )
+            for state, side in zip(self.names, self.sides)
+        ]
+        if not any(pushes):
+            return [Fraction(0)] * size
+        matrix = [
+            [self.bound(state, self.slope(side, name), box, known, signed=state == name) for name in self.names]
+            for state, side in zip(self.names, self.sides)
+        ]
+        norm = max(map(sum, matrix))
+        if self.time * norm > FASTEST:
+            raise too_long(self.model, self.time * norm / FASTEST, SYSTEM)
+        power, total = [push * self.time for push in pushes], [Fraction(0)] * size
+        for k in range(2, TERMS + 2 * math.ceil(self.time * norm)):
+            total = [rounded_up(a + b) for a, b in zip(total, power)]
+            power = [rounded_up(sum(a * b for a, b in zip(row, power)) * self.time / k) for row in matrix]
+        # The terms that are left are below a geometric series of a half; a state that no disturbance has reached by
+        # now, none reaches.
+        return [a + 2 * max(power) if a else a for a in total]
+
+
+def held_names(model):
+    """The variables that stay as they are within a sample: the inputs."""
+    return [name for name, *_ in model.inputs]
+
+
+def rounded_up(value):
+    """A fraction of few digits that isn't less."""
+    return Fraction(math.ceil(value * 10**24), 10**24)

@@ -1,0 +1,248 @@
+"""The rows of a table, a stay text or a patrol text as arrays, for texts of a million cells. Needs numpy."""
+
+import re
+import warnings
+from typing import NamedTuple
+
+import numpy
+
+from ..faults import Refused
+from ..plants.batch import OUTSIDE, cells_at
+from ..plants.plant import holds
+from .promise import turn_after
+from .rows import VERSIONS, front_of
+
+NONE = -1
+KINDS = tuple(VERSIONS)
+
+
+class RowArrays:
+    """The rows of a text, of a patrol text those of one turn, over the cells. won: whether a cell has a row; ranks and
+    inputs: NONE where there is no row, no rank or no input."""
+
+    def __init__(self, plant, cells, ranks, inputs):
+        self.plant = plant
+        self.won = numpy.zeros(plant.cells, dtype=bool)
+        self.ranks, self.inputs = numpy.full((2, plant.cells), NONE)
+        self.won[cells] = True
+        self.ranks[cells], self.inputs[cells] = ranks, inputs
+
+    @classmethod
+    def of(cls, table):
+        """Those of a Table, a Stay or a Turn, with its arrivals."""
+        cells = numpy.fromiter(table.rows, dtype=numpy.int64, count=len(table.rows))
+        ranks, inputs = (filled([row[k] for row in table.rows.values()]) for k in (0, 1))
+        arrays = cls(table.plant, cells, ranks, inputs)
+        arrays.arrivals = numpy.zeros(table.plant.cells, dtype=bool)
+        arrays.arrivals[list(table.arrivals) if table.kind == "turn" else []] = True
+        return arrays
+
+
+class Rows:
+    """The rows of all turns of a Table, a Stay or a Patrol: RowArrays with a line for each turn, and a cell OUTSIDE
+    without a row behind the last one."""
+
+    def __init__(self, text):
+        self.plant, self.kind = text.plant, text.kind
+        self.keeps = text.kind == "table" and text.keeps
+        parts = [RowArrays.of(part) for part in (text.turns if self.kind == "patrol" else [text])]
+        self.won, self.arrivals = (stacked(parts, name, False) for name in ("won", "arrivals"))
+        self.ranks, self.inputs = (stacked(parts, name, NONE) for name in ("ranks", "inputs"))
+        self.low, self.high, self.width = (
+            numpy.array([state[k] for state in self.plant.states]).reshape(-1, 1) for k in (1, 2, 3)
+        )
+
+    def cell_of(self, whole):
+        """The cells of columns of whole numbers, OUTSIDE where one is outside of the domain."""
+        return cells_at(self.plant, whole)
+
+
+def stacked(parts, name, outside):
+    """An array of each of some RowArrays, a line each, with a value behind the last cell's."""
+    return numpy.stack([numpy.append(getattr(part, name), outside) for part in parts])
+
+
+class Cells(RowArrays):
+    """The RowArrays of the bytes of a text, of a patrol text those of one turn, asked with many states at once."""
+
+    def __init__(self, data, turn=0, turns=None):
+        self.turn, self.turns = turn, turns or Turns(data)
+        front = self.turns.front
+        self.kind, self.version = front.kind, front.version
+        firsts, lasts, ranks, inputs = columns_of(data, front, turn)
+        lengths = lasts - firsts + 1
+        cells = numpy.arange(lengths.sum()) + numpy.repeat(firsts - numpy.cumsum(lengths) + lengths, lengths)
+        super().__init__(front.plant, cells, numpy.repeat(ranks, lengths), numpy.repeat(inputs, lengths))
+
+    def row_of(self, cell):
+        """The row of a cell as a pair, or None."""
+        if not self.won[cell]:
+            return None
+        rank, choice = int(self.ranks[cell]), int(self.inputs[cell])
+        return None if rank == NONE else rank, None if choice == NONE else choice
+
+    def cell_of(self, states):
+        """The cells of states, an array of one line each, or OUTSIDE where one is outside of the domain."""
+        states = numpy.asarray(states)
+        wide = len(self.plant.states)
+        if states.ndim != 2 or states.shape[1] != wide:
+            raise ValueError(f"states are an array of {wide} columns, here is one of the shape {states.shape}")
+        if not numpy.issubdtype(states.dtype, numpy.integer):
+            raise ValueError("states are whole numbers; whole_states makes them of real ones")
+        return cells_at(self.plant, states.T)
+
+    def rank(self, states):
+        """The ranks at states; NONE where there is no row, and with goal keep."""
+        cells = self.cell_of(states)
+        return numpy.where(cells == OUTSIDE, NONE, self.ranks[cells])
+
+    def choice(self, states):
+        """The values to apply at states, a line for each, masked where there is no row, and in the target of a
+        table."""
+        cells = self.cell_of(states)
+        numbers = numpy.where(cells == OUTSIDE, NONE, self.inputs[cells])
+        vectors = numpy.array(
+            [self.plant.vector(number) for number in range(self.plant.vectors)], dtype=numpy.int64
+        ).reshape(self.plant.vectors, -1)
+        mask = numpy.broadcast_to((numbers == NONE)[:, None], (len(numbers), vectors.shape[1]))
+        return numpy.ma.masked_array(vectors[numbers], mask)
+
+    def of_turn(self, turn):
+        """The cells of another turn of the same patrol."""
+        return self.turns.cells(turn)
+
+    def is_arrival(self, turn, cell):
+        """Whether a cell lies in the target of a turn, and has a row for the next one."""
+        plant = self.plant
+        is_inside = holds(plant.targets[turn], plant.low(cell), plant.high(cell))
+        return is_inside and bool(self.of_turn(turn_after(turn, True, len(plant.targets))).won[cell])
+
+    def arranged(self, values, axes, fixed):
+        """Values of cells over the indices of some axes, and behind them over those of the other states that aren't
+        fixed."""
+        counts = self.plant.counts
+        others = [i for i in range(len(counts)) if i not in axes]
+        chosen = tuple([slice(None)] * len(axes) + [fixed.get(i, slice(None)) for i in others])
+        part = values.reshape(counts).transpose(list(axes) + others)[chosen]
+        return part.reshape([counts[i] for i in axes] + [-1])
+
+    def seen(self, axes, fixed):
+        """Rank, input and whether there is a row, over the indices of some axes. The other states are fixed at an
+        index, or the cell of the least rank is taken over all of their indices."""
+        won = self.arranged(self.won, axes, fixed)
+        ranks = self.arranged(self.ranks, axes, fixed)
+        best = numpy.where(won, ranks, numpy.iinfo(numpy.int64).max).argmin(axis=-1)[..., None]
+        parts = (ranks, self.arranged(self.inputs, axes, fixed), won)
+        return [numpy.take_along_axis(part, best, -1)[..., 0] for part in parts]
+
+    def share(self, axes, fixed):
+        """Over the indices of some axes, the share of the indices of the other states that have a row."""
+        return self.arranged(self.won, axes, fixed).mean(axis=-1)
+
+
+def whole_states(plant, units, states):
+    """The whole numbers of real states, an array of one line each, in a model's units. A value within 10^-9 of a unit's
+    end counts as at that end."""
+    return numpy.floor(numpy.asarray(states, dtype=float) / sizes_of(units, plant.states) + 1e-9).astype(numpy.int64)
+
+
+class Run(NamedTuple):
+    """A run as arrays: the times, the states and the inputs, a line each, and the ranks and turns, NONE where there is
+    none."""
+
+    times: numpy.ndarray
+    states: numpy.ndarray
+    ranks: numpy.ndarray
+    inputs: numpy.ndarray
+    turns: numpy.ndarray
+
+
+def run_of(samples, units=None, plant=None):
+    """The Run of what `simulate` gives. With a plant's units states and inputs are in these: states at the middles of
+    their units, what is a whole number by itself as it is."""
+    states = numpy.array([sample.state for sample in samples])
+    wide = max((len(sample.inputs) for sample in samples if sample.inputs is not None), default=0)
+    applied = [sample.inputs or (0,) * wide for sample in samples]
+    inputs = numpy.ma.masked_array(applied, [[sample.inputs is None] * wide for sample in samples])
+    if units:
+        states = (states + [0.5 * (name not in units.exact) for name, *_ in plant.states]) * sizes_of(
+            units, plant.states
+        )
+        inputs = inputs * sizes_of(units, plant.inputs)[:wide]
+    ranks, turns = (filled([getattr(sample, name) for sample in samples]) for name in ("rank", "turn"))
+    return Run(numpy.array([sample.time for sample in samples]), states, ranks, inputs, turns)
+
+
+def sizes_of(units, entries):
+    """What the number 1 of each state, or of each input, stands for."""
+    return numpy.array([float(units.size(entry[0])) for entry in entries])
+
+
+def filled(numbers):
+    """An array with NONE in the place of None."""
+    return numpy.array([NONE if number is None else number for number in numbers])
+
+
+class Turns:
+    """The turns of a patrol text; any other text counts as one."""
+
+    def __init__(self, data):
+        self.data, self.front, self.known = data, front_of(data, KINDS), {}
+        self.is_patrol = self.front.kind == "patrol"
+        self.count = len(self.front.plant.targets) if self.is_patrol else 1
+
+    def cells(self, turn):
+        if turn not in self.known:
+            self.known[turn] = Cells(self.data, turn, self)
+        return self.known[turn]
+
+
+def rows_at(data, front, turn):
+    """The line, the byte and the number of the first row line, of a patrol text in one turn; raises Refused."""
+    at, line = front.at, front.line
+    for number in range(turn + 1):
+        before = f"turn {number} rows" if front.kind == "patrol" else "rows"
+        counted = re.compile(rf"{before} (0|[1-9][0-9]{{0,8}})\n".encode()).match(data, at)
+        if not counted:
+            raise Refused(f"malformed: line {line}", f"`{before} N` is due")
+        at, line = counted.end(), line + 1
+        if number < turn:
+            for _ in range(int(counted.group(1))):
+                at, line = data.find(b"\n", at) + 1 or len(data), line + 1
+    return line, at, int(counted.group(1))
+
+
+def end_of(data, at):
+    """The byte at which a turn's row lines, or the text's, end."""
+    behind = re.compile(rb"(?:turn |end\n)").search(data, at)
+    return behind.start() if behind else len(data)
+
+
+def columns_of(data, front, turn):
+    """The first and last cells, ranks and inputs of the row lines; raises Refused where they are none."""
+    line, at, count = rows_at(data, front, turn)
+    end, wide = end_of(data, at), 3 + front.in_runs()
+    if not data.endswith(b"\nend\n"):
+        raise Refused(f"malformed: line {data.count(10) + 1}", "the text is cut off: its last line isn't `end`")
+    with warnings.catch_warnings():
+        warnings.simplefilter("error")
+        try:
+            numbers = numpy.fromstring(data[at:end].replace(b"-", b"-1"), dtype=numpy.int64, sep=" ")
+        except (DeprecationWarning, ValueError):
+            raise Refused(f"malformed: line {line}", "the row lines aren't of their form") from None
+    if numbers.size != wide * count or data.count(b"\n", at, end) != count:
+        raise Refused(f"malformed: line {line + count}", f"{count} row lines are due")
+    columns = numbers.reshape(-1, wide).T
+    firsts, lasts, ranks, inputs = columns[0], columns[wide - 3], columns[-2], columns[-1]
+    if count and (
+        numpy.any(firsts[1:] <= lasts[:-1])
+        or numpy.any(lasts < firsts)
+        or firsts[0] < 0
+        or lasts[-1] >= front.plant.cells
+        or numpy.any(inputs >= front.plant.vectors)
+    ):
+        raise Refused(
+            f"malformed: line {line}",
+            "the cells of the row lines don't rise below the number of cells, or an input is none",
+        )
+    return firsts, lasts, ranks, inputs

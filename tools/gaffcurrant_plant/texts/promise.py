@@ -1,0 +1,16 @@
+"""What rows promise from sample to sample, of numbers and of arrays of them alike."""
+
+from __future__ import annotations
+
+from typing import Any
+
+
+def turn_after(turn: Any, has_arrived: Any, turns: int) -> Any:
+    """The turn of a patrol after a sample: the next one of so many where the sample is an arrival of the turn, else the
+    same."""
+    return (turn + has_arrived) % turns
+
+
+def has_fallen(before: Any, now: Any) -> Any:
+    """Whether a rank is less than the rank a sample before, or both are 0."""
+    return (now < before) | ((now == 0) & (before == 0))
