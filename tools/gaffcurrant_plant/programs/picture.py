@@ -99,16 +99,15 @@ def check_words(given):
         raise Trouble("a film's name ends in .gif or .mp4", 2)
     if given.animate and (len(given.tables) > 1 or len(given.axes or []) > 2):
         raise Trouble("a film has one panel, along one or two states", 2)
-    if (
-        not 1 <= given.runs <= MOST_RUNS
-        or not 0 <= given.samples <= MOST_SAMPLES
-        or given.dpi < 20
-        or given.dpi > 600
-        or not all(1 <= side <= 40 for side in given.size)
-    ):
+    check_numbers(given)
+
+
+def check_numbers(given):
+    ranges = [(given.runs, 1, MOST_RUNS), (given.samples, 0, MOST_SAMPLES), (given.dpi, 20, 600)]
+    if not all(low <= number <= high for number, low, high in [*ranges, *((size, 1, 40) for size in given.size)]):
         raise Trouble(
-            f"--runs is from 1 to {MOST_RUNS}, --samples from 0 to {MOST_SAMPLES}, --dpi from 20 to 600, --size "
-            "from 1 to 40 inches",
+            f"--runs is from 1 to {MOST_RUNS}, --samples from 0 to {MOST_SAMPLES}, --dpi from 20 to 600, --size from 1 "
+            "to 40 inches",
             2,
         )
 

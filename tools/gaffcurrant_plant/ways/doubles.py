@@ -73,17 +73,16 @@ class RealPlant:
         self.input_names = [entry[0] for entry in model.inputs]
         self.noise_names = [noise[0] for noise in model.noises]
         self.units = column([state[4] for state in model.states])
-        self.lows, self.highs = column([state[1] for state in model.states]), column(
-            [state[2] for state in model.states]
-        )
+        self.lows, self.highs = (column([state[k] for state in model.states]) for k in (1, 2))
         self.noise_ends = [column([noise[k] for noise in model.noises]) for k in (1, 2)]
         self.of_matrix = bool(model.rows["A"]) and bool(model.sample)
         self.is_flow = bool(model.flows) or self.of_matrix
-        self.sides = (
-            self.matrix_sides() if self.of_matrix else [self.side(node) for node in model.flows or model.equations]
-        )
-        self.targets = [ends_of(box) for keyword, box in model.boxes if keyword == "target"]
-        self.obstacles = [ends_of(box) for keyword, box in model.boxes if keyword == "obstacle"]
+        self.sides = self.matrix_sides() if self.of_matrix else list(map(self.side, model.flows or model.equations))
+        self.targets, self.obstacles = (self.boxes(keyword) for keyword in ("target", "obstacle"))
+
+    def boxes(self, keyword):
+        """The ends of the boxes of lines with a keyword."""
+        return [ends_of(box) for one, box in self.model.boxes if one == keyword]
 
     def side(self, node):
         if isinstance(node, dict):
