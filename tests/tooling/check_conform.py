@@ -112,7 +112,7 @@ def check_hand(report):
     for what, old, new in (("semicolons", ",", ";"), ("blanks", ",", " , "), ("line ends of Windows", "\n", "\r\n"),
                            ("line ends of old Macs", "\n", "\r"), ("a byte-order mark", "time", "\ufefftime"),
                            ("a unit in the heading", "x,u", "x [m],u"), ("an empty field", "-\n", "\n"),
-                           ("exponents", "54", "5.4e+1"), ("blank lines about it", "time", "\n\ntime"),
+                           ("exponents", "54", "5.4e+1"), ("a state between units", "54", "54.9"), ("blank lines about it", "time", "\n\ntime"),
                            ("text in another column", "u\n", "u,note\n")):
         data = HAND_LOG.replace(old, new)
         data = re.sub(r"(?m)([-0-9])$", r"\1,fine", data) if "note" in new else data
@@ -134,9 +134,9 @@ def check_hand(report):
         text = HAND.replace("noise w -1 1", "noise w -1 2").replace("x + u + w", equation)
         found = conform(read_plant(text.encode()), log_by_hand())
         report.expect(f"a noise from -1 to 2 in {equation}", wanted, found.beyond[0].tolist())
-    # From 50 to 59 under 3 the box is 52 to 64, in the cells from 50 and from 60.
-    found = conform(plant, log_of([[50], [70], [50], [49], [50], [69]], [[3]] * 6, begins=(0, 2, 4)))
-    report.expect("which steps are followed", [False, False, True], found.followed.tolist())
+    # From 50 to 59 under 3 the box is 52 to 64, in the cells from 50 and from 60; from 90 to 99 it leaves the range.
+    found = conform(plant, log_of([[50], [70], [50], [49], [50], [69], [95], [98]], [[3]] * 8, begins=(0, 2, 4, 6)))
+    report.expect("which steps are followed", [False, False, True, False], found.followed.tolist())
 
 
 def check_two_states(report):
