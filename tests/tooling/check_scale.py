@@ -6,6 +6,7 @@ import re
 from fractions import Fraction
 
 from gaffcurrant_plant.plants.reader import read_plant
+from gaffcurrant_plant.models.variables import outward
 
 HEAD = "state x 0 9.99 0.09 0.01\nstate v -1.21 1.22 0.09 0.01\ninput u 0.01 -1 -0.6 0 0.2 1\n"
 
@@ -143,6 +144,15 @@ def check(report):
         if model.exists() and not re.search(r"^d |^next.*[a-z]\(", model.read_text(), re.M):
             compare(report, name, model.read_text(), report.plant_text(name).decode(), 1000)
     check_without_noise(report)
+    check_outward(report)
+
+
+def check_outward(report):
+    """Ends with long denominators become ends of short ones that hold them, and no others change: so numbers don't grow from step to step."""
+    long = Fraction(1, 3 ** 300)
+    low, high = outward(-2 - long, long - 1)
+    report.holds("long ends are rounded outward", -3 < low < -2 - long and long - 1 < high < 0 and max(low.denominator, high.denominator) <= 2 ** 80, (low, high))
+    report.expect("short ends stay", (Fraction(-1, 1000), Fraction(1, 3)), outward(Fraction(-1, 1000), Fraction(1, 3)))
 
 
 def check_without_noise(report):

@@ -35,6 +35,7 @@ def check(report):
     check_view(report)
     check_points(report)
     check_course(report)
+    check_size(report)
     for text, said in ((b"plant 1\nend\n", "no comments `# unit"), (b"state x 0 1 0.1 0.1\nunit y m\n", "line 2: `unit NAME WORD`"),
                        (b"\xff\xfe", "begins no line of a model")):
         report.holds(f"units of {text[:20]} are refused", said in fault_of(text), fault_of(text))
@@ -45,6 +46,19 @@ def fault_of(text):
         return f"they are {read_units('text', text).sizes}"
     except Trouble as trouble:
         return str(trouble)
+
+
+def check_size(report):
+    """A model ten times as large as the table's plant has the same whole numbers of units, but other steps: it is refused, as a plant text with other equations is."""
+    folder, larger, other = report.top / "examples/docks", report.room / "larger.model", report.room / "other.plant"
+    text = (folder / "docks.model").read_text()
+    larger.write_text(text.replace("state x 0 405 9 1", "state x 0 4050 90 10").replace("state y 0 225 9 1", "state y 0 2250 90 10"))
+    other.write_text((folder / "docks.plant").read_text().replace("next x = x + u", "next x = x + u + u"))
+    words = ["why", folder / "docks.patrol", "200", "30", "--model"]
+    report.expect("a table's own model", 0, report.tool(*words, folder / "docks.model")[0])
+    for path, said in ((larger, "the model isn't the table's: by the model a sample leads x"), (other, "the table is of another plant: equations or noises differ")):
+        status, out, error = report.tool(*words, path)
+        report.holds(f"{path.name} is refused", (status, out, error.count("\n")) == (1, "", 1) and said in error, error)
 
 
 def check_view(report):
