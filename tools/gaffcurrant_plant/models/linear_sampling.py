@@ -62,16 +62,15 @@ def times(matrix, factor):
 def rounded_sum(states, inputs, time):
     """The matrices by the series to KEPT decimals."""
     wide, one = len(states), 10**PLACES
-    rows = [list(a) + list(b) for a, b in zip(states, inputs)]
-    rows += [[Fraction(0)] * len(rows[0]) for _ in inputs[0]]
+    rows = [list(a) + list(b) for a, b in zip(states, inputs)] + [[0] * (wide + len(inputs[0]))] * len(inputs[0])
     matrix = [[round(entry * time * one) for entry in row] for row in rows]
-    power = [[one * (i == j) for j in range(len(rows))] for i in range(len(rows))]
-    total, number = power, 0
+    power = total = [[one * (i == j) for j in range(len(rows))] for i in range(len(rows))]
+    number = 0
     while any(map(any, power)):
         number += 1
         power = [[quotient(entry, one * number) for entry in row] for row in product(power, matrix)]
         total = plus(total, power)
-    kept = [[kept_of(Fraction(entry, one)) for entry in row] for row in total[:wide]]
+    kept = kept_matrix(times(total[:wide], Fraction(1, one)))
     return [row[:wide] for row in kept], [row[wide:] for row in kept]
 
 

@@ -166,12 +166,7 @@ def sampled(plant):
     cells = range(plant.cells) if every else sorted(draws.sample(range(plant.cells), SAMPLE))
     vectors = some_vectors(plant, draws, 32)
     cells = [cell for cell in cells if not plant.is_goal(cell) and not plant.is_obstacle(cell)]
-    boxes = plant.boxes(cells, vectors)
-    dead, stuck = 0, 0
-    for number, cell in enumerate(cells):
-        ways = [box for box in boxes[number * len(vectors) : (number + 1) * len(vectors)] if not plant.leaves(*box)]
-        dead += not ways
-        stuck += bool(ways) and all(has_cell(plant, box, cell) for box in ways)
+    dead, stuck = dead_and_stuck(plant, cells, vectors)
     of = f"{len(cells)} {'' if every else 'sampled '}cells that are neither goal nor obstacle"
     inputs = "every input" if plant.vectors <= 32 else "each of 32 sampled inputs"
     if dead:
@@ -181,6 +176,16 @@ def sampled(plant):
             f"at {stuck} of {of} {inputs} that is enabled may lead back into the cell itself, and such a cell "
             "isn't won; a longer sampling time, a smaller deviation or narrower cells help"
         )
+
+
+def dead_and_stuck(plant, cells, vectors):
+    """At how many cells each input leaves the domain, and at how many the others all may lead back into the cell."""
+    boxes, dead, stuck = plant.boxes(cells, vectors), 0, 0
+    for number, cell in enumerate(cells):
+        ways = [box for box in boxes[number * len(vectors) : (number + 1) * len(vectors)] if not plant.leaves(*box)]
+        dead += not ways
+        stuck += bool(ways) and all(has_cell(plant, box, cell) for box in ways)
+    return dead, stuck
 
 
 def some_vectors(plant, draws, most):

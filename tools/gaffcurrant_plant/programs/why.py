@@ -49,16 +49,19 @@ def leaving(plant, low, high):
 def stops(table, cell, cells):
     """What stops an input whose successors are these cells; nothing where each of them has a row."""
     without = [one for one in cells if not table.has(one)]
-    obstacles = [one for one in without if table.plant.is_obstacle(one)]
-    others = [one for one in without if one not in obstacles]
-    comes_back = cell in others and (not table.keeps or len(without) == 1)
-    others = [one for one in others if one != cell]
+    obstacles = list(filter(table.plant.is_obstacle, without))
+    others = [one for one in without if one not in obstacles and one != cell]
     if obstacles:
         yield "it may meet an obstacle: " + cells_said(table.plant, obstacles)
-    if comes_back:
+    if may_come_back(table, cell, without, obstacles):
         yield "it may come back to the cell itself"
     if others:
         yield "it may lead to cells without a row: " + cells_said(table.plant, others)
+
+
+def may_come_back(table, cell, without, obstacles):
+    """Whether a cell itself stops an input that leads to these cells without a row."""
+    return cell in without and cell not in obstacles and (not table.keeps or len(without) == 1)
 
 
 def judged(table, cell, cells):

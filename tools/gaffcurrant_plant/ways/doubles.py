@@ -62,6 +62,11 @@ def sum_of(terms):
     )
 
 
+def firsts_of(entries):
+    """The names of states, of inputs or of noises."""
+    return [entry[0] for entry in entries]
+
+
 class RealPlant:
     """sides: functions of the variables' arrays for the derivatives of the states, or, of a model with `next` lines,
     for the next states. States and inputs are arrays of a row for each variable and a column for each run."""
@@ -69,9 +74,7 @@ class RealPlant:
     def __init__(self, model):
         need_numpy()
         self.model, self.maths = model, Arrays()
-        self.names = [state[0] for state in model.states]
-        self.input_names = [entry[0] for entry in model.inputs]
-        self.noise_names = [noise[0] for noise in model.noises]
+        self.names, self.input_names, self.noise_names = map(firsts_of, (model.states, model.inputs, model.noises))
         self.units = column([state[4] for state in model.states])
         self.lows, self.highs = (column([state[k] for state in model.states]) for k in (1, 2))
         self.noise_ends = [column([noise[k] for noise in model.noises]) for k in (1, 2)]
