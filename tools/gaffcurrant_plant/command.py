@@ -16,7 +16,7 @@ PARENT = os.path.dirname(os.path.dirname(os.path.realpath(__file__)))
 DEBIAN, DEBIAN_MODULES = "/usr/bin/python3", ("/usr/lib/python3/dist-packages", "/usr/local/lib/python3/dist-packages")
 
 
-class Words(argparse.ArgumentParser):
+class Arguments(argparse.ArgumentParser):
     """A parser of words whose complaint is one line."""
 
     def error(self, message: str) -> NoReturn:

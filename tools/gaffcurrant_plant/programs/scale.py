@@ -5,7 +5,7 @@ straight pieces instead of functions do."""
 import argparse
 from functools import partial
 
-from ..command import Words, check_there, prefer, read_bytes, start
+from ..command import Arguments, check_there, prefer, read_bytes, start
 from ..faults import Trouble
 from ..models.best_plant import needs_mpmath, planted
 from ..models.model import read_model
@@ -16,7 +16,7 @@ WORDS = ("synth", "stay", "patrol")
 
 
 def parser_of_arguments():
-    parser = Words(
+    parser = Arguments(
         prog="scale", description=__doc__, epilog=help_text(), formatter_class=argparse.RawDescriptionHelpFormatter
     )
     parser.add_argument("model", metavar="MODEL", help="the model text, `-` for standard input")
@@ -41,8 +41,8 @@ def parser_of_arguments():
     return parser
 
 
-def main(words):
-    given = parser_of_arguments().parse_args(words)
+def main(arguments):
+    given = parser_of_arguments().parse_args(arguments)
     prefer("mpmath", "numpy")
     if given.trials is not None and not 1 <= given.trials <= 10**7:
         raise Trouble("--try takes a number from 1 to 10000000", 2)
@@ -78,8 +78,8 @@ def tried(model, planting, count):
     outside = 0
     for state, seen, (low, high) in zip(model.states, trial(model, planting.plant, count), planting.ranges):
         print(
-            f"{state[0]}: differences from {seen.low} to {seen.high} on {count} random states; the noise allows {low} "
-            f"to {high}"
+            f"{state[0]}: differences from {seen.low} to {seen.high} on {count} random states; the noise allows "
+            f"{low} to {high}"
         )
         outside += not seen.lies_in(low, high)
     return 1 if outside else 0

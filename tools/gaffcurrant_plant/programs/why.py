@@ -3,7 +3,7 @@
 
 from functools import partial
 
-from ..command import Words, need, read_bytes, start
+from ..command import Arguments, need, read_bytes, start
 from ..faults import Refused, Trouble
 from ..plants.plant import meets
 from ..plants.units import MODEL_HELP, outside_said, state_of, units_for
@@ -252,8 +252,8 @@ def name_said(table, cell):
     return f"turn {table.number}, {table.plant.cell_said(cell)}" + (", an arrival" if cell in table.arrivals else "")
 
 
-def main(words):
-    parser = Words(
+def main(arguments):
+    parser = Arguments(
         prog="why",
         description=__doc__,
         epilog="Status 0: answered; 1: the table isn't readable or the state is outside the domain; 2: wrong words.",
@@ -270,7 +270,7 @@ def main(words):
         "goal keep tell the round in which the cell falls",
     )
     parser.add_argument("--turn", type=int, metavar="J", help="this turn of a patrol text, from 0 (0)")
-    given = parser.parse_args(words)
+    given = parser.parse_args(arguments)
     if given.deep:
         need("--deep", "numpy")
     data = read_bytes(given.table)
