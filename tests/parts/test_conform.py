@@ -647,7 +647,7 @@ def recorded(model, text, runs, **mistake):
     """The log of runs of a model's equations by a text, as it is written."""
     loop = Planted(model, text, runs, **mistake)
     loop.turns[:] = 0
-    loop.drive(None, loop.rows.longest())
+    loop.drive(None, longest(loop.rows))
     data = "\n".join(loop.record.lines()).encode() + b"\n"
     return read_log(data, loop.real.names, loop.real.input_names, Units())
 
