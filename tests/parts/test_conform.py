@@ -22,7 +22,7 @@ if has("numpy"):
     from gaffcurrant_plant.models.model import read_model
     from gaffcurrant_plant.measured.promises import promises_of
     from gaffcurrant_plant.measured.ranges import with_ranges
-    from gaffcurrant_plant.ways.real_runs import Loop, Record
+    from gaffcurrant_plant.ways.real_runs import Loop, Record, longest
 if has("numpy") and has("matplotlib"):
     from gaffcurrant_plant.pictures.residuals import draw_residuals
     from matplotlib.figure import Figure

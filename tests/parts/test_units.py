@@ -105,7 +105,9 @@ class OtherModels(ToolCase):
         """A model ten times as large has the same whole numbers of units, but other steps: it is refused, as a plant
         text with other equations is."""
         path, text = self.model_of("docks"), self.model_of("docks").read_text()
-        larger = text.replace("state x 0 405 9 1", "state x 0 4050 90 10").replace("state y 0 225 9 1", "state y 0 2250 90 10")
+        larger = text.replace("state x 0 405 9 1", "state x 0 4050 90 10").replace(
+            "state y 0 225 9 1", "state y 0 2250 90 10"
+        )
         other = self.plant_text("docks").decode().replace("next x = x + u", "next x = x + u + u")
         words = ["why", TOP / "examples/docks/docks.patrol", "200", "30", "--model"]
         self.equal("a table's own model", 0, self.tool(*words, path)[0])
