@@ -184,7 +184,8 @@ class ByHand(ToolCase):
             self.equal(f"a noise from -1 to 2 in {equation}", wanted, found.beyond[0].tolist())
 
     def test_followed_steps(self):
-        """From 50 to 59 under 3 the box is 52 to 64, in the cells from 50 and from 60; from 90 to 99 it leaves the range."""
+        """From 50 to 59 under 3 the box is 52 to 64, in the cells from 50 and from 60; from 90 to 99 it leaves the
+        range."""
         log = log_of([[50], [70], [50], [49], [50], [69], [95], [98]], [[3]] * 8, begins=(0, 2, 4, 6))
         found = conform(read_plant(HAND.encode()), log)
         self.equal("which steps are followed", [False, False, True, False], found.followed.tolist())

@@ -222,8 +222,8 @@ class Scale(ToolCase):
         self.equal(f"{what}: the error of rounding lies within the noise", [], faults[:3])
 
     def test_outward(self):
-        """Ends with long denominators become ends of short ones that hold them, and no others change: numbers don't grow
-        from step to step."""
+        """Ends with long denominators become ends of short ones that hold them, and no others change: so numbers don't
+        grow from step to step."""
         long = Fraction(1, 3**300)
         low, high = outward(-2 - long, long - 1)
         self.holds("long ends hold the interval", -3 < low < -2 - long and long - 1 < high < 0, (low, high))
