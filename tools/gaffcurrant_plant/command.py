@@ -5,6 +5,7 @@ from __future__ import annotations
 import argparse
 import importlib
 import importlib.util
+import io
 import os
 import sys
 from typing import Callable, NoReturn, Optional
@@ -99,7 +100,8 @@ def start(name: str, main: Callable[[list[str]], Optional[int]]) -> None:
         if sys.stdout is None:
             raise Trouble("standard output is closed")
         # Units have signs that an encoding of the system may lack.
-        sys.stdout.reconfigure(encoding="utf-8", errors="backslashreplace")
+        if isinstance(sys.stdout, io.TextIOWrapper):
+            sys.stdout.reconfigure(encoding="utf-8", errors="backslashreplace")
         status = main(sys.argv[1:]) or 0
         sys.stdout.flush()
     except Trouble as trouble:

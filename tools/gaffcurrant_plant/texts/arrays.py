@@ -24,7 +24,9 @@ KINDS = tuple(VERSIONS)
 
 class RowArrays:
     """The rows of a text, of a patrol text those of one turn, over the cells. won: whether a cell has a row; ranks and
-    inputs: NONE where there is no row, no rank or no input."""
+    inputs: NONE where there is no row, no rank or no input; arrivals: of a Turn, whether it is one of its arrivals."""
+
+    arrivals: numpy.ndarray
 
     def __init__(self, plant: Plant, cells: Any, ranks: Any, inputs: Any) -> None:
         self.plant = plant
@@ -169,11 +171,10 @@ def run_of(samples: Sequence[Sample], units: Optional[Units] = None, plant: Opti
     states = numpy.array([sample.state for sample in samples])
     wide = max((len(sample.inputs) for sample in samples if sample.inputs is not None), default=0)
     applied = [sample.inputs or (0,) * wide for sample in samples]
-    inputs = numpy.ma.masked_array(applied, [[sample.inputs is None] * wide for sample in samples])
-    if units:
-        states = (states + [0.5 * (name not in units.exact) for name, *_ in plant.states]) * sizes_of(
-            units, plant.states
-        )
+    inputs: Any = numpy.ma.masked_array(applied, [[sample.inputs is None] * wide for sample in samples])
+    if units and plant:
+        halves = numpy.array([0.5 * (name not in units.exact) for name, *_ in plant.states])
+        states = (states + halves) * sizes_of(units, plant.states)
         inputs = inputs * sizes_of(units, plant.inputs)[:wide]
     ranks, turns = (filled([getattr(sample, name) for sample in samples]) for name in ("rank", "turn"))
     return Run(numpy.array([sample.time for sample in samples]), states, ranks, inputs, turns)
@@ -212,11 +213,11 @@ def rows_at(data: bytes, front: Front, turn: int) -> tuple[int, int, int]:
         counted = re.compile(rf"{before} (0|[1-9][0-9]{{0,8}})\n".encode()).match(data, at)
         if not counted:
             raise Refused(f"malformed: line {line}", f"`{before} N` is due")
-        at, line = counted.end(), line + 1
+        at, line, count = counted.end(), line + 1, int(counted.group(1))
         if number < turn:
-            for _ in range(int(counted.group(1))):
+            for _ in range(count):
                 at, line = data.find(b"\n", at) + 1 or len(data), line + 1
-    return line, at, int(counted.group(1))
+    return line, at, count
 
 
 def end_of(data: bytes, at: int) -> int:

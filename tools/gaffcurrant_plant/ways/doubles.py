@@ -10,7 +10,7 @@ from ..models.formula import value_of
 try:
     import numpy
 except ImportError:
-    numpy = None
+    numpy = None  # type: ignore[assignment]
 
 # Fine steps of a sample, and the parts of it in which a disturbance is held.
 STEPS, PARTS = 24, 4
