@@ -169,15 +169,20 @@ def run_of(samples: Sequence[Sample], units: Optional[Units] = None, plant: Opti
     """The Run of what `simulate` gives. With a plant's units states and inputs are in these: states at the middles of
     their units, what is a whole number by itself as it is."""
     states = numpy.array([sample.state for sample in samples])
-    wide = max((len(sample.inputs) for sample in samples if sample.inputs is not None), default=0)
-    applied = [sample.inputs or (0,) * wide for sample in samples]
-    inputs: Any = numpy.ma.masked_array(applied, [[sample.inputs is None] * wide for sample in samples])
+    inputs = inputs_of(samples)
     if units and plant:
         halves = numpy.array([0.5 * (name not in units.exact) for name, *_ in plant.states])
         states = (states + halves) * sizes_of(units, plant.states)
-        inputs = inputs * sizes_of(units, plant.inputs)[:wide]
+        inputs = inputs * sizes_of(units, plant.inputs)[: inputs.shape[-1]]
     ranks, turns = (filled([getattr(sample, name) for sample in samples]) for name in ("rank", "turn"))
     return Run(numpy.array([sample.time for sample in samples]), states, ranks, inputs, turns)
+
+
+def inputs_of(samples: Sequence[Sample]) -> Any:
+    """The inputs of samples, a line each, masked where none were applied."""
+    wide = max((len(sample.inputs) for sample in samples if sample.inputs is not None), default=0)
+    applied = [sample.inputs or (0,) * wide for sample in samples]
+    return numpy.ma.masked_array(applied, [[sample.inputs is None] * wide for sample in samples])
 
 
 def sizes_of(units: Units, entries: Iterable[Any]) -> numpy.ndarray:
