@@ -100,6 +100,7 @@ OTHERWISE = [
     ("a unit in the heading", "x,u", "x [m],u"),
     ("an empty field", "-\n", "\n"),
     ("exponents", "54", "5.4e+1"),
+    ("a state between units", "54", "54.9"),
     ("blank lines about it", "time", "\n\ntime"),
 ]
 # x leaves its range, an input isn't listed, a number is missing, and two times lie two samples apart; a blank line,
@@ -183,10 +184,11 @@ class ByHand(ToolCase):
             self.equal(f"a noise from -1 to 2 in {equation}", wanted, found.beyond[0].tolist())
 
     def test_followed_steps(self):
-        """From 50 to 59 under 3 the box is 52 to 64, in the cells from 50 and from 60."""
-        log = log_of([[50], [70], [50], [49], [50], [69]], [[3]] * 6, begins=(0, 2, 4))
+        """From 50 to 59 under 3 the box is 52 to 64, in the cells from 50 and from 60; from 90 to 99 it leaves the
+        range."""
+        log = log_of([[50], [70], [50], [49], [50], [69], [95], [98]], [[3]] * 8, begins=(0, 2, 4, 6))
         found = conform(read_plant(HAND.encode()), log)
-        self.equal("which steps are followed", [False, False, True], found.followed.tolist())
+        self.equal("which steps are followed", [False, False, True, False], found.followed.tolist())
 
     def test_two_states(self):
         """The farther one beside its cells is the worse; an input's number is its index in the list."""

@@ -6,6 +6,7 @@ import random
 import re
 from fractions import Fraction
 
+from gaffcurrant_plant.models.variables import outward
 from gaffcurrant_plant.plants.reader import read_plant
 
 from .tool_case import ToolCase, needs_mpmath
@@ -226,6 +227,22 @@ class Scale(ToolCase):
         faults = outside(Model(self.model_of("gate").read_text()), read_plant(text.encode()), 3000)
         seen = any("leaves" in fault for fault in faults)
         self.holds("without its noise the gate's real steps leave the box", seen)
+
+
+class Outward(ToolCase):
+    """Ends with long denominators become ends of short ones that hold them, and no others change: so numbers don't grow
+    from step to step."""
+
+    def test_long_ends(self):
+        long = Fraction(1, 3**300)
+        low, high = outward(-2 - long, long - 1)
+        is_held = -3 < low < -2 - long and long - 1 < high < 0
+        is_short = max(low.denominator, high.denominator) <= 2**80
+        self.holds("long ends are rounded outward", is_held and is_short, (low, high))
+
+    def test_short_ends(self):
+        ends = (Fraction(-1, 1000), Fraction(1, 3))
+        self.equal("short ends stay", ends, outward(*ends))
 
 
 class Refused(ToolCase):

@@ -1,10 +1,14 @@
 """What every program of tools/ does alike: its words, its input, its output, and one line for what is wrong."""
 
+from __future__ import annotations
+
 import argparse
 import importlib
 import importlib.util
+import io
 import os
 import sys
+from typing import Callable, NoReturn, Optional
 
 from .faults import Failure, Trouble
 
@@ -13,14 +17,14 @@ PARENT = os.path.dirname(os.path.dirname(os.path.realpath(__file__)))
 DEBIAN, DEBIAN_MODULES = "/usr/bin/python3", ("/usr/lib/python3/dist-packages", "/usr/local/lib/python3/dist-packages")
 
 
-class Words(argparse.ArgumentParser):
+class Arguments(argparse.ArgumentParser):
     """A parser of words whose complaint is one line."""
 
-    def error(self, message):
+    def error(self, message: str) -> NoReturn:
         raise Trouble(f"{message}; see --help", 2)
 
 
-def read_bytes(path):
+def read_bytes(path: str) -> bytes:
     """The bytes of a file, or of standard input for `-`."""
     if path == "-":
         if sys.stdin is None:
@@ -33,7 +37,7 @@ def read_bytes(path):
         raise Trouble(f"{path}: {error.strerror}") from None
 
 
-def prefer(*modules):
+def prefer(*modules: str) -> None:
     """Goes over to Debian's Python, once, where this one lacks a module that Debian's has. For programs, before they
     read anything."""
     missing = [module for module in modules if not importlib.util.find_spec(module)]
@@ -46,7 +50,7 @@ def prefer(*modules):
         os.execv(DEBIAN, [DEBIAN, os.path.abspath(sys.argv[0])] + sys.argv[1:])
 
 
-def is_in_debian(module):
+def is_in_debian(module: str) -> bool:
     return any(os.path.isdir(os.path.join(folder, module)) for folder in DEBIAN_MODULES)
 
 
@@ -59,13 +63,13 @@ PACKAGES = {
 }
 
 
-def need(what, *modules):
+def need(what: str, *modules: str) -> None:
     """Goes over to a Python that has some modules, or raises Trouble with the names of all that are missing."""
     prefer(*modules)
     check_there(what, *modules)
 
 
-def check_there(what, *modules):
+def check_there(what: str, *modules: str) -> None:
     """Raises Trouble with the names of all modules that are missing."""
     if missing := [module for module in modules if not is_there(module)]:
         packages = " ".join(PACKAGES[module] for module in missing)
@@ -75,7 +79,7 @@ def check_there(what, *modules):
         )
 
 
-def is_there(module):
+def is_there(module: str) -> bool:
     """Whether a module can be loaded; matplotlib, which makes a folder for its settings when it is, has to be found
     alone."""
     if module == "matplotlib" or not importlib.util.find_spec(module):
@@ -87,7 +91,7 @@ def is_there(module):
     return True
 
 
-def start(name, main):
+def start(name: str, main: Callable[[list[str]], Optional[int]]) -> None:
     """Calls main with the words, and ends the process with its status. No traceback for what a user may do."""
     status = 0
     # Long sums are deep trees.
@@ -96,7 +100,8 @@ def start(name, main):
         if sys.stdout is None:
             raise Trouble("standard output is closed")
         # Units have signs that an encoding of the system may lack.
-        sys.stdout.reconfigure(encoding="utf-8", errors="backslashreplace")
+        if isinstance(sys.stdout, io.TextIOWrapper):
+            sys.stdout.reconfigure(encoding="utf-8", errors="backslashreplace")
         status = main(sys.argv[1:]) or 0
         sys.stdout.flush()
     except Trouble as trouble:
@@ -116,7 +121,7 @@ def start(name, main):
     os._exit(finish(status))
 
 
-def complain(name, said, status):
+def complain(name: str, said: str, status: int) -> int:
     try:
         print(f"{name}: {' '.join(said.split())}", file=sys.stderr, flush=True)
     except (OSError, AttributeError, ValueError):
@@ -124,7 +129,7 @@ def complain(name, said, status):
     return status
 
 
-def finish(status):
+def finish(status: int) -> int:
     for stream in (sys.stdout, sys.stderr):
         try:
             if stream is not None:

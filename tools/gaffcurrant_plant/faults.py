@@ -9,14 +9,18 @@ estimated instead
 `NoRow` (texts/table.py) is a LookupError: a state has no row. `NoBox` (models/taylor_sampling.py) is a Trouble: shorter
 steps are tried."""
 
+from __future__ import annotations
+
+from typing import Optional
+
 
 class Failure(Exception):
     """What is wrong with a text, in words: each class of this package that a text may raise is one. model_line is the
     line of the model to which it belongs, where that is known."""
 
-    model_line = None
+    model_line: Optional[int] = None
 
-    def said(self):
+    def said(self) -> str:
         return str(self)
 
 
@@ -28,18 +32,18 @@ class Refused(Failure):
     """The one answer of the program to a text that it refuses, and the reason in words. line is that of the plant
     text."""
 
-    def __init__(self, answer, reason, line=None):
+    def __init__(self, answer: str, reason: str, line: Optional[int] = None) -> None:
         super().__init__(answer)
         self.answer, self.reason, self.line = answer, reason, line
 
-    def said(self):
+    def said(self) -> str:
         return f"{self.answer}: {self.reason}"
 
 
 class Trouble(Failure):
     """What is wrong, in one line, with the exit status."""
 
-    def __init__(self, said, status=1):
+    def __init__(self, said: str, status: int = 1) -> None:
         super().__init__(said)
         self.status = status
 

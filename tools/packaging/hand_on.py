@@ -58,12 +58,17 @@ def uninstall(top):
     folders = [top / name for name in names if name.endswith("/")]
     caches = {path.parent / "__pycache__" for path in files if path.suffix == ".py"}
     for path in filter(os.path.lexists, files):
-        path.unlink()
-        for compiled in (path.parent / "__pycache__").glob(f"{path.stem}.*.pyc") if path.suffix == ".py" else ():
-            compiled.unlink()
+        remove(path)
     for folder in [*caches, *reversed(folders)]:
         if folder.is_dir() and not folder.is_symlink() and not any(folder.iterdir()):
             folder.rmdir()
+
+
+def remove(path):
+    """Takes away a file, and what Python compiled of it."""
+    path.unlink()
+    for compiled in (path.parent / "__pycache__").glob(f"{path.stem}.*.pyc") if path.suffix == ".py" else ():
+        compiled.unlink()
 
 
 def listed(top):

@@ -22,8 +22,8 @@ __attribute__((constructor)) static void keep(int count, char **words)
     argument = words;
 }
 
-/* The length of an argument, whose bytes are then in the buffer; or why they aren't: at NO_ROOM the buffer is full of its
-   first ones. */
+/* The length of an argument, whose bytes are then in the buffer; or why they aren't: at NO_ROOM the buffer is full of
+   its first ones. */
 ssize_t rattle_arg(size_t number, uint8_t *buffer, size_t room)
 {
     if (number >= arguments || argument[number] == NULL) return NO_SUCH;

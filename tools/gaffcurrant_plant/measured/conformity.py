@@ -52,7 +52,7 @@ class Equations:
         self.exact = column([state[0] in units.exact for state in plant.states])
         self.periods = plant.periods
         self.values = [numpy.array(sorted(values)) for _, values in plant.inputs]
-        self.places = [numpy.array([values.index(value) for value in sorted(values)]) for _, values in plant.inputs]
+        self.indices = [numpy.array([values.index(value) for value in sorted(values)]) for _, values in plant.inputs]
 
     def whole_states(self, states: numpy.ndarray, near: float = NEAR) -> numpy.ndarray:
         """The whole numbers of real states, as doubles, those of states that come round within their range; NaN stays.
@@ -74,11 +74,11 @@ class Equations:
         """The input vectors of columns of real inputs, -1 where a value is none of those of its input."""
         vectors = numpy.zeros(inputs.shape[1], dtype=numpy.int64)
         good = numpy.ones(inputs.shape[1], dtype=bool)
-        for row, values, places in zip(inputs / self.input_sizes, self.values, self.places):
+        for row, values, indices in zip(inputs / self.input_sizes, self.values, self.indices):
             whole = numpy.round(row)
             at = numpy.minimum(numpy.searchsorted(values, whole), len(values) - 1)
             good &= (values[at] == whole) & (abs(row - whole) < AT_VALUE * numpy.maximum(1, abs(whole)))
-            vectors = vectors * len(values) + places[at]
+            vectors = vectors * len(values) + indices[at]
         return numpy.where(good, vectors, -1)
 
     def needed(
@@ -110,12 +110,12 @@ class Equations:
     def are_followed(self, whole: numpy.ndarray, vectors: numpy.ndarray, after: numpy.ndarray) -> numpy.ndarray:
         """Which next states lie in the domain, in a cell of the box of their state's cell, the box being in the domain:
         what `Controller.follows` says."""
-        places = [(row - state[1]) // state[3] for row, state in zip(whole, self.plant.states)]
-        extents, inside = self.batch.extents(self.batch.boxes(self.batch.lows(places), vectors))
+        indices = [(row - state[1]) // state[3] for row, state in zip(whole, self.plant.states)]
+        extents, inside = self.batch.extents(self.batch.boxes(self.batch.lows(indices), vectors))
         followed = inside & self.are_inside(after)
         for (first, last), row, (_, low, _, width) in zip(extents, after, self.plant.states):
-            place = (row - low) // width
-            followed = followed & (first <= place) & (place <= last)
+            index = (row - low) // width
+            followed = followed & (first <= index) & (index <= last)
         return numpy.broadcast_to(followed, vectors.shape)
 
 
@@ -247,7 +247,7 @@ class Conformity:
         return [middle_of(row, left) for row in self.needed]
 
     def worst(self, most: int = 10) -> list[int]:
-        """The steps, as places in `steps`, that lie farthest beyond the ranges beside the cells' widths, at most so
+        """The steps, as indices into `steps`, that lie farthest beyond the ranges beside the cells' widths, at most so
         many."""
         far = (abs(self.beyond) / column([state[3] for state in self.plant.states])).max(axis=0)
         order = numpy.argsort(-far, kind="stable")[:most]

@@ -85,7 +85,7 @@ def read_log(data: bytes, states: Sequence[str], inputs: Sequence[str], units: U
         path, [word.strip().strip('"').strip() for word in said.split(separator)], states, inputs, units
     )
     time = next((columns[name] for name in TIMES if name in columns and name not in (*states, *inputs)), None)
-    looked_at = [columns[name] for name in (*states, *inputs)] + [time] * (time is not None)
+    looked_at = [columns[name] for name in (*states, *inputs)] + ([] if time is None else [time])
     table, lines, goes_on = numbers_of(path, body, line + 1, separator, len(said.split(separator)), looked_at)
     picked = [table[:, [columns[name] for name in names]].T for names in (states, inputs)]
     log = Log(picked[0], picked[1], None if time is None else table[:, time], lines, goes_on, path)

@@ -177,35 +177,36 @@ class Intervals:
         low, high = self.ends(value)
         if function[0] in ("lut", "slope"):
             return self.between(*(lut_ends if function[0] == "lut" else slope_ends)(function[1], low, high))
-        name = function if isinstance(function, str) else f"power {function[1]}"
-        is_whole = not isinstance(function, str) and function[1].denominator == 1
-        if (
-            name in ("sqrt", "log")
-            and low <= 0
-            or not isinstance(function, str)
-            and (low <= 0 if not is_whole else low <= 0 <= high)
-        ):
-            raise Trouble(off_zero(function, low, high, argument))
-        if name == "tan" and high - low >= 3 or name == "tan" and self.iv.cos(value).a <= 0 <= self.iv.cos(value).b:
+        if not isinstance(function, str):
+            return self.power(function, value, low, high, argument)
+        self.check_domain(function, value, low, high, argument)
+        return self.by_ends(function, value) if function in self.BY_ENDS else getattr(self.iv, function)(value)
+
+    def check_domain(self, name, value, low, high, argument):
+        """Raises Trouble where a function has no value, or a pole, in an interval."""
+        text, ends = text_of(argument), f"may lie between {float(low):.4g} and {float(high):.4g}"
+        if name in ("sqrt", "log") and low <= 0:
+            raise Trouble(off_zero(name, low, high, argument))
+        if name == "tan" and (high - low >= 3 or self.iv.cos(value).a <= 0 <= self.iv.cos(value).b):
             raise Trouble(
-                f"what stands in `tan({text_of(argument)})` may lie between {float(low):.4g} and "
-                f"{float(high):.4g}, with a pole between; a narrower range does it, or tan(max(-1.5, "
-                "min(1.5, "
-                f"{text_of(argument)})))"
+                f"what stands in `tan({text})` {ends}, with a pole between; a narrower range does it, or "
+                f"tan(max(-1.5, min(1.5, {text})))"
             )
         if name in ("asin", "acos") and not -1 < low <= high < 1:
             raise Trouble(
-                f"what stands in `{name}({text_of(argument)})` may lie between {float(low):.4g} and "
-                f"{float(high):.4g}, and has to be within -1 and 1; {name}(max(-0.999, min(0.999, "
-                f"{text_of(argument)}))) does it"
+                f"what stands in `{name}({text})` {ends}, and has to be within -1 and 1; {name}(max(-0.999, "
+                f"min(0.999, {text}))) does it"
             )
-        if name in self.BY_ENDS:
-            return self.by_ends(name, value)
-        if isinstance(function, str):
-            return getattr(self.iv, name)(value)
+
+    def power(self, function, value, low, high, argument):
+        """A power by a number; raises Trouble where it has none."""
+        exponent = function[1]
+        is_whole = exponent.denominator == 1
+        if low <= 0 and (not is_whole or high >= 0):
+            raise Trouble(off_zero(function, low, high, argument))
         if is_whole:
-            return 1 / value ** int(-function[1]) if function[1] < 0 else value ** int(function[1])
-        return self.iv.exp(self.iv.log(value) * self.number(function[1]))
+            return 1 / value ** int(-exponent) if exponent < 0 else value ** int(exponent)
+        return self.iv.exp(self.iv.log(value) * self.number(exponent))
 
 
 def off_zero(function, low, high, argument):

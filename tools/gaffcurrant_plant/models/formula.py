@@ -8,6 +8,7 @@ slope ('slope', points), ('min', a, b), ('max', a, b), ('atan2', a, b), ('abs', 
 
 import re
 from fractions import Fraction
+from typing import Any
 
 from ..faults import Fault
 from .polynomial import added, multiplied, number_of
@@ -33,7 +34,7 @@ INSTEAD = {
     "arccos": "; it is `acos`",
     "arctan2": "; it is `atan2`",
 }
-_MADE = {}
+_MADE: dict[tuple[Any, ...], tuple[Any, ...]] = {}
 
 
 def made(kind, *parts):

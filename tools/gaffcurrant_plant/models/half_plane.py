@@ -18,12 +18,12 @@ class HalfPlane:
         self.constant = polynomial.get((), 0)
         self.states = states
 
-    def least(self, places):
-        """The least value over the cell at these places of its axes."""
+    def least(self, indices):
+        """The least value over the cell at these indices of its axes."""
         total = self.constant
-        for i, weight, place in zip(self.axes, self.weights, places):
+        for i, weight, index in zip(self.axes, self.weights, indices):
             _, low, _, width, _ = self.states[i]
-            total += weight * (low + width * (place if weight > 0 else place + 1))
+            total += weight * (low + width * (index if weight > 0 else index + 1))
         return total
 
     def count(self, axis):
@@ -31,24 +31,24 @@ class HalfPlane:
         return int((high - low) / width)
 
     def columns(self):
-        """Runs of places (first, last) of the first axis, each with the first and the last place that is met along the
+        """Runs of indices (first, last) of the first axis, each with the first and the last index that is met along the
         second."""
         columns = []
-        for place in range(self.count(0)):
-            met = self.met(place)
-            if met and columns and columns[-1][1] == place - 1 and columns[-1][2:] == met:
-                columns[-1] = (columns[-1][0], place, *met)
+        for index in range(self.count(0)):
+            met = self.met(index)
+            if met and columns and columns[-1][1] == index - 1 and columns[-1][2:] == met:
+                columns[-1] = (columns[-1][0], index, *met)
             elif met:
-                columns.append((place, place, *met))
+                columns.append((index, index, *met))
         return columns
 
-    def met(self, place):
-        """The ends of the places along the second axis that are met, which begin or end with the axis; None where there
-        are none."""
+    def met(self, index):
+        """The ends of the indices along the second axis that are met, which begin or end with the axis; None where
+        there are none."""
         if len(self.axes) == 1:
-            return (0, 0) if self.least((place,)) < 0 else None
+            return (0, 0) if self.least((index,)) < 0 else None
         last = self.count(1) - 1
-        is_met = [self.least((place, other)) < 0 for other in range(last + 1)]
+        is_met = [self.least((index, other)) < 0 for other in range(last + 1)]
         if not any(is_met):
             return None
         return (0, last - is_met[::-1].index(True)) if self.weights[1] > 0 else (is_met.index(True), last)
@@ -79,5 +79,5 @@ def cells_of(column):
 
 
 def added(one, other):
-    """How many cells one box in place of two takes in beside them."""
+    """How many cells one box in index of two takes in beside them."""
     return cells_of(joined(one, other)) - cells_of(one) - cells_of(other)

@@ -61,21 +61,16 @@ def times(matrix, factor):
 
 def rounded_sum(states, inputs, time):
     """The matrices by the series to KEPT decimals."""
-    wide = len(states)
-    rows = [list(a) + list(b) for a, b in zip(states, inputs)]
-    size = len(rows[0])
-    one = 10**PLACES
-    matrix = [[round(entry * time * one) for entry in row] for row in rows] + [[0] * size for _ in range(size - wide)]
-    power = [[one * (i == j) for j in range(size)] for i in range(size)]
-    total, number = [row[:] for row in power], 0
+    wide, one = len(states), 10**PLACES
+    rows = [list(a) + list(b) for a, b in zip(states, inputs)] + [[0] * (wide + len(inputs[0]))] * len(inputs[0])
+    matrix = [[round(entry * time * one) for entry in row] for row in rows]
+    power = total = [[one * (i == j) for j in range(len(rows))] for i in range(len(rows))]
+    number = 0
     while any(map(any, power)):
         number += 1
-        power = [
-            [quotient(sum(row[k] * matrix[k][j] for k in range(size)), one * number) for j in range(size)]
-            for row in power
-        ]
-        total = [[a + b for a, b in zip(left, right)] for left, right in zip(total, power)]
-    kept = [[kept_of(Fraction(entry, one)) for entry in row] for row in total[:wide]]
+        power = [[quotient(entry, one * number) for entry in row] for row in product(power, matrix)]
+        total = plus(total, power)
+    kept = kept_matrix(times(total[:wide], Fraction(1, one)))
     return [row[:wide] for row in kept], [row[wide:] for row in kept]
 
 
@@ -95,18 +90,23 @@ def held_integrals(states, columns, time, model):
     part = time / PARTS
     start = [list(row) for row in zip(*columns)]
     step, whole = sampled(states, start, part, model)
-    grown, _ = sampled([[abs(entry) for entry in row] for row in states], start, part, model)
+    grown, _ = sampled(sizes_of(states), start, part, model)
     total = [Fraction(0)] * len(states)
     for _ in range(PARTS):
-        sizes = [[abs(entry) for entry in row] for row in start]
-        most = product(grown, sizes)
-        # An entry moves by at most what the greatest size is above its own.
-        ends = [
-            sum(abs(way) if 2 * size >= top else part * top for way, size, top in zip(*rows))
-            for rows in zip(whole, sizes, most)
-        ]
-        total = [one + other for one, other in zip(total, ends)]
-        start, whole = (
-            [[kept_of(entry) for entry in row] for row in product(step, matrix)] for matrix in (start, whole)
-        )
+        total = [one + other for one, other in zip(total, part_integrals(whole, sizes_of(start), grown, part))]
+        start, whole = (kept_matrix(product(step, matrix)) for matrix in (start, whole))
     return [one * (1 + ROUNDED) + ROUNDED * max(total) if one else one for one in total]
+
+
+def part_integrals(whole, sizes, grown, part):
+    """The integrals over a part: an entry moves by at most what the greatest size is above its own."""
+    rows = zip(whole, sizes, product(grown, sizes))
+    return [sum(abs(way) if 2 * size >= top else part * top for way, size, top in zip(*row)) for row in rows]
+
+
+def sizes_of(matrix):
+    return [[abs(entry) for entry in row] for row in matrix]
+
+
+def kept_matrix(matrix):
+    return [[kept_of(entry) for entry in row] for row in matrix]

@@ -136,53 +136,52 @@ def fail(said):
 
 def read_line(model, words):
     keyword, rest = words[0], words[1:]
-    if keyword in WITH_NUMBERS and not is_inequality(keyword, rest):
+    if is_inequality(keyword, rest):
+        model.half_planes.append((model.line, half_plane_of(model, rest)))
+        return
+    if keyword in WITH_NUMBERS:
         named = 1 if keyword in ("state", "input", "noise") else 0
         rest = rest[:named] + [model.parameters.get(word, negated(model, word)) for word in rest[named:]]
-    if keyword == "param":
-        read_parameter(model, rest)
-    elif keyword == "denominator":
-        value = numbers(rest, 1, keyword)[0]
-        if value.denominator != 1 or value < 1:
-            fail("the denominator is a whole number of at least 1")
-        model.denominator = int(value)
-    elif keyword == "sample":
-        model.sample, model.sample_line = numbers(rest, 1, keyword)[0], model.line
-        if model.sample <= 0:
-            fail("a sampling time is above 0")
-    elif keyword == "unit":
-        if len(rest) != 2 or rest[0] not in model.names() or not re.match(r"[^\s:]{1,16}\Z", rest[1]):
-            fail(
-                "`unit NAME WORD` has the name of a state or an input, and a word for its unit, of at most 16 "
-                "characters and no colon"
-            )
-        model.words[rest[0]] = rest[1]
-    elif keyword == "between":
-        read_between(model, rest)
-    elif keyword in ("exact", "wrap"):
-        read_mark(model, keyword, rest)
-    elif keyword in ("state", "input", "noise"):
-        read_variable(model, keyword, rest)
-    elif keyword in CHOICES:
-        read_choice(model, keyword, rest)
-    elif keyword in ("next", "d"):
-        read_equation(model, keyword, rest)
-    elif keyword in model.rows:
-        size = {"A": len(model.states), "B": len(model.inputs), "c": 1, "w": 2}[keyword]
-        row = numbers(rest, size, keyword)
-        if keyword == "w" and row[0] > row[1]:
-            fail("a line `w LO HI` has LO of at most HI")
-        model.rows[keyword].append(row)
-        if keyword == "A":
-            model.equation_lines.append(model.line)
-    elif is_inequality(keyword, rest):
-        model.half_planes.append((model.line, half_plane_of(model, rest)))
-    elif keyword in ("target", "obstacle"):
-        read_box(model, keyword, rest)
-    elif keyword == "goal":
-        read_goal(model, rest)
-    elif keyword != "end" or rest:
+    if keyword not in READERS or keyword == "end" and rest:
         fail(no_line(words))
+    READERS[keyword](model, keyword, rest)
+
+
+def read_denominator(model, keyword, rest):
+    value = numbers(rest, 1, keyword)[0]
+    if value.denominator != 1 or value < 1:
+        fail("the denominator is a whole number of at least 1")
+    model.denominator = int(value)
+
+
+def read_sample(model, keyword, rest):
+    model.sample, model.sample_line = numbers(rest, 1, keyword)[0], model.line
+    if model.sample <= 0:
+        fail("a sampling time is above 0")
+
+
+def read_unit(model, _, rest):
+    if len(rest) != 2 or rest[0] not in model.names() or not re.match(r"[^\s:]{1,16}\Z", rest[1]):
+        fail(
+            "`unit NAME WORD` has the name of a state or an input, and a word for its unit, of at most 16 characters "
+            "and no colon"
+        )
+    model.words[rest[0]] = rest[1]
+
+
+def read_row(model, keyword, rest):
+    """A row of the lines A, B, c and w."""
+    size = {"A": len(model.states), "B": len(model.inputs), "c": 1, "w": 2}[keyword]
+    row = numbers(rest, size, keyword)
+    if keyword == "w" and row[0] > row[1]:
+        fail("a line `w LO HI` has LO of at most HI")
+    model.rows[keyword].append(row)
+    if keyword == "A":
+        model.equation_lines.append(model.line)
+
+
+def read_end(_model, _keyword, _rest):
+    """`end` stands for nothing."""
 
 
 def is_inequality(keyword, rest):
@@ -194,7 +193,7 @@ def negated(model, word):
     return -model.parameters[word[1:]] if word[:1] == "-" and word[1:] in model.parameters else word
 
 
-def read_parameter(model, rest):
+def read_parameter(model, _, rest):
     """`param NAME VALUE`, a number by a formula of numbers and earlier parameters."""
     if len(rest) < 2:
         fail("`param NAME VALUE` has a name, and a number or a formula of numbers")
@@ -205,7 +204,7 @@ def read_parameter(model, rest):
     model.parameters[rest[0]] = node[1]
 
 
-def read_between(model, rest):
+def read_between(model, _, rest):
     """`between`, with the word that solves the plant, and `bounds`."""
     if rest not in ([], ["stay"], ["patrol"], ["bounds"], ["stay", "bounds"], ["patrol", "bounds"]):
         fail(
@@ -287,7 +286,7 @@ def with_any(model, form, words):
     return ends
 
 
-def read_goal(model, rest):
+def read_goal(model, _, rest):
     if rest not in (["reach"], ["keep"]):
         fail(
             "the goal is `goal reach` or `goal keep`"
@@ -357,41 +356,41 @@ def numbers(words, count, form):
 
 def read_variable(model, keyword, rest):
     check_name(model, keyword, rest[0] if rest else None)
-    name = rest[0]
-    model.variable_lines[name] = model.line
-    if keyword == "state":
-        low, high, width, unit = (
-            cells_by_number(name, rest[1:])
-            if "cells" in rest[3:4]
-            else numbers(rest[1:], 4, "state NAME LO HI WIDTH UNIT")
+    model.variable_lines[rest[0]] = model.line
+    {"state": read_state, "input": read_input, "noise": read_noise}[keyword](model, *rest)
+
+
+def read_state(model, name, *rest):
+    by_number = "cells" in rest[2:3]
+    form = "state NAME LO HI WIDTH UNIT"
+    low, high, width, unit = cells_by_number(name, rest) if by_number else numbers(rest, 4, form)
+    if unit <= 0 or width <= 0 or low >= high:
+        fail("a state has LO below HI, and a WIDTH and a UNIT above 0")
+    check_widths(name, low, high, width, unit)
+    model.states.append((name, low, high, width, unit))
+
+
+def read_input(model, name, *rest):
+    if len(rest) < 2:
+        fail("`input NAME UNIT V1 .. Vm` has a unit and at least one value")
+    unit, *values = numbers([rest[0], *(value for word in rest[1:] for value in listed(model, word))], None, "input")
+    if unit <= 0:
+        fail(f"`input NAME UNIT V1 .. Vm`: the unit stands before the values and is above 0, here it is {said(unit)}")
+    if len(values) > VALUES:
+        fail(f"{VALUES} values are the most of one input, here are {len(values)}")
+    if wrong := [value for value in values if value % unit]:
+        fail(
+            f"the value {said(wrong[0])} of {name} is no multiple of its unit {said(unit)}, which stands before the "
+            "values"
         )
-        if unit <= 0 or width <= 0 or low >= high:
-            fail("a state has LO below HI, and a WIDTH and a UNIT above 0")
-        check_widths(name, low, high, width, unit)
-        model.states.append((name, low, high, width, unit))
-    elif keyword == "input":
-        if len(rest) < 3:
-            fail("`input NAME UNIT V1 .. Vm` has a unit and at least one value")
-        unit, *values = numbers(
-            rest[1:2] + [value for word in rest[2:] for value in listed(model, word)], None, keyword
-        )
-        if unit <= 0:
-            fail(
-                f"`input NAME UNIT V1 .. Vm`: the unit stands before the values and is above 0, here it is {said(unit)}"
-            )
-        if len(values) > VALUES:
-            fail(f"{VALUES} values are the most of one input, here are {len(values)}")
-        if wrong := [value for value in values if value % unit]:
-            fail(
-                f"the value {said(wrong[0])} of {name} is no multiple of its unit {said(unit)}, which stands "
-                "before the values"
-            )
-        model.inputs.append((name, unit, values))
-    else:
-        low, high = numbers(rest[1:], 2, "noise NAME LO HI")
-        if low > high:
-            fail("a noise has LO of at most HI")
-        model.noises.append((name, low, high))
+    model.inputs.append((name, unit, values))
+
+
+def read_noise(model, name, *rest):
+    low, high = numbers(rest, 2, "noise NAME LO HI")
+    if low > high:
+        fail("a noise has LO of at most HI")
+    model.noises.append((name, low, high))
 
 
 def check_name(model, keyword, name):
@@ -472,3 +471,21 @@ def said(value):
         return short if Fraction(short) == value else f"about {float(value):.6g}"
     except OverflowError:
         return "more than 10^300" if value > 0 else "less than -10^300"
+
+
+# By its keyword what reads the rest of a line.
+READERS = {
+    "param": read_parameter,
+    "denominator": read_denominator,
+    "sample": read_sample,
+    "unit": read_unit,
+    "between": read_between,
+    "goal": read_goal,
+    "end": read_end,
+    **dict.fromkeys(("exact", "wrap"), read_mark),
+    **dict.fromkeys(("state", "input", "noise"), read_variable),
+    **dict.fromkeys(CHOICES, read_choice),
+    **dict.fromkeys(("next", "d"), read_equation),
+    **dict.fromkeys(("A", "B", "c", "w"), read_row),
+    **dict.fromkeys(("target", "obstacle"), read_box),
+}

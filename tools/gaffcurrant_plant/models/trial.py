@@ -105,29 +105,25 @@ def real_steps(model, points):
     if not model.flows and all(isinstance(equation, dict) or is_exact(equation) for equation in model.equations):
         return list(zip(*(exact_step(model, point) for point in points)))
     step = flow_step if model.flows else float_step
-    if not importlib.util.find_spec("numpy"):
-        return list(
-            zip(
-                *(
-                    step(
-                        model,
-                        {name: float(value) for name, value in point.values.items()},
-                        [{name: float(value) for name, value in change.items()} for change in point.changes],
-                        Floats,
-                    )
-                    for point in points
-                )
-            )
-        )
+    if importlib.util.find_spec("numpy"):
+        return steps_at_once(model, points, step)
+    floats = ((as_floats(point.values), list(map(as_floats, point.changes))) for point in points)
+    return list(zip(*(step(model, *values, Floats) for values in floats)))
+
+
+def as_floats(values):
+    return {name: float(value) for name, value in values.items()}
+
+
+def steps_at_once(model, points, step):
+    """For each state the real steps from all points, by numpy."""
     from ..ways.doubles import Arrays, numpy
 
     values = {name: numpy.array([float(point.values[name]) for point in points]) for name in points[0].values}
+    names, nothing = [name for name, *_ in model.noises], {name: numpy.nan for name, *_ in model.noises}
+    kinds = [[point.changes[k] or nothing for point in points] for k in range(len(points[0].changes))]
     changes = [
-        {
-            name: numpy.array([float(point.changes[k][name]) if point.changes[k] else numpy.nan for point in points])
-            for name, *_ in model.noises
-        }
-        for k in range(len(points[0].changes))
+        {name: numpy.array([float(change[name]) for change in of_points]) for name in names} for of_points in kinds
     ]
     with numpy.errstate(all="ignore"):
         return [numpy.broadcast_to(real, len(points)).tolist() for real in step(model, values, changes, Arrays())]

@@ -49,7 +49,7 @@ def distinct(count):
 
 
 class Colouring:
-    """What the colour of a place tells: the rank, the input vector, the value of one input (variable: its number, which
+    """What a colour tells: the rank, the input vector, the value of one input (variable: its number, which
     is 0 where there is one alone), or with goal keep the share that is kept. shown has its numbers, with those masked
     that have none, and known what the colours are of: few values or vectors have a colour of their own each, which
     is_named tells."""
@@ -85,7 +85,7 @@ class Colouring:
         )
 
     def numbers(self):
-        """What is shown as numbers between the limits: of named values their places in the list."""
+        """What is shown as numbers between the limits: of named values their indices in the list."""
         import numpy
 
         if not self.is_named:
@@ -128,8 +128,8 @@ class Colouring:
 
         palette = self.palette()
         return [
-            Patch(facecolor=palette(place), label=self.said(value))
-            for place, value in enumerate(self.known)
+            Patch(facecolor=palette(number), label=self.said(value))
+            for number, value in enumerate(self.known)
             if value in self.present
         ]
 
@@ -185,8 +185,8 @@ def draw_bar(figure, axes, limits, label, is_whole, gap=0.02, beside=False):
     """The colours' bar: in room taken from the axes, or, where these don't fill theirs, right beside them."""
     from matplotlib import cm, colors
 
-    place = {"cax": axes.inset_axes([1.03, 0, 0.045, 1])} if beside else {"ax": axes, "pad": gap}
-    bar = figure.colorbar(cm.ScalarMappable(colors.Normalize(*limits), sequence()), **place)
+    where = {"cax": axes.inset_axes([1.03, 0, 0.045, 1])} if beside else {"ax": axes, "pad": gap}
+    bar = figure.colorbar(cm.ScalarMappable(colors.Normalize(*limits), sequence()), **where)
     bar.set_label(label, fontsize=9)
     bar.ax.tick_params(labelsize=8)
     if is_whole:
@@ -217,7 +217,7 @@ def rectangle(axes, view, box, **style):
     """A box of whole numbers, from its least number to the one behind its greatest."""
     from matplotlib.patches import Rectangle
 
-    ends = [(view.at(place, box[i][0]), view.at(place, box[i][1] + 1)) for place, i in enumerate(view.axes)]
+    ends = [(view.at(axis, box[i][0]), view.at(axis, box[i][1] + 1)) for axis, i in enumerate(view.axes)]
     (left, right), (low, high) = ends[0], ends[1] if len(ends) == 2 else axes.get_ylim()
     axes.add_patch(Rectangle((left, low), right - left, high - low, **style))
 
@@ -255,8 +255,8 @@ class Course:
 
     def __init__(self, view, cells, states):
         self.places = along(view, cells, states)
-        periods = [view.period(place) for place in range(len(view.axes))] + [None] * (len(self.places) - len(view.axes))
-        ranges = [view.range(place) if period else None for place, period in enumerate(periods)]
+        periods = [view.period(axis) for axis in range(len(view.axes))] + [None] * (len(self.places) - len(view.axes))
+        ranges = [view.range(axis) if period else None for axis, period in enumerate(periods)]
         samples, points, self.ends = list(zip(*self.places)), [], []
         for number, sample in enumerate(samples):
             if number and any(periods):
@@ -292,7 +292,7 @@ def crossings(start, end, periods, ranges):
 
 def along(view, cells, states):
     """The places of a run's states on the axes: the middles of their units."""
-    places = [[view.at(place, state[i] + Fraction(1, 2)) for state in states] for place, i in enumerate(view.axes)]
+    places = [[view.at(axis, state[i] + Fraction(1, 2)) for state in states] for axis, i in enumerate(view.axes)]
     if len(places) > 1:
         return places
     if view.plant.goal == "keep":
@@ -391,7 +391,7 @@ def draw_successors(axes, view, cell, vectors):
 
 
 def put_labels(axes, labels):
-    """Labels to the right of their places; those that would cover each other become one."""
+    """Labels to the right of their points; those that would cover each other become one."""
     kept = []
     for x, y, text in labels:
         at = axes.transData.transform((x, y))
@@ -400,10 +400,10 @@ def put_labels(axes, labels):
             near[0][2].append(text)
         else:
             kept.append((at, (x, y), [text]))
-    for _, place, texts in kept:
+    for _, point, texts in kept:
         axes.annotate(
             ", ".join(texts),
-            place,
+            point,
             xytext=(3, 0),
             textcoords="offset points",
             fontsize=8,

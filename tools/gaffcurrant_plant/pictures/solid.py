@@ -11,7 +11,7 @@ ELEVATION, AZIMUTH = 26, -52
 
 
 def blocks_of(colouring, counts):
-    """How many places a block has along each state, and for each block its colour's number and whether half of its
+    """How many indices a block has along each state, and for each block its colour's number and whether half of its
     cells have a row."""
     import numpy
 
@@ -38,7 +38,7 @@ def draw_solid(figure, axes, view, colouring):
     edges = [
         numpy.minimum(numpy.arange(size + 1) * block, count) for size, block, count in zip(filled.shape, sizes, counts)
     ]
-    edges = [ends_of(view, place, edge) for place, edge in enumerate(edges)]
+    edges = [ends_of(view, axis, edge) for axis, edge in enumerate(edges)]
     low, high = colouring.limits()
     palette = colouring.palette()
     colours = palette((numbers - low) / ((high - low) or 1))
@@ -47,7 +47,7 @@ def draw_solid(figure, axes, view, colouring):
     )
     for block, face in faces.items():
         face.set_zorder(
-            1 + sum(part * (place + 0.5) / size for part, place, size in zip(towards_viewer(), block, filled.shape))
+            1 + sum(part * (index + 0.5) / size for part, index, size in zip(towards_viewer(), block, filled.shape))
         )
     if colouring.is_named:
         return colouring.entries()
@@ -55,12 +55,12 @@ def draw_solid(figure, axes, view, colouring):
     return []
 
 
-def ends_of(view, place, edge):
-    """The ends of blocks along an axis, in its units, by the numbers of the places at which they begin."""
+def ends_of(view, axis, edge):
+    """The ends of blocks along an axis, in its units, by the indices at which they begin."""
     import numpy
 
-    _, low, _, width = view.plant.states[view.axes[place]]
-    return numpy.array([view.at(place, low + int(number) * width) for number in edge], dtype=float)
+    _, low, _, width = view.plant.states[view.axes[axis]]
+    return numpy.array([view.at(axis, low + int(number) * width) for number in edge], dtype=float)
 
 
 def towards_viewer():
@@ -70,11 +70,11 @@ def towards_viewer():
 
 
 def frame_solid(axes, view):
-    for place, set_range, set_label in zip(
+    for axis, set_range, set_label in zip(
         range(3), (axes.set_xlim, axes.set_ylim, axes.set_zlim), (axes.set_xlabel, axes.set_ylabel, axes.set_zlabel)
     ):
-        set_range(*view.range(place))
-        set_label(view.label(place), fontsize=9)
+        set_range(*view.range(axis))
+        set_label(view.label(axis), fontsize=9)
     axes.tick_params(labelsize=7)
     # Blocks have their order from draw_solid; edges and runs lie above them, also where these would hide them.
     axes.computed_zorder = False
@@ -93,10 +93,10 @@ def draw_edges(axes, view):
         for box in filter(view.meets, boxes):
             ends = [
                 (
-                    max(view.at(place, box[i][0]), view.range(place)[0]),
-                    min(view.at(place, box[i][1] + 1), view.range(place)[1]),
+                    max(view.at(axis, box[i][0]), view.range(axis)[0]),
+                    min(view.at(axis, box[i][1] + 1), view.range(axis)[1]),
                 )
-                for place, i in enumerate(view.axes)
+                for axis, i in enumerate(view.axes)
             ]
             for one, other in itertools.combinations(itertools.product(*ends), 2):
                 if sum(a != b for a, b in zip(one, other)) == 1:
@@ -115,7 +115,7 @@ def draw_solid_runs(axes, view, cells, runs):
         course = drawing.Course(view, cells, states)
         axes.plot(*course.line, color=drawing.RUN, linewidth=1.2, zorder=30)
         axes.plot(
-            *(place[:1] for place in course.places),
+            *(column[:1] for column in course.places),
             marker="s",
             markersize=5,
             markerfacecolor="white",

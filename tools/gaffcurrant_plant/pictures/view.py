@@ -7,7 +7,7 @@ from ..plants.units import decimal
 
 
 class View:
-    """axes: the numbers of the states along the axes; fixed: for others the place at which they are fixed, values: the
+    """axes: the numbers of the states along the axes; fixed: for others the index at which they are fixed, values: the
     number, said: that in words."""
 
     def __init__(self, plant, units, names=None, fix=()):
@@ -40,26 +40,26 @@ class View:
             raise Trouble(f"`{name}` is no state of the plant (they are {', '.join(names)})", 2)
         return names.index(name)
 
-    def name(self, place):
-        return self.plant.states[self.axes[place]][0]
+    def name(self, axis):
+        return self.plant.states[self.axes[axis]][0]
 
-    def label(self, place):
-        return self.units.label(self.name(place))
+    def label(self, axis):
+        return self.units.label(self.name(axis))
 
-    def at(self, place, whole):
+    def at(self, axis, whole):
         """Where on an axis the unit of a number of its state begins. What is a whole number by itself is a point, and
         has its number in the middle."""
-        name = self.name(place)
+        name = self.name(axis)
         return self.units.value(name, whole - Fraction(1, 2) if name in self.units.exact else whole)
 
-    def period(self, place):
+    def period(self, axis):
         """After how much along an axis its state comes round, or None."""
-        period = self.plant.periods[self.axes[place]]
-        return period and self.units.value(self.name(place), period)
+        period = self.plant.periods[self.axes[axis]]
+        return period and self.units.value(self.name(axis), period)
 
-    def range(self, place):
-        _, low, high, _ = self.plant.states[self.axes[place]]
-        return self.at(place, low), self.at(place, high + 1)
+    def range(self, axis):
+        _, low, high, _ = self.plant.states[self.axes[axis]]
+        return self.at(axis, low), self.at(axis, high + 1)
 
     def meets(self, box):
         """Whether a box has a point where the other states are fixed."""

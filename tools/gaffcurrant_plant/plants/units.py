@@ -1,13 +1,20 @@
 """Units of a plant's numbers: what the number 1 of a state or an input stands for in the model's own units, by the
 model or by the comments that tools/scale writes into a plant text."""
 
+from __future__ import annotations
+
 import math
 import re
 from fractions import Fraction
+from typing import TYPE_CHECKING, Any, Iterable, Optional, Sequence
 
 from ..command import read_bytes
 from ..faults import Fault, Trouble
 from ..models.polynomial import number_of
+
+if TYPE_CHECKING:
+    from ..models.model import Model
+    from .plant import Plant
 
 NUMBER = re.compile(r"(0|-?[1-9][0-9]{0,17})\Z")
 COMMENT = re.compile(r"# unit ([A-Za-z][A-Za-z0-9_]*) ([0-9.eE+-]+|[0-9]+/[1-9][0-9]*)(?: ([^:]*))?(?::.*)?\Z")
@@ -18,17 +25,22 @@ class Units:
     """sizes: for a name what its number 1 stands for; words: what the model's unit is called, where it is; exact: the
     states that are whole numbers of units by themselves."""
 
-    def __init__(self, sizes=None, words=None, exact=()):
+    def __init__(
+        self,
+        sizes: Optional[dict[str, Fraction]] = None,
+        words: Optional[dict[str, str]] = None,
+        exact: Iterable[str] = (),
+    ) -> None:
         self.sizes, self.words, self.exact = sizes or {}, words or {}, exact
 
-    def size(self, name):
+    def size(self, name: str) -> Fraction:
         return self.sizes.get(name, Fraction(1))
 
-    def value(self, name, whole):
+    def value(self, name: str, whole: Any) -> Any:
         """A whole number in the model's units, as a number for a picture."""
         return float(whole * self.size(name)) if self.sizes else whole
 
-    def whole(self, name, word):
+    def whole(self, name: str, word: str) -> int:
         """The whole number of a value that a word gives in the model's units: that of the unit it lies in."""
         try:
             value = number_of(word)
@@ -38,15 +50,15 @@ class Units:
             raise Trouble(f"`{word}` is no whole number; give --model for the model's units", 2)
         return math.floor(value / self.size(name))
 
-    def word(self, name):
+    def word(self, name: str) -> str:
         """What stands behind a number: a blank and the unit's word, or nothing."""
         return f" {self.words[name]}" if self.words.get(name) else ""
 
-    def size_said(self, name, whole):
+    def size_said(self, name: str, whole: Any) -> str:
         """A width or a way of so many whole numbers: `0.5 m`."""
         return short(whole * self.size(name)) + self.word(name)
 
-    def span_said(self, name, low, high):
+    def span_said(self, name: str, low: int, high: int) -> str:
         """The whole numbers from low to high: `390 to 399`, or `3.9 to 4 m`, since a real value lies between a whole
         number and the next, if it isn't one by itself."""
         if not self.sizes:
@@ -59,16 +71,16 @@ class Units:
             )
         return f"{short(low * self.size(name))} to {short((high + 1) * self.size(name))}{self.word(name)}"
 
-    def label(self, name):
+    def label(self, name: str) -> str:
         """A name with what its unit is called: `v in m/s`."""
         return f"{name} in {self.words[name]}" if self.words.get(name) else name
 
-    def said(self, name, whole):
+    def said(self, name: str, whole: Any) -> str:
         """A value in words: `v = 0.6 m/s`."""
         return f"{name} = {short(whole * self.size(name))}{self.word(name)}"
 
 
-def units_of(model):
+def units_of(model: Model) -> Units:
     """The units of a model."""
     return Units(
         {state[0]: state[4] for state in model.states} | {name: unit for name, unit, _ in model.inputs},
@@ -77,7 +89,7 @@ def units_of(model):
     )
 
 
-def short(value):
+def short(value: Any) -> str:
     """A fraction as a decimal number, of six digits where it isn't short."""
     said = decimal(value)
     return said if len(said) <= 12 else f"{float(value):.6g}"
@@ -89,7 +101,7 @@ MODEL_HELP = (
 )
 
 
-def units_for(path, plant):
+def units_for(path: Optional[str], plant: Any) -> Units:
     """The units of a plant by the file that --model names, none without one; raises Trouble where it is of another
     plant."""
     if path is None:
@@ -102,7 +114,7 @@ def units_for(path, plant):
     return units
 
 
-def state_of(plant, words, units):
+def state_of(plant: Plant, words: Sequence[str], units: Units) -> list[int]:
     """The whole numbers of a state that words give, in a model's units where these are known; raises Trouble."""
     if len(words) != len(plant.states):
         names = " ".join(state[0] for state in plant.states)
@@ -118,7 +130,7 @@ def state_of(plant, words, units):
     return [int(word) for word in words]
 
 
-def outside_said(plant, state, units):
+def outside_said(plant: Plant, state: Sequence[int], units: Units) -> Optional[str]:
     """In which states a state is outside of the domain, and in which numbers it was understood; None where it is in
     it."""
     out = [
@@ -134,7 +146,7 @@ def outside_said(plant, state, units):
     return ", ".join(out) + told if out else None
 
 
-def decimal(value):
+def decimal(value: Any) -> str:
     """A fraction whose denominator divides a power of ten, as a decimal number; others to twelve digits."""
     value = Fraction(value)
     for places in range(41):
@@ -145,13 +157,13 @@ def decimal(value):
     return f"{float(value):.12g}"
 
 
-def exactly(value):
+def exactly(value: Any) -> str:
     """A fraction as a decimal number where that ends, else as numerator and denominator, `2/875`."""
     said = decimal(value)
     return said if Fraction(said) == value else str(Fraction(value))
 
 
-def read_units(path, data):
+def read_units(path: str, data: bytes) -> Units:
     """The units by the text of a model, or of a plant that tools/scale has made; raises Trouble where there are
     none."""
     lines = [line.strip() for line in data.decode("utf-8", "replace").lstrip("\ufeff").splitlines()]
@@ -166,7 +178,7 @@ def read_units(path, data):
         raise Trouble(f"{path}: {trouble}", trouble.status) from None
 
 
-def units_by_comments(path, lines):
+def units_by_comments(path: str, lines: Iterable[str]) -> Units:
     """The units by the comments of a plant text; raises Trouble where there are none."""
     found = [found.groups() for found in map(COMMENT.match, lines) if found]
     exact = {line.split()[2] for line in lines if COMMENT.match(line) and line.endswith(BY_ITSELF)}

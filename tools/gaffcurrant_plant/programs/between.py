@@ -5,7 +5,7 @@ import argparse
 from collections import Counter
 from functools import partial
 
-from ..command import Words, need, read_bytes, start
+from ..command import Arguments, need, read_bytes, start
 from ..faults import Refused, Trouble
 from ..models.agreement import check_model, model_at
 from ..plants.units import units_of
@@ -32,14 +32,14 @@ Status 0: no way touches; 1: some may, or the text or the model can't be read; 2
 """
 
 
-def main(words):
-    parser = Words(
+def main(arguments):
+    parser = Arguments(
         prog="between", description=__doc__, epilog=FORMAT, formatter_class=argparse.RawDescriptionHelpFormatter
     )
     parser.add_argument("text", metavar="TEXT", help="a table, a stay text or a patrol text, `-` for standard input")
     parser.add_argument("--model", metavar="MODEL", required=True, help="its model, with the obstacles as they are")
     parser.add_argument("--all", action="store_true", help=f"list all cells, and not the first {LISTED}")
-    given = parser.parse_args(words)
+    given = parser.parse_args(arguments)
     need("this", "numpy")
     from ..texts.arrays import Turns
     from ..ways.enclosure import Looked
@@ -79,8 +79,7 @@ class Said:
         )
         yield (
             f"{total} rows: the ways of {sum(touch.cells.size for touch in self.found)} may touch, of {touched} "
-            "an "
-            f"obstacle, of {left} a bound of the domain"
+            f"an obstacle, of {left} a bound of the domain"
         )
         yield from filter(None, map(self.wall_said, range(self.walls.count)))
         yield from self.cell_lines("may touch an obstacle", at_obstacles, most)

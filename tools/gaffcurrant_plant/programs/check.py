@@ -4,7 +4,7 @@
 import subprocess
 from functools import partial
 
-from ..command import Words, read_bytes, start
+from ..command import Arguments, read_bytes, start
 from ..faults import Refused, Trouble
 from ..progress import Progress
 from ..texts.solver import program, written
@@ -42,8 +42,8 @@ def check_text(text, data, workers):
     raise Trouble("invalid: the rows are right, and the plant isn't written as the program writes it")
 
 
-def main(words):
-    parser = Words(
+def main(arguments):
+    parser = Arguments(
         prog="check",
         description=__doc__,
         epilog="It prints `valid`, or on standard error the first cell whose row isn't right. The program is "
@@ -52,7 +52,7 @@ def main(words):
     )
     parser.add_argument("text", metavar="TEXT", help="a table, a stay text or a patrol text, `-` for standard input")
     parser.add_argument("--workers", metavar="N", type=int, default=1, help="workers that solve the game")
-    given = parser.parse_args(words)
+    given = parser.parse_args(arguments)
     if not 1 <= given.workers <= 64:
         raise Trouble("--workers takes a number from 1 to 64", 2)
     data = read_bytes(given.text)

@@ -5,7 +5,7 @@ import re
 from fractions import Fraction
 from functools import partial
 
-from ..command import Words, check_there, prefer, read_bytes, start
+from ..command import Arguments, check_there, prefer, read_bytes, start
 from ..faults import Refused, Trouble
 from ..plants.reader import read_plant
 from ..progress import Progress
@@ -36,8 +36,8 @@ followed; 1: they aren't, or a file can't be read; 2: wrong words.
 """
 
 
-def main(words):
-    parser = Words(
+def main(arguments):
+    parser = Arguments(
         prog="conform", description=__doc__, epilog=FORMAT, formatter_class=argparse.RawDescriptionHelpFormatter
     )
     parser.add_argument("log", metavar="LOG", help="the log, `-` for standard input")
@@ -59,7 +59,7 @@ def main(words):
         metavar="FILE",
         help="a picture, FILE.png or FILE.svg, of what the steps need, over the log and as histograms",
     )
-    given = parser.parse_args(words)
+    given = parser.parse_args(arguments)
     if given.output and not given.output.endswith((".png", ".svg")):
         raise Trouble("the output's name ends in .png or .svg", 2)
     if given.turn is not None and given.table is None:

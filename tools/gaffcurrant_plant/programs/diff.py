@@ -4,7 +4,7 @@ other, their ranks and their inputs; patrols turn by turn."""
 
 from functools import partial
 
-from ..command import Words, read_bytes, start
+from ..command import Arguments, read_bytes, start
 from ..faults import Refused, Trouble
 from ..plants.units import MODEL_HELP, units_for
 from ..progress import Progress
@@ -73,8 +73,8 @@ def inputs_compared(one, other, both):
     return [f"other inputs in both: {sum(one.rows[cell][1] != other.rows[cell][1] for cell in both)}"]
 
 
-def main(words):
-    parser = Words(
+def main(arguments):
+    parser = Arguments(
         prog="diff",
         description=__doc__,
         epilog="Status 0: compared, whether they differ or not; 1: a table isn't readable, or the grids differ; 2: "
@@ -84,7 +84,7 @@ def main(words):
         "tables", metavar="TEXT", nargs=2, help="a table, a stay text or a patrol text, `-` for standard input"
     )
     parser.add_argument("--model", metavar="FILE", help=MODEL_HELP)
-    given = parser.parse_args(words)
+    given = parser.parse_args(arguments)
     with Progress("diff").during("comparing"):
         lines = lines_of(given)
     print("\n".join(lines))

@@ -5,7 +5,7 @@ import re
 import zlib
 from functools import partial
 
-from ..command import Words, prefer, read_bytes, start
+from ..command import Arguments, prefer, read_bytes, start
 from ..devices.c_header import Header
 from ..devices.codes import Codes
 from ..devices.matlab import function_file
@@ -18,8 +18,8 @@ from ..texts.table import read_text
 PREFIX = re.compile(r"[A-Za-z][A-Za-z0-9_]{0,30}\Z")
 
 
-def main(words):
-    parser = Words(
+def main(arguments):
+    parser = Arguments(
         prog="header",
         description=__doc__,
         epilog="A cell takes one byte, or two where there are more than 254 input vectors; with --runs a run takes "
@@ -58,8 +58,8 @@ def main(words):
         action="store_true",
         help="write a function file of MATLAB and Octave, `[status, input] = NAME(state)`",
     )
-    given = parser.parse_args(words)
-    check_words(given)
+    given = parser.parse_args(arguments)
+    check_arguments(given)
     if given.model is not None:
         prefer("mpmath")
     data = read_bytes(given.table)
@@ -74,7 +74,7 @@ def main(words):
     print("\n".join(write(text, Codes(text), zlib.crc32(data), given, units)))
 
 
-def check_words(given):
+def check_arguments(given):
     if given.prefix and not PREFIX.match(given.prefix):
         raise Trouble("--prefix takes a letter, then letters, digits and `_`, at most 31", 2)
 

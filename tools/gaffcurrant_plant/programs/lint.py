@@ -5,7 +5,7 @@ import math
 import random
 from functools import partial
 
-from ..command import Words, prefer, read_bytes, start
+from ..command import Arguments, prefer, read_bytes, start
 from ..faults import Overflow, Refused
 from ..models.agreement import EXACT
 from ..plants.bounds import bounds_of, value_at
@@ -144,7 +144,8 @@ def narrow_target(plant):
         if 0 < count < fewest:
             yield (
                 f"the target has {count} place{'s' * (count > 1)} along {name}, and each sampled box meets "
-                f"{fewest} at least: mostly nothing is won from outside; a wider target, a smaller noise or "
+                f"{fewest} at least: mostly nothing is won from outside; a wider target, a smaller noise "
+                "or "
                 "narrower cells help"
             )
 
@@ -166,12 +167,7 @@ def sampled(plant):
     cells = range(plant.cells) if every else sorted(draws.sample(range(plant.cells), SAMPLE))
     vectors = some_vectors(plant, draws, 32)
     cells = [cell for cell in cells if not plant.is_goal(cell) and not plant.is_obstacle(cell)]
-    boxes = plant.boxes(cells, vectors)
-    dead, stuck = 0, 0
-    for number, cell in enumerate(cells):
-        ways = [box for box in boxes[number * len(vectors) : (number + 1) * len(vectors)] if not plant.leaves(*box)]
-        dead += not ways
-        stuck += bool(ways) and all(has_cell(plant, box, cell) for box in ways)
+    dead, stuck = dead_and_stuck(plant, cells, vectors)
     of = f"{len(cells)} {'' if every else 'sampled '}cells that are neither goal nor obstacle"
     inputs = "every input" if plant.vectors <= 32 else "each of 32 sampled inputs"
     if dead:
@@ -181,6 +177,16 @@ def sampled(plant):
             f"at {stuck} of {of} {inputs} that is enabled may lead back into the cell itself, and such a cell "
             "isn't won; a longer sampling time, a smaller deviation or narrower cells help"
         )
+
+
+def dead_and_stuck(plant, cells, vectors):
+    """At how many cells each input leaves the domain, and at how many the others all may lead back into the cell."""
+    boxes, dead, stuck = plant.boxes(cells, vectors), 0, 0
+    for number, cell in enumerate(cells):
+        ways = [box for box in boxes[number * len(vectors) : (number + 1) * len(vectors)] if not plant.leaves(*box)]
+        dead += not ways
+        stuck += bool(ways) and all(has_cell(plant, box, cell) for box in ways)
+    return dead, stuck
 
 
 def some_vectors(plant, draws, most):
@@ -293,7 +299,8 @@ def bare_steps(plant, exact):
         if way:
             yield (
                 f"{name} has no noise, and moves by whole cells, by {plant.units.size_said(name, way)} under "
-                f"{plant.input_said(vector)}: a measurement that is a rounding beside a cell's bound counts for "
+                f"{plant.input_said(vector)}: a measurement that is a rounding beside a cell's bound "
+                "counts for "
                 "the next cell; add a noise of -1 to 1, unless the state is a whole number by itself"
             )
 
@@ -387,7 +394,8 @@ def sure_moves(plant):
                 yield (
                     f"no sampled input moves {name} {word} for sure, out of its cell: that takes a step of "
                     f"{plant.units.size_said(name, needed)}, and the best is "
-                    f"{plant.units.size_said(name, step)}; what comes near an edge may never come back, and "
+                    f"{plant.units.size_said(name, step)}; what comes near an edge may never come back, "
+                    "and "
                     f"mostly nothing is kept{longer}"
                 )
 
@@ -521,16 +529,17 @@ def notes_of(data, plant):
     yield from (note for note in dict.fromkeys(notes(plant)) if not (is_made and ROUNDED in note))
 
 
-def main(words):
-    parser = Words(
+def main(arguments):
+    parser = Arguments(
         prog="lint",
         description=__doc__,
         epilog="The first line is `accepted`, or what the program answers to the text, with the reason in the "
-        "second. Behind `note:` stands what is hardly meant, behind `size:` how large the abstraction is. "
+        "second. Behind `note:` stands what is hardly meant, behind `size:` how large the abstraction "
+        "is. "
         "Status 0: accepted; 1: refused or not readable; 2: wrong words.",
     )
     parser.add_argument("plant", metavar="PLANT", help="the plant text, `-` for standard input")
-    given = parser.parse_args(words)
+    given = parser.parse_args(arguments)
     prefer("numpy")
     data = read_bytes(given.plant)
     with Progress("lint").during("counting edges, and looking at inputs"):

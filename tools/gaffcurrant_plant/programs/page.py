@@ -4,7 +4,7 @@ row, and runs."""
 from functools import partial
 from pathlib import Path
 
-from ..command import Words, read_bytes, start
+from ..command import Arguments, read_bytes, start
 from ..faults import Refused, Trouble
 from ..pages.data import model_data
 from ..pages.page import Text, page_of
@@ -42,13 +42,13 @@ def names_of(paths):
     return [f"{name}, {number}" for number, name in enumerate(names, 1)]
 
 
-def main(words):
-    parser = Words(prog="page", description=__doc__, epilog=FORMAT)
+def main(arguments):
+    parser = Arguments(prog="page", description=__doc__, epilog=FORMAT)
     parser.add_argument("texts", metavar="TEXT", nargs="+", help="a table, stay or patrol text, `-` for standard input")
     parser.add_argument("-o", "--output", metavar="FILE.html", required=True, help="the page")
     parser.add_argument("--model", metavar="MODEL", help=MODEL)
     parser.add_argument("--title", metavar="WORDS", help="what stands above the page")
-    given = parser.parse_args(words)
+    given = parser.parse_args(arguments)
     if not given.output.endswith((".html", ".htm")):
         raise Trouble(f"{given.output}: a page ends with .html", 2)
     if len(given.texts) > MOST_TEXTS:

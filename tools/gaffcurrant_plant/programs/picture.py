@@ -10,7 +10,7 @@ from contextlib import contextmanager
 from functools import lru_cache, partial
 from pathlib import Path
 
-from ..command import Words, need, read_bytes, start
+from ..command import Arguments, need, read_bytes, start
 from ..faults import Refused, Trouble
 from ..plants.units import units_for
 from ..progress import Progress
@@ -21,14 +21,13 @@ IN_A_ROW = 3
 MOST_RUNS, MOST_SAMPLES = 1000, 100_000
 
 
-def parser_of_words():
-    parser = Words(
+def parser_of_arguments():
+    parser = Arguments(
         prog="picture",
         description=__doc__,
         epilog="States that are neither axes nor fixed are projected: each place shows the cell of the least rank "
         "over them, or with goal keep the share of them that is kept. Needs matplotlib (Debian: apt-get "
-        "install python3-matplotlib). Status 0: the picture was written; 1: it couldn't be; 2: wrong "
-        "words.",
+        "install python3-matplotlib). Status 0: the picture was written; 1: it couldn't be; 2: wrong words.",
     )
     parser.add_argument(
         "tables",
@@ -90,7 +89,7 @@ def parser_of_words():
     return parser
 
 
-def check_words(given):
+def check_arguments(given):
     if not (given.output or given.animate):
         raise Trouble("give a picture's name by -o FILE.png, or a film's by --animate FILE.gif", 2)
     if given.output and not given.output.endswith((".png", ".svg")):
@@ -99,13 +98,12 @@ def check_words(given):
         raise Trouble("a film's name ends in .gif or .mp4", 2)
     if given.animate and (len(given.tables) > 1 or len(given.axes or []) > 2):
         raise Trouble("a film has one panel, along one or two states", 2)
-    if (
-        not 1 <= given.runs <= MOST_RUNS
-        or not 0 <= given.samples <= MOST_SAMPLES
-        or given.dpi < 20
-        or given.dpi > 600
-        or not all(1 <= side <= 40 for side in given.size)
-    ):
+    check_numbers(given)
+
+
+def check_numbers(given):
+    ranges = [(given.runs, 1, MOST_RUNS), (given.samples, 0, MOST_SAMPLES), (given.dpi, 20, 600)]
+    if not all(low <= number <= high for number, low, high in [*ranges, *((size, 1, 40) for size in given.size)]):
         raise Trouble(
             f"--runs is from 1 to {MOST_RUNS}, --samples from 0 to {MOST_SAMPLES}, --dpi from 20 to 600, --size "
             "from 1 to 40 inches",
@@ -411,9 +409,9 @@ def given_with(given, **others):
     return type(given)(**vars(given) | others)
 
 
-def main(words):
-    given = parser_of_words().parse_args(words)
-    check_words(given)
+def main(arguments):
+    given = parser_of_arguments().parse_args(arguments)
+    check_arguments(given)
     need("this", "numpy", "matplotlib", *["PIL"] * (given.animate is not None))
     units = units_of_tables(given)
     room = load_matplotlib()

@@ -5,7 +5,7 @@ straight pieces instead of functions do."""
 import argparse
 from functools import partial
 
-from ..command import Words, check_there, prefer, read_bytes, start
+from ..command import Arguments, check_there, prefer, read_bytes, start
 from ..faults import Trouble
 from ..models.best_plant import needs_mpmath, planted
 from ..models.model import read_model
@@ -15,8 +15,8 @@ from ..models.trial import trial
 WORDS = ("synth", "stay", "patrol")
 
 
-def main(words):
-    parser = Words(
+def parser_of_arguments():
+    parser = Arguments(
         prog="scale", description=__doc__, epilog=help_text(), formatter_class=argparse.RawDescriptionHelpFormatter
     )
     parser.add_argument("model", metavar="MODEL", help="the model text, `-` for standard input")
@@ -38,33 +38,48 @@ def main(words):
     parser.add_argument(
         "--version", type=int, choices=(1, 2), help="make a plant of this version, whatever the model's line says"
     )
-    given = parser.parse_args(words)
+    return parser
+
+
+def main(arguments):
+    given = parser_of_arguments().parse_args(arguments)
     prefer("mpmath", "numpy")
     if given.trials is not None and not 1 <= given.trials <= 10**7:
         raise Trouble("--try takes a number from 1 to 10000000", 2)
     data = read_bytes(given.model)
     try:
-        model = read_model(data)
-        model.version = given.version or model.version
-        if given.trials is None and (given.between or model.between):
-            check_there("`between`", "numpy", *["mpmath"] * needs_mpmath(model))
-        planting = planted(model)
-        if given.trials is None and (given.between or model.between):
-            from ..ways.wider_obstacles import text_between
-
-            planting.text = text_between(
-                planting, given.by or model.between or WORDS[0], given.bounds or model.has_bounds
-            )
+        model, planting = planted_as_asked(data, given)
     except Trouble as trouble:
         raise Trouble(f"{given.model}: {trouble}", trouble.status) from None
-    if given.trials is None:
-        print(planting.text, end="")
-        return 0
+    if given.trials is not None:
+        return tried(model, planting, given.trials)
+    print(planting.text, end="")
+    return 0
+
+
+def planted_as_asked(data, given):
+    """The model, and its plant with the obstacles that are asked for."""
+    model = read_model(data)
+    model.version = given.version or model.version
+    is_widened = given.trials is None and (given.between or model.between)
+    if is_widened:
+        check_there("`between`", "numpy", *["mpmath"] * needs_mpmath(model))
+    planting = planted(model)
+    if is_widened:
+        from ..ways.wider_obstacles import text_between
+
+        word, has_bounds = given.by or model.between or WORDS[0], given.bounds or model.has_bounds
+        planting.text = text_between(planting, word, has_bounds)
+    return model, planting
+
+
+def tried(model, planting, count):
+    """Prints by how much plant and model differ at random states; answers the status."""
     outside = 0
-    for state, seen, (low, high) in zip(model.states, trial(model, planting.plant, given.trials), planting.ranges):
+    for state, seen, (low, high) in zip(model.states, trial(model, planting.plant, count), planting.ranges):
         print(
-            f"{state[0]}: differences from {seen.low} to {seen.high} on {given.trials} random states; the noise "
-            f"allows {low} to {high}"
+            f"{state[0]}: differences from {seen.low} to {seen.high} on {count} random states; the noise allows "
+            f"{low} to {high}"
         )
         outside += not seen.lies_in(low, high)
     return 1 if outside else 0

@@ -5,7 +5,7 @@ the model's own equations in doubles, from many states, and counts the promises 
 import argparse
 from functools import partial
 
-from ..command import Words, prefer, read_bytes, start
+from ..command import Arguments, prefer, read_bytes, start
 from ..faults import Fault, Refused, Trouble
 from ..models.polynomial import number_of
 from ..plants.units import MODEL_HELP, decimal, outside_said, state_of, units_for
@@ -100,8 +100,10 @@ def worst(plant, seed):
         yield [low if value - low < high - value else high for value, (_, low, high) in zip(sample, plant.noises)]
 
 
-def main(words):
-    parser = Words(prog="sim", description=__doc__, epilog=FORMAT, formatter_class=argparse.RawDescriptionHelpFormatter)
+def main(arguments):
+    parser = Arguments(
+        prog="sim", description=__doc__, epilog=FORMAT, formatter_class=argparse.RawDescriptionHelpFormatter
+    )
     parser.add_argument("text", metavar="TEXT", help="a table, a stay text or a patrol text, `-` for standard input")
     parser.add_argument(
         "samples",
@@ -124,8 +126,8 @@ def main(words):
     )
     parser.add_argument("--runs", metavar="R", type=int, help="with --real, so many runs (2000)")
     parser.add_argument("--log", metavar="FILE", help="with --real, write a log of the runs as CSV")
-    given = parser.parse_intermixed_args(words)
-    check_words(given)
+    given = parser.parse_intermixed_args(arguments)
+    check_arguments(given)
     if given.real is not None:
         prefer("numpy")
     try:
@@ -136,10 +138,10 @@ def main(words):
     return drive_model(given, table) if given.real is not None else drive_plant(given, table, turn)
 
 
-def check_words(given):
+def check_arguments(given):
     """Raises Trouble where words are missing, out of their range or of the other kind."""
     if given.real is None:
-        check_plant_words(given)
+        check_plant_arguments(given)
     elif given.worst:
         raise Trouble("--runs goes with --real, and --worst without it", 2)
     elif given.model is not None:
@@ -150,7 +152,7 @@ def check_words(given):
         raise Trouble(f"--runs takes a number from 1 to {MOST_RUNS}", 2)
 
 
-def check_plant_words(given):
+def check_plant_arguments(given):
     """The same of words without --real."""
     if given.samples is None or given.seed is None or not given.state:
         raise Trouble("the words are TEXT N SEED X1 .. Xm, or --real MODEL TEXT; see --help", 2)

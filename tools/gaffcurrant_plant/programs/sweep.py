@@ -7,7 +7,7 @@ import time
 from fractions import Fraction
 from functools import partial
 
-from ..command import Words, prefer, read_bytes, start
+from ..command import Arguments, prefer, read_bytes, start
 from ..faults import Fault, Refused, Trouble
 from ..models.best_plant import planted
 from ..models.model import common_unit, read_model
@@ -114,7 +114,7 @@ def row_of(lines, parameters, variant, workers, solver):
 
 
 def parser_of_arguments():
-    parser = Words(
+    parser = Arguments(
         prog="sweep",
         description=__doc__,
         epilog="A model past a limit isn't solved: its line tells the limit and the number. `~` stands before edges "
@@ -174,8 +174,8 @@ def model_of(path, data):
         raise Trouble(f"{path}: {trouble}", trouble.status) from None
 
 
-def main(words):
-    given = parser_of_arguments().parse_args(words)
+def main(arguments):
+    given = parser_of_arguments().parse_args(arguments)
     solver = stay if given.stay else patrol if given.patrol else solve
     prefer("mpmath", "numpy")
     numbers = {name: positive(getattr(given, name), f"--{name}") for name in ("times", "orders", "steps", "widths")}

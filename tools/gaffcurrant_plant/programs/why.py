@@ -3,7 +3,7 @@
 
 from functools import partial
 
-from ..command import Words, need, read_bytes, start
+from ..command import Arguments, need, read_bytes, start
 from ..faults import Refused, Trouble
 from ..plants.plant import meets
 from ..plants.units import MODEL_HELP, outside_said, state_of, units_for
@@ -49,16 +49,19 @@ def leaving(plant, low, high):
 def stops(table, cell, cells):
     """What stops an input whose successors are these cells; nothing where each of them has a row."""
     without = [one for one in cells if not table.has(one)]
-    obstacles = [one for one in without if table.plant.is_obstacle(one)]
-    others = [one for one in without if one not in obstacles]
-    comes_back = cell in others and (not table.keeps or len(without) == 1)
-    others = [one for one in others if one != cell]
+    obstacles = list(filter(table.plant.is_obstacle, without))
+    others = [one for one in without if one not in obstacles and one != cell]
     if obstacles:
         yield "it may meet an obstacle: " + cells_said(table.plant, obstacles)
-    if comes_back:
+    if may_come_back(table, cell, without, obstacles):
         yield "it may come back to the cell itself"
     if others:
         yield "it may lead to cells without a row: " + cells_said(table.plant, others)
+
+
+def may_come_back(table, cell, without, obstacles):
+    """Whether a cell itself stops an input that leads to these cells without a row."""
+    return cell in without and cell not in obstacles and (not table.keeps or len(without) == 1)
 
 
 def judged(table, cell, cells):
@@ -249,8 +252,8 @@ def name_said(table, cell):
     return f"turn {table.number}, {table.plant.cell_said(cell)}" + (", an arrival" if cell in table.arrivals else "")
 
 
-def main(words):
-    parser = Words(
+def main(arguments):
+    parser = Arguments(
         prog="why",
         description=__doc__,
         epilog="Status 0: answered; 1: the table isn't readable or the state is outside the domain; 2: wrong words.",
@@ -267,7 +270,7 @@ def main(words):
         "goal keep tell the round in which the cell falls",
     )
     parser.add_argument("--turn", type=int, metavar="J", help="this turn of a patrol text, from 0 (0)")
-    given = parser.parse_args(words)
+    given = parser.parse_args(arguments)
     if given.deep:
         need("--deep", "numpy")
     data = read_bytes(given.table)

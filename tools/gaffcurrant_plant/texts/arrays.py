@@ -1,16 +1,22 @@
 """The rows of a table, a stay text or a patrol text as arrays, for texts of a million cells. Needs numpy."""
 
+from __future__ import annotations
+
 import re
 import warnings
-from typing import NamedTuple
+from typing import TYPE_CHECKING, Any, Iterable, NamedTuple, Optional, Sequence
 
 import numpy
 
 from ..faults import Refused
 from ..plants.batch import OUTSIDE, cells_at
-from ..plants.plant import holds
+from ..plants.plant import Plant, holds
+from ..plants.units import Units
 from .promise import turn_after
-from .rows import VERSIONS, front_of
+from .rows import VERSIONS, Front, front_of
+
+if TYPE_CHECKING:
+    from .solver import Sample
 
 NONE = -1
 KINDS = tuple(VERSIONS)
@@ -18,9 +24,11 @@ KINDS = tuple(VERSIONS)
 
 class RowArrays:
     """The rows of a text, of a patrol text those of one turn, over the cells. won: whether a cell has a row; ranks and
-    inputs: NONE where there is no row, no rank or no input."""
+    inputs: NONE where there is no row, no rank or no input; arrivals: of a Turn, whether it is one of its arrivals."""
 
-    def __init__(self, plant, cells, ranks, inputs):
+    arrivals: numpy.ndarray
+
+    def __init__(self, plant: Plant, cells: Any, ranks: Any, inputs: Any) -> None:
         self.plant = plant
         self.won = numpy.zeros(plant.cells, dtype=bool)
         self.ranks, self.inputs = numpy.full((2, plant.cells), NONE)
@@ -28,7 +36,7 @@ class RowArrays:
         self.ranks[cells], self.inputs[cells] = ranks, inputs
 
     @classmethod
-    def of(cls, table):
+    def of(cls, table: Any) -> RowArrays:
         """Those of a Table, a Stay or a Turn, with its arrivals."""
         cells = numpy.fromiter(table.rows, dtype=numpy.int64, count=len(table.rows))
         ranks, inputs = (filled([row[k] for row in table.rows.values()]) for k in (0, 1))
@@ -42,7 +50,7 @@ class Rows:
     """The rows of all turns of a Table, a Stay or a Patrol: RowArrays with a line for each turn, and a cell OUTSIDE
     without a row behind the last one."""
 
-    def __init__(self, text):
+    def __init__(self, text: Any) -> None:
         self.plant, self.kind = text.plant, text.kind
         self.keeps = text.kind == "table" and text.keeps
         parts = [RowArrays.of(part) for part in (text.turns if self.kind == "patrol" else [text])]
@@ -52,12 +60,12 @@ class Rows:
             numpy.array([state[k] for state in self.plant.states]).reshape(-1, 1) for k in (1, 2, 3)
         )
 
-    def cell_of(self, whole):
+    def cell_of(self, whole: numpy.ndarray) -> numpy.ndarray:
         """The cells of columns of whole numbers, OUTSIDE where one is outside of the domain."""
         return cells_at(self.plant, whole)
 
 
-def stacked(parts, name, outside):
+def stacked(parts: Iterable[RowArrays], name: str, outside: Any) -> numpy.ndarray:
     """An array of each of some RowArrays, a line each, with a value behind the last cell's."""
     return numpy.stack([numpy.append(getattr(part, name), outside) for part in parts])
 
@@ -65,7 +73,7 @@ def stacked(parts, name, outside):
 class Cells(RowArrays):
     """The RowArrays of the bytes of a text, of a patrol text those of one turn, asked with many states at once."""
 
-    def __init__(self, data, turn=0, turns=None):
+    def __init__(self, data: bytes, turn: int = 0, turns: Optional[Turns] = None) -> None:
         self.turn, self.turns = turn, turns or Turns(data)
         front = self.turns.front
         self.kind, self.version = front.kind, front.version
@@ -74,14 +82,14 @@ class Cells(RowArrays):
         cells = numpy.arange(lengths.sum()) + numpy.repeat(firsts - numpy.cumsum(lengths) + lengths, lengths)
         super().__init__(front.plant, cells, numpy.repeat(ranks, lengths), numpy.repeat(inputs, lengths))
 
-    def row_of(self, cell):
+    def row_of(self, cell: int) -> Optional[tuple[Optional[int], Optional[int]]]:
         """The row of a cell as a pair, or None."""
         if not self.won[cell]:
             return None
         rank, choice = int(self.ranks[cell]), int(self.inputs[cell])
         return None if rank == NONE else rank, None if choice == NONE else choice
 
-    def cell_of(self, states):
+    def cell_of(self, states: Any) -> numpy.ndarray:
         """The cells of states, an array of one line each, or OUTSIDE where one is outside of the domain."""
         states = numpy.asarray(states)
         wide = len(self.plant.states)
@@ -91,12 +99,12 @@ class Cells(RowArrays):
             raise ValueError("states are whole numbers; whole_states makes them of real ones")
         return cells_at(self.plant, states.T)
 
-    def rank(self, states):
+    def rank(self, states: Any) -> numpy.ndarray:
         """The ranks at states; NONE where there is no row, and with goal keep."""
         cells = self.cell_of(states)
         return numpy.where(cells == OUTSIDE, NONE, self.ranks[cells])
 
-    def choice(self, states):
+    def choice(self, states: Any) -> numpy.ma.MaskedArray:
         """The values to apply at states, a line for each, masked where there is no row, and in the target of a
         table."""
         cells = self.cell_of(states)
@@ -107,17 +115,17 @@ class Cells(RowArrays):
         mask = numpy.broadcast_to((numbers == NONE)[:, None], (len(numbers), vectors.shape[1]))
         return numpy.ma.masked_array(vectors[numbers], mask)
 
-    def of_turn(self, turn):
+    def of_turn(self, turn: int) -> Cells:
         """The cells of another turn of the same patrol."""
         return self.turns.cells(turn)
 
-    def is_arrival(self, turn, cell):
+    def is_arrival(self, turn: int, cell: int) -> bool:
         """Whether a cell lies in the target of a turn, and has a row for the next one."""
         plant = self.plant
         is_inside = holds(plant.targets[turn], plant.low(cell), plant.high(cell))
         return is_inside and bool(self.of_turn(turn_after(turn, True, len(plant.targets))).won[cell])
 
-    def arranged(self, values, axes, fixed):
+    def arranged(self, values: numpy.ndarray, axes: Sequence[int], fixed: dict[int, int]) -> numpy.ndarray:
         """Values of cells over the indices of some axes, and behind them over those of the other states that aren't
         fixed."""
         counts = self.plant.counts
@@ -126,7 +134,7 @@ class Cells(RowArrays):
         part = values.reshape(counts).transpose(list(axes) + others)[chosen]
         return part.reshape([counts[i] for i in axes] + [-1])
 
-    def seen(self, axes, fixed):
+    def seen(self, axes: Sequence[int], fixed: dict[int, int]) -> list[numpy.ndarray]:
         """Rank, input and whether there is a row, over the indices of some axes. The other states are fixed at an
         index, or the cell of the least rank is taken over all of their indices."""
         won = self.arranged(self.won, axes, fixed)
@@ -135,12 +143,12 @@ class Cells(RowArrays):
         parts = (ranks, self.arranged(self.inputs, axes, fixed), won)
         return [numpy.take_along_axis(part, best, -1)[..., 0] for part in parts]
 
-    def share(self, axes, fixed):
+    def share(self, axes: Sequence[int], fixed: dict[int, int]) -> numpy.ndarray:
         """Over the indices of some axes, the share of the indices of the other states that have a row."""
         return self.arranged(self.won, axes, fixed).mean(axis=-1)
 
 
-def whole_states(plant, units, states):
+def whole_states(plant: Plant, units: Units, states: Any) -> numpy.ndarray:
     """The whole numbers of real states, an array of one line each, in a model's units. A value within 10^-9 of a unit's
     end counts as at that end."""
     return numpy.floor(numpy.asarray(states, dtype=float) / sizes_of(units, plant.states) + 1e-9).astype(numpy.int64)
@@ -157,28 +165,27 @@ class Run(NamedTuple):
     turns: numpy.ndarray
 
 
-def run_of(samples, units=None, plant=None):
+def run_of(samples: Sequence[Sample], units: Optional[Units] = None, plant: Optional[Plant] = None) -> Run:
     """The Run of what `simulate` gives. With a plant's units states and inputs are in these: states at the middles of
     their units, what is a whole number by itself as it is."""
     states = numpy.array([sample.state for sample in samples])
     wide = max((len(sample.inputs) for sample in samples if sample.inputs is not None), default=0)
     applied = [sample.inputs or (0,) * wide for sample in samples]
-    inputs = numpy.ma.masked_array(applied, [[sample.inputs is None] * wide for sample in samples])
-    if units:
-        states = (states + [0.5 * (name not in units.exact) for name, *_ in plant.states]) * sizes_of(
-            units, plant.states
-        )
+    inputs: Any = numpy.ma.masked_array(applied, [[sample.inputs is None] * wide for sample in samples])
+    if units and plant:
+        halves = numpy.array([0.5 * (name not in units.exact) for name, *_ in plant.states])
+        states = (states + halves) * sizes_of(units, plant.states)
         inputs = inputs * sizes_of(units, plant.inputs)[:wide]
     ranks, turns = (filled([getattr(sample, name) for sample in samples]) for name in ("rank", "turn"))
     return Run(numpy.array([sample.time for sample in samples]), states, ranks, inputs, turns)
 
 
-def sizes_of(units, entries):
+def sizes_of(units: Units, entries: Iterable[Any]) -> numpy.ndarray:
     """What the number 1 of each state, or of each input, stands for."""
     return numpy.array([float(units.size(entry[0])) for entry in entries])
 
 
-def filled(numbers):
+def filled(numbers: Iterable[Optional[int]]) -> numpy.ndarray:
     """An array with NONE in the place of None."""
     return numpy.array([NONE if number is None else number for number in numbers])
 
@@ -186,18 +193,19 @@ def filled(numbers):
 class Turns:
     """The turns of a patrol text; any other text counts as one."""
 
-    def __init__(self, data):
-        self.data, self.front, self.known = data, front_of(data, KINDS), {}
+    def __init__(self, data: bytes) -> None:
+        self.data, self.front = data, front_of(data, KINDS)
+        self.known: dict[int, Cells] = {}
         self.is_patrol = self.front.kind == "patrol"
         self.count = len(self.front.plant.targets) if self.is_patrol else 1
 
-    def cells(self, turn):
+    def cells(self, turn: int) -> Cells:
         if turn not in self.known:
             self.known[turn] = Cells(self.data, turn, self)
         return self.known[turn]
 
 
-def rows_at(data, front, turn):
+def rows_at(data: bytes, front: Front, turn: int) -> tuple[int, int, int]:
     """The line, the byte and the number of the first row line, of a patrol text in one turn; raises Refused."""
     at, line = front.at, front.line
     for number in range(turn + 1):
@@ -205,20 +213,20 @@ def rows_at(data, front, turn):
         counted = re.compile(rf"{before} (0|[1-9][0-9]{{0,8}})\n".encode()).match(data, at)
         if not counted:
             raise Refused(f"malformed: line {line}", f"`{before} N` is due")
-        at, line = counted.end(), line + 1
+        at, line, count = counted.end(), line + 1, int(counted.group(1))
         if number < turn:
-            for _ in range(int(counted.group(1))):
+            for _ in range(count):
                 at, line = data.find(b"\n", at) + 1 or len(data), line + 1
-    return line, at, int(counted.group(1))
+    return line, at, count
 
 
-def end_of(data, at):
+def end_of(data: bytes, at: int) -> int:
     """The byte at which a turn's row lines, or the text's, end."""
     behind = re.compile(rb"(?:turn |end\n)").search(data, at)
     return behind.start() if behind else len(data)
 
 
-def columns_of(data, front, turn):
+def columns_of(data: bytes, front: Front, turn: int) -> tuple[numpy.ndarray, ...]:
     """The first and last cells, ranks and inputs of the row lines; raises Refused where they are none."""
     line, at, count = rows_at(data, front, turn)
     end, wide = end_of(data, at), 3 + front.in_runs()

@@ -51,7 +51,7 @@ def library_at(path: str) -> ctypes.CDLL:
     library = ctypes.CDLL(path)
     held, numbers, replies = ctypes.POINTER(Held), ctypes.POINTER(ctypes.c_int64), ctypes.POINTER(ctypes.c_int32)
     number, size = ctypes.POINTER(ctypes.c_uint32), ctypes.c_size_t
-    for name, words in (
+    calls: tuple[tuple[str, list[Any]], ...] = (
         ("open", [ctypes.c_char_p, size, number]),
         ("control", [numbers, size, numbers, size]),
         ("sizes", [number, number]),
@@ -61,7 +61,8 @@ def library_at(path: str) -> ctypes.CDLL:
         ("begin_turn", [ctypes.c_uint32]),
         ("follows", [numbers, size] * 3),
         ("close", []),
-    ):
+    )
+    for name, words in calls:
         call = getattr(library, f"gaffcurrant_{name}")
         call.argtypes, call.restype = [held, *words], None if name == "close" else ctypes.c_int32
     return library

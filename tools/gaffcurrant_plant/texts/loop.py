@@ -1,13 +1,18 @@
 """Runs of the closed loop as the program's traces have them, and their text."""
 
+from __future__ import annotations
+
+from typing import Any, Callable, Iterable, Iterator, Sequence
+
 from ..faults import Refused
+from ..plants.plant import Plant
 from ..plants.reader import lines_of
 from .promise import turn_after
 
 MULTIPLIER, INCREMENT = 6364136223846793005, 1442695040888963407
 
 
-def noises(plant, seed):
+def noises(plant: Plant, seed: int) -> Iterator[list[int]]:
     """The disturbances of a run, sample by sample, from a linear congruential generator."""
     state = seed
     while True:
@@ -18,7 +23,7 @@ def noises(plant, seed):
         yield sample
 
 
-def run(plant, row_of, start, seed, most):
+def run(plant: Plant, row_of: Callable[[int], Any], start: Sequence[int], seed: int, most: int) -> list[list[int]]:
     """The states of a run: until rank 0, a cell without a row, or `most` steps. row_of gives (rank, input) or None."""
     states, state = [list(start)], list(start)
     for _, noise in zip(range(most), noises(plant, seed)):
@@ -31,7 +36,15 @@ def run(plant, row_of, start, seed, most):
     return states
 
 
-def patrol_run(plant, row_of, arrives, start, seed, most, turn=0):
+def patrol_run(
+    plant: Plant,
+    row_of: Callable[[int, int], Any],
+    arrives: Callable[[int, int], bool],
+    start: Sequence[int],
+    seed: int,
+    most: int,
+    turn: int = 0,
+) -> list[tuple[int, list[int]]]:
     """The samples of a run by a patrol as (turn, state), from a turn: until a cell without a row, or `most` steps.
     row_of gives the row of a cell in a turn, or None; arrives tells whether a cell is an arrival of a turn."""
     samples, state = [(turn, list(start))], list(start)
@@ -47,9 +60,10 @@ def patrol_run(plant, row_of, arrives, start, seed, most, turn=0):
     return samples
 
 
-def stretches(samples, turn):
+def stretches(samples: Iterable[tuple[int, list[int]]], turn: int) -> list[list[list[int]]]:
     """The parts of a run by a patrol in one turn, each up to the sample that has come to the turn's target."""
-    parts, is_on = [], False
+    parts: list[list[list[int]]] = []
+    is_on = False
     for at, state in samples:
         if is_on:
             parts[-1].append(state)
@@ -59,12 +73,13 @@ def stretches(samples, turn):
     return [part for part in parts if len(part) > 1]
 
 
-def read_trace(data, plant):
+def read_trace(data: bytes, plant: Plant) -> list[list[int]]:
     """The states of a trace text, or raises Refused."""
     lines = lines_of(data)
     if not lines or lines[0] != "trace 1":
         raise Refused("malformed: line 1", "a trace begins with `trace 1`", 1)
-    states, wide = [], len(plant.states)
+    states: list[list[int]] = []
+    wide = len(plant.states)
     for number, line in enumerate(lines[1:], 2):
         words = line.split(" ")
         if words[0] in ("arrived", "stopped"):

@@ -133,10 +133,9 @@ class Lines:
 
 def quick_rows(lines, front):
     """The rows of row lines that are all right, or None."""
-    wide, text = 3 + front.in_runs(), "".join([f"{line}\n" for line in lines])
-    if not (IN_RUNS if wide == 4 else SINGLE).fullmatch(text):
+    wide, numbers = 3 + front.in_runs(), numbers_in(lines, front.in_runs())
+    if numbers is None:
         return None
-    numbers = list(map(int, text.replace("-", "-1").split()))
     firsts, lasts = numbers[::wide], numbers[wide - 3 :: wide]
     pairs = list(zip(numbers[wide - 2 :: wide], numbers[wide - 1 :: wide]))
     are_right = do_rise(firsts, lasts, front.plant.cells) and not any(
@@ -149,6 +148,13 @@ def quick_rows(lines, front):
         row = None if rank < 0 else rank, None if choice < 0 else choice
         rows.update(dict.fromkeys(range(first, last + 1), row) if first < last else {first: row})
     return rows
+
+
+def numbers_in(lines, in_runs):
+    """The numbers of row lines, -1 for `-`; None where one of them isn't written as it has to be."""
+    text = "".join([f"{line}\n" for line in lines])
+    is_right = (IN_RUNS if in_runs else SINGLE).fullmatch(text)
+    return list(map(int, text.replace("-", "-1").split())) if is_right else None
 
 
 def do_rise(firsts, lasts, cells):

@@ -106,7 +106,7 @@ def simulate(
     turn's target. Raises NoRow where a state has no row."""
     plant, run = table.plant, list[Sample]()
     whole = [int(value) for value in state]
-    drawn: Iterable[Any] = noises(plant, seed) if disturbance is None else repeat(None)
+    drawn: Iterable[Any] = noises(plant, seed) if disturbance is None else repeat([])
     for time, noise in zip(range(samples + 1), drawn):
         at = None
         if isinstance(table, Patrol):

@@ -100,14 +100,14 @@ class Turn(Table):
 
     kind, keeps = "turn", False
 
-    def __init__(self, plant, rows, number, arrivals):
+    def __init__(self, plant: Plant, rows: dict[int, Row], number: int, arrivals: set[int]) -> None:
         super().__init__(plant, rows)
         self.number, self.arrivals = number, arrivals
 
-    def has(self, cell):
+    def has(self, cell: Optional[int]) -> bool:
         return cell in self.arrivals or cell in self.rows
 
-    def left(self, cell):
+    def left(self, cell: int) -> Optional[int]:
         return 0 if cell in self.arrivals else self.rows[cell][0]
 
 
@@ -140,7 +140,7 @@ class Patrol:
         return has_arrived, turn_after(number, has_arrived, len(self.turns))
 
 
-def arrivals_of(plant, box, next_rows):
+def arrivals_of(plant: Plant, box: Sequence[tuple[int, int]], next_rows: Mapping[int, Row]) -> set[int]:
     """The cells with a row for the next turn all of whose points lie in a box."""
     return {cell for cell in next_rows if holds(box, plant.low(cell), plant.high(cell))}
 
@@ -164,9 +164,9 @@ def read_text(data: bytes, kinds: Sequence[str] = ("table", "stay", "patrol")) -
     return {"table": Table, "stay": Stay, "patrol": Patrol}[front.kind](front.plant, rows, front.version)
 
 
-def runs_of(rows):
+def runs_of(rows: Mapping[int, Row]) -> list[list[Any]]:
     """The rows as maximal runs (first, last, rank, input), in rising order."""
-    runs = []
+    runs: list[list[Any]] = []
     for cell in sorted(rows):
         if runs and runs[-1][1] == cell - 1 and tuple(runs[-1][2:]) == rows[cell]:
             runs[-1][1] = cell
@@ -175,7 +175,7 @@ def runs_of(rows):
     return runs
 
 
-def said(lines):
+def said(lines: Iterable[Iterable[Any]]) -> list[str]:
     """Row lines as they are written."""
     return [" ".join("-" if word is None else str(word) for word in line) for line in lines]
 

@@ -10,7 +10,7 @@ from ..models.formula import value_of
 try:
     import numpy
 except ImportError:
-    numpy = None
+    numpy = None  # type: ignore[assignment]
 
 # Fine steps of a sample, and the parts of it in which a disturbance is held.
 STEPS, PARTS = 24, 4
@@ -62,6 +62,11 @@ def sum_of(terms):
     )
 
 
+def firsts_of(entries):
+    """The names of states, of inputs or of noises."""
+    return [entry[0] for entry in entries]
+
+
 class RealPlant:
     """sides: functions of the variables' arrays for the derivatives of the states, or, of a model with `next` lines,
     for the next states. States and inputs are arrays of a row for each variable and a column for each run."""
@@ -69,21 +74,18 @@ class RealPlant:
     def __init__(self, model):
         need_numpy()
         self.model, self.maths = model, Arrays()
-        self.names = [state[0] for state in model.states]
-        self.input_names = [entry[0] for entry in model.inputs]
-        self.noise_names = [noise[0] for noise in model.noises]
+        self.names, self.input_names, self.noise_names = map(firsts_of, (model.states, model.inputs, model.noises))
         self.units = column([state[4] for state in model.states])
-        self.lows, self.highs = column([state[1] for state in model.states]), column(
-            [state[2] for state in model.states]
-        )
+        self.lows, self.highs = (column([state[k] for state in model.states]) for k in (1, 2))
         self.noise_ends = [column([noise[k] for noise in model.noises]) for k in (1, 2)]
         self.of_matrix = bool(model.rows["A"]) and bool(model.sample)
         self.is_flow = bool(model.flows) or self.of_matrix
-        self.sides = (
-            self.matrix_sides() if self.of_matrix else [self.side(node) for node in model.flows or model.equations]
-        )
-        self.targets = [ends_of(box) for keyword, box in model.boxes if keyword == "target"]
-        self.obstacles = [ends_of(box) for keyword, box in model.boxes if keyword == "obstacle"]
+        self.sides = self.matrix_sides() if self.of_matrix else list(map(self.side, model.flows or model.equations))
+        self.targets, self.obstacles = (self.boxes(keyword) for keyword in ("target", "obstacle"))
+
+    def boxes(self, keyword):
+        """The ends of the boxes of lines with a keyword."""
+        return [ends_of(box) for one, box in self.model.boxes if one == keyword]
 
     def side(self, node):
         if isinstance(node, dict):

@@ -78,8 +78,8 @@ class Ways:
         """About how fast errors grow at some cells: the spectral radius of the matrix of how much wider each slope is
         over cells that are wider in a state."""
         draws = numpy.random.default_rng(1)
-        places = numpy.array([draws.integers(0, count, SAMPLED) for count in plant.counts])
-        lows = numpy.array([low for _, low, *_ in plant.states]).reshape(-1, 1) + places * numpy.array(
+        indices = numpy.array([draws.integers(0, count, SAMPLED) for count in plant.counts])
+        lows = numpy.array([low for _, low, *_ in plant.states]).reshape(-1, 1) + indices * numpy.array(
             [state[3] for state in plant.states]
         ).reshape(-1, 1)
         highs = lows + numpy.array([state[3] - 1 for state in plant.states]).reshape(-1, 1)
@@ -304,8 +304,8 @@ class Looked:
         for count in self.counts:
             if not cells.size:
                 return
-            places = self.places(cells)
-            found = self.patterns_of(places, places, inputs, count)
+            indices = self.indices(cells)
+            found = self.patterns_of(indices, indices, inputs, count)
             is_left = found.any(axis=0)
             cells, found = cells[is_left], found[:, is_left]
         if cells.size:
@@ -314,7 +314,7 @@ class Looked:
     def left_together(self, cells, inputs, size):
         """Those of some cells whose ways may touch something when they are enclosed together, in boxes of so many cells
         along each state."""
-        blocks = self.places(cells) // size
+        blocks = self.indices(cells) // size
         counts = [-(-count // size) for count in self.plant.counts]
         numbers, at = numpy.unique(numpy.ravel_multi_index(tuple(blocks), counts), return_inverse=True)
         if numbers.size * FEWER > cells.size:
@@ -323,12 +323,12 @@ class Looked:
         lasts = numpy.minimum(firsts + size, numpy.array(self.plant.counts).reshape(-1, 1)) - 1
         return cells[self.patterns_of(firsts, lasts, inputs, self.counts[0]).any(axis=0)[at]]
 
-    def places(self, cells):
+    def indices(self, cells):
         return numpy.array(numpy.unravel_index(cells, self.plant.counts))
 
     def patterns_of(self, firsts, lasts, inputs, count):
         """For each wall which ways from boxes of cells may touch it, by so many substeps, and behind these for which no
-        enclosure was found. firsts and lasts: the places of the boxes' corners, in columns."""
+        enclosure was found. firsts and lasts: the indices of the boxes' corners, in columns."""
         found = numpy.zeros((self.walls.count + 1, firsts.shape[1]), dtype=bool)
         for begin in range(0, firsts.shape[1], COLUMNS):
             part = slice(begin, begin + COLUMNS)

@@ -39,11 +39,11 @@ class Layers:
         self.counts = [int((state[2] - state[1]) / state[3]) for state in model.states]
         self.comes_round = [state[0] in model.wraps for state in model.states]
         self.taken = numpy.array(
-            [[self.places(i, *ends) for i, ends in enumerate(box)] for box in self.obstacles]
+            [[self.indices(i, *ends) for i, ends in enumerate(box)] for box in self.obstacles]
         ).reshape(-1, states, 2)
 
-    def places(self, i, low, high):
-        """The first and the last place that an obstacle meets along a state."""
+    def indices(self, i, low, high):
+        """The first and the last index that an obstacle meets along a state."""
         return math.floor((low - self.lows[i]) / self.widths[i]), math.ceil((high - self.lows[i]) / self.widths[i]) - 1
 
     def boxes(self):
@@ -83,16 +83,16 @@ class Layers:
             parts = [part + [end] for part in parts for end in ends]
         return parts
 
-    def end(self, i, place):
-        return self.lows[i] + self.widths[i] * int(place)
+    def end(self, i, index):
+        return self.lows[i] + self.widths[i] * int(index)
 
-    def widen(self, places, ends, walls):
+    def widen(self, indices, ends, walls):
         """Adds a layer where ways touch: about each obstacle at the side beside which, for a layer's cells, most of the
-        touching ways begin or end, and rather at one that has few layers, since many close a gap. places and ends: a
+        touching ways begin or end, and rather at one that has few layers, since many close a gap. indices and ends: a
         column for each of these ways, of the cell where it begins and of that where it ends; walls: which obstacles it
         may touch, and behind them which sides of the domain it may leave."""
         for number in numpy.flatnonzero(walls[: len(self.obstacles)].any(axis=1)):
-            mine = numpy.concatenate([places[:, walls[number]]] + [ends[:, walls[number]]] * self.has_ends, axis=1)
+            mine = numpy.concatenate([indices[:, walls[number]]] + [ends[:, walls[number]]] * self.has_ends, axis=1)
             first, last = (
                 self.taken[number][:, 0] - self.about[number][:, 0],
                 self.taken[number][:, 1] + self.about[number][:, 1],
@@ -105,14 +105,14 @@ class Layers:
         for at in numpy.flatnonzero(walls[len(self.obstacles) :].any(axis=1)):
             self.inside[at // 2][at % 2] += 1
 
-    def votes(self, i, places, first, last):
-        """How many places lie below and above an obstacle's first and last one; of a state that comes round at the side
-        that is nearer."""
+    def votes(self, i, indices, first, last):
+        """How many indices lie below and above an obstacle's first and last one; of a state that comes round at the
+        side that is nearer."""
         if not self.comes_round[i]:
-            return (places < first).sum(), (places > last).sum()
-        above = (places - last) % self.counts[i]
+            return (indices < first).sum(), (indices > last).sum()
+        above = (indices - last) % self.counts[i]
         is_beside = above < self.counts[i] - (last - first)
-        is_above = above <= (first - places) % self.counts[i]
+        is_above = above <= (first - indices) % self.counts[i]
         return (is_beside & ~is_above & (above > 0)).sum(), (is_beside & is_above & (above > 0)).sum()
 
     def said(self):
@@ -154,11 +154,11 @@ def text_between(planting, word, has_bounds, progress=None):
 
 
 class Look:
-    """What a plant's table shows. rows: how many there are; places and ends: those of the cells where touching ways
+    """What a plant's table shows. rows: how many there are; indices and ends: those of the cells where touching ways
     begin and end, in columns; vectors: their inputs; walls: what they may touch."""
 
-    def __init__(self, rows, places, ends, vectors, walls):
-        self.rows, self.places, self.ends, self.vectors, self.walls = rows, places, ends, vectors, walls
+    def __init__(self, rows, indices, ends, vectors, walls):
+        self.rows, self.indices, self.ends, self.vectors, self.walls = rows, indices, ends, vectors, walls
 
 
 class Looks:
@@ -208,8 +208,7 @@ class Looks:
         if left is None and self.last.walls.any():
             self.tell(
                 f"between: the ways that may touch don't become fewer so far ({counts}), so it can't be told how "
-                f"long this takes; a plant takes {self.plant_seconds():.0f} s, and {MOST_ROUNDS} for "
-                "each of "
+                f"long this takes; a plant takes {self.plant_seconds():.0f} s, and {MOST_ROUNDS} for each of "
                 f"{len(CHOICES)} ways to widen obstacles are the most"
             )
         elif left is not None and left > LONG:
@@ -257,10 +256,10 @@ class Looks:
             numpy.concatenate(parts, axis=-1) for parts in ([one.walls for one in found], [one.cells for one in found])
         )
         vectors = numpy.concatenate([one.inputs[touch.cells] for one, touch in zip(turns, found)])
-        places = numpy.array(numpy.unravel_index(cells, self.planting.plant.counts))
+        indices = numpy.array(numpy.unravel_index(cells, self.planting.plant.counts))
         return Look(
             sum(int(one.won.sum()) for one in turns),
-            places,
+            indices,
             ends_of(self.planting.plant, cells, vectors),
             vectors,
             walls,
@@ -279,7 +278,7 @@ def widenings_left(counts):
 
 
 def ends_of(plant, cells, vectors):
-    """The places, in columns, at which the middles of cells are a sample later, without disturbances."""
+    """The indices, in columns, at which the middles of cells are a sample later, without disturbances."""
     batch = plant.batch()
     middles = batch.middles(batch.lows(batch.indices(cells)), vectors)
     return numpy.array(
@@ -308,7 +307,7 @@ class Widened:
             if not look.walls.any():
                 self.text = self.text_of(list(self.comments()))
                 return
-            self.layers.widen(look.places, look.ends, look.walls)
+            self.layers.widen(look.indices, look.ends, look.walls)
             last = look
         raise Trouble(f"between: ways still touch after {MOST_ROUNDS} rounds")
 
@@ -317,8 +316,7 @@ class Widened:
         these, and what may help."""
         if last is None:
             return (
-                f"between: `{self.looks.word}` finds no row by the obstacles as they are; a line `between` is "
-                "for "
+                f"between: `{self.looks.word}` finds no row by the obstacles as they are; a line `between` is for "
                 "a plant that has some"
             )
         counts = last.walls.sum(axis=1)
