@@ -221,21 +221,28 @@ class Scale(ToolCase):
         faults = outside(Model(model), read_plant(plant.encode()), count)
         self.equal(f"{what}: the error of rounding lies within the noise", [], faults[:3])
 
-    def test_outward(self):
-        """Ends with long denominators become ends of short ones that hold them, and no others change: so numbers don't
-        grow from step to step."""
-        long = Fraction(1, 3**300)
-        low, high = outward(-2 - long, long - 1)
-        self.holds("long ends hold the interval", -3 < low < -2 - long and long - 1 < high < 0, (low, high))
-        self.holds("long ends are rounded", max(low.denominator, high.denominator) <= 2**80, (low, high))
-        self.equal("short ends stay", (Fraction(-1, 1000), Fraction(1, 3)), outward(Fraction(-1, 1000), Fraction(1, 3)))
-
     def test_less_noise_is_seen(self):
         """The comparison sees what the noise is for: without it, real steps of the gate leave the successor box."""
         text = self.plant_text("gate").decode().replace("noise r_x -1 2\n", "").replace(" + r_x", "")
         faults = outside(Model(self.model_of("gate").read_text()), read_plant(text.encode()), 3000)
         seen = any("leaves" in fault for fault in faults)
         self.holds("without its noise the gate's real steps leave the box", seen)
+
+
+class Outward(ToolCase):
+    """Ends with long denominators become ends of short ones that hold them, and no others change: so numbers don't grow
+    from step to step."""
+
+    def test_long_ends(self):
+        long = Fraction(1, 3**300)
+        low, high = outward(-2 - long, long - 1)
+        is_held = -3 < low < -2 - long and long - 1 < high < 0
+        is_short = max(low.denominator, high.denominator) <= 2**80
+        self.holds("long ends are rounded outward", is_held and is_short, (low, high))
+
+    def test_short_ends(self):
+        ends = (Fraction(-1, 1000), Fraction(1, 3))
+        self.equal("short ends stay", ends, outward(*ends))
 
 
 class Refused(ToolCase):

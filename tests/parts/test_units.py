@@ -98,24 +98,35 @@ def trouble_of(call):
         return str(trouble)
 
 
-class OtherModels(ToolCase):
-    """Models that aren't those of a table."""
+class OtherSizes(ToolCase):
+    """A model ten times as large as the table's plant has the same whole numbers of units, but other steps: it is
+    refused, as a plant text with other equations is."""
 
-    def test_sizes(self):
-        """A model ten times as large has the same whole numbers of units, but other steps: it is refused, as a plant
-        text with other equations is."""
-        path, text = self.model_of("docks"), self.model_of("docks").read_text()
-        larger = text.replace("state x 0 405 9 1", "state x 0 4050 90 10").replace(
-            "state y 0 225 9 1", "state y 0 2250 90 10"
-        )
-        other = self.plant_text("docks").decode().replace("next x = x + u", "next x = x + u + u")
-        words = ["why", TOP / "examples/docks/docks.patrol", "200", "30", "--model"]
-        self.equal("a table's own model", 0, self.tool(*words, path)[0])
-        for name, content, said in (
-            ("larger.model", larger, "the model isn't the table's: by the model a sample leads x"),
-            ("other.plant", other, "the table is of another plant: equations or noises differ"),
+    def why(self, model):
+        return self.tool("why", TOP / "examples/docks/docks.patrol", "200", "30", "--model", model)
+
+    def test_own_model(self):
+        self.equal("a table's own model", 0, self.why(self.model_of("docks"))[0])
+
+    def test_larger_model(self):
+        text = self.model_of("docks").read_text()
+        for old, new in (
+            ("state x 0 405 9 1", "state x 0 4050 90 10"),
+            ("state y 0 225 9 1", "state y 0 2250 90 10"),
         ):
-            self.refused(name, self.tool(*words, self.placed(name, content)), said)
+            text = text.replace(old, new)
+        said = "the model isn't the table's: by the model a sample leads x"
+        self.is_refused(self.placed("larger.model", text), said)
+
+    def test_other_equations(self):
+        text = self.plant_text("docks").decode().replace("next x = x + u", "next x = x + u + u")
+        said = "the table is of another plant: equations or noises differ"
+        self.is_refused(self.placed("other.plant", text), said)
+
+    def is_refused(self, path, said):
+        status, output, error = self.why(path)
+        is_told = (status, output, error.count("\n")) == (1, "", 1) and said in error
+        self.holds(f"{path.name} is refused", is_told, (status, output, error))
 
 
 class Views(ToolCase):
