@@ -114,6 +114,12 @@ COMPLAINTS = [
     ),
     ("version 2\n" + STATE + "next x = atan2(x - 5, x - 5)\ngoal keep\n", "its second argument has to be above 0"),
     ("version 2\n" + STATE + "next x = asin(x)\ngoal keep\n", "has to be within -1 and 1"),
+    # Thirty straight pieces in version 1, by min and max of lines: too long, and soon said to be.
+    (
+        "version 1\npieces 30\nstate x 0.5 2.5 cells 7\nstate y 0 50 cells 20\n"
+        "next x = x + 0.1*(tan(max(-0.9, min(0.9, x - cos(0.1*(y))))))\nnext y = y\ngoal keep\n",
+        "the plant would be refused, ",
+    ),
 ]
 
 

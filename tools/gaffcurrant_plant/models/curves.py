@@ -6,6 +6,7 @@ from h by at most d^2 / 8 times the greatest second derivative, below it where h
 The derivatives are bounded over each piece by interval arithmetic."""
 
 import math
+from collections import Counter
 from fractions import Fraction
 from functools import lru_cache
 from itertools import combinations
@@ -228,7 +229,9 @@ def lattice(lines, xs):
     needed."""
     crossings = {(b - a) / (c - d) for (c, a), (d, b) in combinations(lines, 2) if c != d}
     places = sorted({Fraction(x) for x in xs} | {x for x in crossings if xs[0] < x < xs[-1]})
-    wanted = [value_on(lines[piece_at(xs, x)], x) for x in places]
+    # Whether a line is least or greatest at a place rests on its rank there alone.
+    ranks = list(zip(*(ranked([value_on(line, x) for line in lines]) for x in places)))
+    wanted = [ranks[piece_at(xs, x)][k] for k, x in enumerate(places)]
     terms = []
     for i, (low, high) in enumerate(zip(xs, xs[1:])):
         term = [
@@ -236,30 +239,46 @@ def lattice(lines, xs):
         ]
         if term not in terms:
             terms.append(term)
-
-    def is_right(trial):
-        return (
-            bool(trial)
-            and all(trial)
-            and [max(min(value_on(lines[j], x) for j in term) for term in trial) for x in places] == wanted
-        )
-
-    if not is_right(terms):
+    if list(map(max, zip(*(least_of(term, ranks) for term in terms)))) != wanted:
         raise Trouble("straight pieces couldn't be put together by min and max")
-    return thinned(terms, is_right)
+    return [needed_lines(term, ranks, wanted) for term in needed_terms(terms, ranks, wanted)]
 
 
-def thinned(terms, is_right):
-    """The terms without those, and without the lines of them, that can be left out one after the other."""
-    for term in list(terms):
-        if is_right([one for one in terms if one is not term]):
-            terms = [one for one in terms if one is not term]
-    for k in range(len(terms)):
-        for line in list(terms[k]):
-            trial = terms[:k] + [[j for j in terms[k] if j != line]] + terms[k + 1 :]
-            if is_right(trial):
-                terms = trial
-    return terms
+def ranked(values):
+    """For each of some values its place among them."""
+    places = {value: k for k, value in enumerate(sorted(set(values)))}
+    return [places[value] for value in values]
+
+
+def least_of(term, ranks):
+    """The least rank among the lines of a term, at each place."""
+    return list(map(min, zip(*(ranks[j] for j in term))))
+
+
+def needed_terms(terms, ranks, wanted):
+    """The terms without those that can be left out one after the other: at each place where one reaches what is wanted
+    another does too."""
+    reached = [{k for k, pair in enumerate(zip(least_of(term, ranks), wanted)) if pair[0] == pair[1]} for term in terms]
+    return [terms[at] for at in needed(reached)]
+
+
+def needed_lines(term, ranks, wanted):
+    """The lines of a term without those that can be left out one after the other: at each place where one isn't above
+    what is wanted another isn't either."""
+    kept = [{k for k, (rank, most) in enumerate(zip(ranks[j], wanted)) if rank <= most} for j in term]
+    return [term[at] for at in needed(kept)]
+
+
+def needed(sets):
+    """Which of some sets of places are left, when each goes in turn whose places the others have too."""
+    counts = Counter(place for one in sets for place in one)
+    left = []
+    for at, one in enumerate(sets):
+        if all(counts[place] > 1 for place in one):
+            counts.subtract(one)
+        else:
+            left.append(at)
+    return left
 
 
 def piece_at(xs, x):
