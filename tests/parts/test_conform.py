@@ -147,7 +147,9 @@ class ByHand(ToolCase):
         wanted = ([(-1, 1)], [(-2, 3)], [(0, 1)], 1.0, [2, 3, 4, 5, 6])
         got = (found.stated(), found.ranges(), found.ranges(Fraction(1, 2)), found.sample, found.log.lines.tolist())
         self.equal("its ranges", wanted, got)
+        self.equal("the range of 99 per cent of four steps", [(-2, 3)], found.ranges(Fraction(99, 100)))
         self.equal("its worst steps", [1, 2], found.worst())
+        self.equal("what so few steps look like", [], diagnosed(found))
 
     def test_arrays(self):
         log = log_of([[50], [54], [57], [52], [52]], [[3], [0], [-3], [0], [numpy.nan]])
@@ -158,6 +160,8 @@ class ByHand(ToolCase):
         """Separators, line ends and headings."""
         for what, old, new in OTHERWISE:
             self.equal(f"the log with {what}", lists_of(by_hand()), lists_of(by_hand(data=HAND_LOG.replace(old, new))))
+        decimal = HAND_LOG.replace(",", ";").replace("54", "54,9")
+        self.equal("the log with decimal commas", lists_of(by_hand()), lists_of(by_hand(data=decimal)))
         noted = re.sub(r"(?m)([-0-9])$", r"\1,fine", HAND_LOG.replace("u\n", "u,note\n"))
         self.equal("the log with text in another column", lists_of(by_hand()), lists_of(by_hand(data=noted)))
 
@@ -277,11 +281,11 @@ class Events(ToolCase):
         return plant
 
     def turning(self):
-        """An angle that turns by 0 or 10 a sample, and a little beside, and its inputs."""
+        """An angle that turns by 0 or 10 a sample, and by an end of its noise, and its inputs."""
         draws, angles, turns = random.Random(2), [100.0], []
-        for _ in range(400):
+        for k in range(400):
             turns.append(draws.choice([0, 10, 10]))
-            angles.append(angles[-1] + turns[-1] + draws.uniform(-0.9, 0.9))
+            angles.append(angles[-1] + turns[-1] + (-1) ** k)
         return angles, [[turn] for turn in [*turns, 0]]
 
     def test_angle_that_comes_round(self):
@@ -306,6 +310,13 @@ class Events(ToolCase):
         calm = [[60 * numpy.sin(k / 70) + (90 if k == 200 else 0)] for k in range(400)]
         said = "a state that jumps: h at 2 steps, .* lines 200, 201$"
         self.is_named("a state that jumps", said, self.plant(""), log_of(calm, [[0.0]] * 400))
+
+    def test_many_jumps(self):
+        """At a tenth of the steps they are no events."""
+        calm = [[60 * numpy.sin(k / 70) + (90 if k % 20 == 9 else 0)] for k in range(400)]
+        found = conform(self.plant(""), log_of(calm, [[0.0]] * 400))
+        got = (count(~found.explained), diagnosed(found))
+        self.equal("steps that aren't explained, and what they look like", (40, []), got)
 
     def test_missing_samples(self):
         draws, states, inputs = random.Random(2), [-170.0], []
@@ -478,6 +489,13 @@ class Program(ToolCase):
         for text, said in REFUSED:
             answer = self.tool("conform", "-", "--model", self.plant, data=text.encode())
             self.refused(f"conform of {text[:40]!r}", answer, said)
+
+    def test_unit_of_heading(self):
+        plant = self.placed("metres.plant", "# unit x 1 m\n# unit u 1 m\n" + HAND)
+        for unit, error in (("m", ""), ("mm", "conform: -: the heading has x in mm, and the model in m\n")):
+            data = HAND_LOG.replace("x,", f"x [{unit}],")
+            got = self.tool("conform", "-", "--model", plant, data=data.encode())[::2]
+            self.equal(f"conform of a column in {unit}", (1, error), got)
 
     def test_times_that_do_not_fit(self):
         apart = "its samples are 0.1 apart, and the model's 0.4; one line in 4 would fit"

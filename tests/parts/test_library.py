@@ -430,11 +430,14 @@ class Library(ToolCase):
             got = [answer_of(controller.choice, state) for state in states]
             self.equal(f"Python by {what}: sizes and kinds of states", ["ValueError"] * 3 + ["NoRow"] * 2, got)
             self.equal(f"Python by {what}: none at once", [], controller.choices([]))
+            steps = (([1], [20], [1, 2]), ([1, 2], [20], [1]), ([1, 2], [], [1, 2]), ([1, 2], [20, 20], [1, 2]))
+            got = [answer_of(controller.follows, *step) for step in (*steps, ([1, 2], [21], [1, 2]))]
+            self.equal(f"Python by {what}: sizes of steps", ["ValueError"] * 4 + ["NoRow"], got)
             controller.close()
             controller.close()
             calls = ((controller.choice, [1, 2]), (controller.rank, [1, 2]), (controller.choices, [[1, 2]]))
-            got = [answer_of(*call) for call in calls]
-            self.equal(f"Python by {what}: closed", ["ValueError"] * 3, got)
+            got = [answer_of(*call) for call in (*calls, (controller.follows, [1, 2], [20], [1, 2]))]
+            self.equal(f"Python by {what}: closed", ["ValueError"] * 4, got)
 
     def test_variable_that_names_the_library(self):
         script = "from gaffcurrant_plant import Controller; import sys; print(Controller(sys.stdin.read()).is_proved)"
