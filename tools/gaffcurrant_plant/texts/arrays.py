@@ -173,8 +173,7 @@ def run_of(samples: Sequence[Sample], units: Optional[Units] = None, plant: Opti
     applied = [sample.inputs or (0,) * wide for sample in samples]
     inputs: Any = numpy.ma.masked_array(applied, [[sample.inputs is None] * wide for sample in samples])
     if units and plant:
-        halves = numpy.array([0.5 * (name not in units.exact) for name, *_ in plant.states])
-        states = (states + halves) * sizes_of(units, plant.states)
+        states = (states + halves_of(units, plant.states)) * sizes_of(units, plant.states)
         inputs = inputs * sizes_of(units, plant.inputs)[:wide]
     ranks, turns = (filled([getattr(sample, name) for sample in samples]) for name in ("rank", "turn"))
     return Run(numpy.array([sample.time for sample in samples]), states, ranks, inputs, turns)
@@ -183,6 +182,11 @@ def run_of(samples: Sequence[Sample], units: Optional[Units] = None, plant: Opti
 def sizes_of(units: Units, entries: Iterable[Any]) -> numpy.ndarray:
     """What the number 1 of each state, or of each input, stands for."""
     return numpy.array([float(units.size(entry[0])) for entry in entries])
+
+
+def halves_of(units: Units, entries: Iterable[Any]) -> numpy.ndarray:
+    """How far the middle of each state's unit is from its number, 0 of what is a whole number by itself."""
+    return numpy.array([0.5 * (entry[0] not in units.exact) for entry in entries])
 
 
 def filled(numbers: Iterable[Optional[int]]) -> numpy.ndarray:
