@@ -619,7 +619,7 @@ def told_of(model, states):
     for sample, state in enumerate(states):
         before = turn
         has_come = model.kind == "patrol" and sample > 0 and model.plant.cell_of(state) in model.turns[turn].arrivals
-        turn = model.behind(before) if has_come else before
+        turn = model.turn_after(before, state) if has_come else before
         rows = model.turns[turn].rows if model.kind == "patrol" else model.rows
         row = rows.get(model.plant.cell_of(state))
         reply = f"{NO_ROW} 0" if row is None else " ".join(map(str, (APPLY, row[0], *model.plant.vector(row[1]))))

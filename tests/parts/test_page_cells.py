@@ -163,7 +163,7 @@ def hardest_trace(text, state, turn, most):
     for time in range(most + 1):
         if time and is_patrol and plant.cell_of(state) in text.turns[turn].arrivals:
             lines.append(f"visited {turn} {time}")
-            turn = text.behind(turn)
+            turn = text.turn_after(turn, state)
         part = part_of(text, turn)
         row = part.rows.get(plant.cell_of(state))
         if row is None:
