@@ -168,7 +168,8 @@ def hardest_trace(text, state, turn, most):
         row = part.rows.get(plant.cell_of(state))
         if row is None:
             return lines + [" ".join(map(str, ["lost", time, *state]))]
-        lines.append(" ".join(map(str, [time, *[turn] * is_patrol, *state, row[0], "-" if row[1] is None else row[1]])))
+        words = ["-" if word is None else word for word in row]
+        lines.append(" ".join(map(str, [time, *[turn] * is_patrol, *state, *words])))
         if row[1] is None or time == most:
             return lines + [f"{'arrived' if row[1] is None else 'stopped'} {time}"]
         state = hardest_of(part, [plant.step(state, plant.vector(row[1]), corner) for corner in corners_of(plant)])
