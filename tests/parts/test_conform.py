@@ -165,6 +165,12 @@ class ByHand(ToolCase):
         noted = re.sub(r"(?m)([-0-9])$", r"\1,fine", HAND_LOG.replace("u\n", "u,note\n"))
         self.equal("the log with text in another column", lists_of(by_hand()), lists_of(by_hand(data=noted)))
 
+    def test_ends_of_units(self):
+        """In doubles 5.8 / 0.1 and 6.1 / 0.1 lie below the whole numbers."""
+        units = Units({"x": Fraction(1, 10), "u": Fraction(1, 10)})
+        found = conform(read_plant(HAND.encode()), log_of([[5.5], [5.8], [6.1]], [[0.3], [0.3], [0]]), units)
+        self.equal("what steps to the ends of units need", [0, 0], found.needed[0].tolist())
+
     def test_steps_that_are_not_judged(self):
         found = by_hand(data=UNJUDGED)
         got = (found.needed[0].tolist(), found.left_out, found.followed.tolist())
