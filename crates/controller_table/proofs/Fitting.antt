@@ -1,30 +1,16 @@
 -- The rules of a plant's rows allow the rows that fit it, and no others.
-use Rattle.std.proofs.Common.{◌≡◌, ℕ, ◌^◌, ◌<◌, ◌≤◌, List, length, get_or, Option, Some, None, arith}
+use Rattle.std.proofs.Common.{◌≡◌, ℕ, ◌<◌, ◌≤◌, List, length, get_or, Option, Some, None, arith}
 use Rattle.std.specs.Prelude.{IfSome}
 use Rattle.game_core.specs.declared.game.Row.{Row}
 use Rattle.grid_quantiser.specs.Axes.{cells_of}
 use Rattle.plant_record.specs.declared.aims.GoalKind.{GoalKind}
 use Rattle.plant_record.specs.declared.aims.GoalKind.TheVariants.{Reach, Keep}
 use Rattle.plant_record.specs.Description.{Description, axes_of}
-use Rattle.plant_record.specs.Limits.{IsWithinLimits}
-use Rattle.plant_record.proofs.lemmas.Limits.{small_cells, small_vectors}
 use Rattle.row_runs.specs.declared.run.TableVersion.{TableVersion}
 use Rattle.row_reading.specs.RowsTexts.{Determines, IsRowWithin, AreRowsWithin}
-use Rattle.row_reading.specs.inside.RunReading.{AreSmall}
 use Rattle.controller_table.specs.TableText.{format_of}
 use Rattle.controller_table.specs.Tables.{HasFittingRank, IsRowOf, RowsFit}
-use Rattle.controller_table.specs.RowLines.{most_rank_of, rules_of}
-
-few_ranks : (goal : GoalKind) (cells : ℕ) → cells ≤ 2 ^ 20 → most_rank_of goal cells < 2 ^ 32
-few_ranks Reach cells le = omega (arith, le)
-few_ranks Keep cells le = omega arith
-
-pub small_rules : (v : TableVersion) (p : Description) → IsWithinLimits p → AreSmall (rules_of v p)
-small_rules v p within = record {
-  cells = small_cells p within;
-  vectors = small_vectors p within;
-  most_rank = few_ranks p.goal (cells_of (axes_of p)) within.cells;
-}
+use Rattle.controller_table.specs.TextKinds.{most_rank_of, rules_of}
 
 -- ---- ranks
 

@@ -1,72 +1,59 @@
--- What the bytes of a table say, one reason why they are refused and none where they are a table, and no text is neither.
-use Rattle.std.proofs.Common.{◌≡◌, ℕ, ◌+◌, ◌^◌, ◌≤◌, List, ◌++◌, Option, refl, ap, ◌∙◌, arith}
-use Rattle.std.specs.List.{concat}
+-- A text has one reason to be refused as a table, none where it is one, and no text is neither.
+use Rattle.std.proofs.Common.{◌≡◌, ℕ, List, [], ◌∷◌, Option, refl, sym, ap, subst, ◌∙◌}
 use Rattle.base.specs.declared.limits.TheConstants.{TABLE_LIMIT}
 use Rattle.game_core.specs.declared.game.Row.{Row}
-use Rattle.grid_quantiser.specs.Axes.{cells_of}
-use Rattle.plant_record.specs.Description.{Description, axes_of}
-use Rattle.plant_record.specs.Limits.{IsWithinLimits}
-use Rattle.plant_writing.specs.CanonicalText.{text_of}
-use Rattle.row_runs.specs.declared.run.TableVersion.{TableVersion}
-use Rattle.row_reading.specs.RowsTexts.{IsRowsText}
-use Rattle.row_reading.proofs.Laws as row_laws
-use Rattle.row_reading.proofs.SomeRows.{no_bytes_are_neither}
-use Rattle.controller_table.specs.TableText.{version_line, lines_after}
-use Rattle.controller_table.specs.Tables.{RowsFit, IsTableIn}
-use Rattle.controller_table.specs.RowLines.{rules_of, IsFirstRefusedAfter}
-use Rattle.controller_table.specs.HeadedTexts.{HasNoFirstLine}
+use Rattle.plant_record.specs.Description.{Description}
+use Rattle.controller_table.specs.declared.table_fault.TableFault.{TableFault}
+use Rattle.controller_table.specs.declared.table_fault.TableFault.TheVariants as tables
+use Rattle.controller_table.specs.declared.text_fault.TextFault.{TextFault}
+use Rattle.controller_table.specs.declared.text_fault.TextFault.TheVariants as faults
+use Rattle.controller_table.specs.declared.text_kind.TextKind.{TextKind}
+use Rattle.controller_table.specs.declared.text_kind.TextKind.TheVariants.{Table}
+use Rattle.controller_table.specs.TextKinds.{turn_rules, HasFewTurnsFor}
+use Rattle.controller_table.specs.KindTexts.{IsTextOf}
+use Rattle.controller_table.specs.HeadedTexts.{IsTextRefusedFor, text_fault}
 use Rattle.controller_table.specs.Laws.{OneTableRefusal, TableOrRefused, NoTextIsNeither}
-use Rattle.controller_table.specs.inside.TableReading.{BeginsWith}
-use Rattle.controller_table.proofs.Fitting.{small_rules, rows_within, rows_fit}
-use Rattle.controller_table.proofs.OneTable.{one_version}
-use Rattle.controller_table.proofs.ShortTables.{tables_are_short}
 use Rattle.controller_table.proofs.HeadedLaws as headed
+use Rattle.controller_table.proofs.OneTable.{same_version}
+use Rattle.controller_table.proofs.ShortTexts.{texts_are_short}
+use Rattle.controller_table.proofs.TableTexts.{only_turn, as_text, as_table}
 
--- ---- what is read
+-- ---- texts without a limit on their turns
 
-pub no_version : (bytes : List ℕ) → ((v : TableVersion) → BeginsWith bytes v → ⊥) → HasNoFirstLine version_line bytes
-no_version bytes none v rest are = none v (rest, are)
+fault_of : TextFault → TableFault
+fault_of (faults.Malformed line) = tables.Malformed line
+fault_of (faults.Limit what) = tables.Limit what
+fault_of faults.Turns = tables.Memory
+fault_of faults.Memory = tables.Memory
 
-pub table_told : (v : TableVersion) (bytes rest : List ℕ) (p : Description) (rows : List (Option Row)) → IsWithinLimits p → bytes ≡ version_line v ++ text_of p ++ rest → IsRowsText (rules_of v p) rest rows → IsTableIn v bytes p rows
-table_told v bytes rest p rows within are told = (
-  record {
-    limits = within;
-    fitting = rows_fit v p rows told.within;
-    version = v;
-    text = are ∙ ap (λ (x : List ℕ). version_line v ++ text_of p ++ x) told.text;
-  },
-  refl,
-)
+back : (f : TableFault) → fault_of (text_fault f) ≡ f
+unfolding fault_of
+back (tables.Malformed line) = refl
+back (tables.Limit what) = refl
+back tables.Memory = refl
 
--- the number of a refused line is small
-pub line_bound : (v : TableVersion) (p : Description) (bytes : List ℕ) (n : ℕ) → IsWithinLimits p → IsFirstRefusedAfter v p bytes n → n ≤ 2 ^ 20 + 3
-line_bound v p bytes n within r =
-    let bound : n ≤ cells_of (axes_of p) + 3 = row_laws.line_bound (rules_of v p) (small_rules v p within) bytes n r in
-    omega (arith, within.cells, bound)
+pub same_fault : (f g : TableFault) → text_fault f ≡ text_fault g → f ≡ g
+same_fault f g e = sym (back f) ∙ ap fault_of e ∙ back g
 
--- ---- one reason
+-- where no reason of these refuses, none does
+pub none_refuses : {Name : Type 0} (kind_of : Name → TextKind) (most : ℕ) (bytes : List ℕ) → ((n : Name) (p : Description) → HasFewTurnsFor (kind_of n) p) → ((f : TableFault) → IsTextRefusedFor kind_of most bytes (text_fault f) → ⊥)
+    → (f : TextFault) → IsTextRefusedFor kind_of most bytes f → ⊥
+none_refuses kind_of most bytes few none (faults.Malformed n) h = none (tables.Malformed n) h
+none_refuses kind_of most bytes few none (faults.Limit what) h = none (tables.Limit what) h
+none_refuses kind_of most bytes few none faults.Turns h = h.1.many (few h.1.name h.1.plant)
+none_refuses kind_of most bytes few none faults.Memory h = h
 
-tables_are_headed : headed.AreHeaded version_line IsFirstRefusedAfter
-tables_are_headed = record {
-  one_kind = one_version;
-  one_line = λ v p bytes m n within r s. row_laws.one_row_refused (rules_of v p) (small_rules v p within) bytes m n r s;
-}
-
-whole_not_refused : (v : TableVersion) (p : Description) (rows : List (Option Row)) (n : ℕ) → IsWithinLimits p → RowsFit p rows → IsFirstRefusedAfter v p (concat (lines_after v p.goal rows)) n → ⊥
-whole_not_refused v p rows n within fit r =
-    row_laws.rows_or_refused (rules_of v p) (small_rules v p within) (concat (lines_after v p.goal rows)) rows n (record { within = rows_within v p rows fit; text = refl }) r
+-- ---- tables
 
 pub one_refusal : OneTableRefusal
-one_refusal bytes f g h k = headed.one_refusal version_line IsFirstRefusedAfter tables_are_headed TABLE_LIMIT bytes f g h k
+one_refusal bytes f g h k = same_fault f g (headed.one_refusal Table same_version TABLE_LIMIT bytes (text_fault f) (text_fault g) h k)
 
 pub table_or_refused : TableOrRefused
 table_or_refused bytes p rows f t refused =
-    headed.told_or_refused version_line IsFirstRefusedAfter tables_are_headed bytes t.version p (concat (lines_after t.version p.goal rows)) t.limits t.text (λ n r. whole_not_refused t.version p rows n t.limits t.fitting r)
-    TABLE_LIMIT f (tables_are_short bytes p rows t) refused
-
--- ---- no text is neither
+    headed.text_or_refused Table same_version TABLE_LIMIT bytes t.version p (rows ∷ []) (text_fault f) (as_text bytes p rows t) tt (texts_are_short (Table t.version) bytes p (rows ∷ []) (as_text bytes p rows t) tt) refused
 
 pub no_text_is_neither : NoTextIsNeither
 no_text_is_neither bytes no_table no_refusal =
-    headed.some_end version_line IsFirstRefusedAfter TABLE_LIMIT bytes no_refusal (λ v p rest short limits are no_row.
-    no_bytes_are_neither (rules_of v p) (small_rules v p limits) rest (λ rows told. no_table p rows (table_told v bytes rest p rows limits are told).0) no_row)
+    headed.no_text_is_neither Table TABLE_LIMIT bytes (none_refuses Table TABLE_LIMIT bytes (λ v p. tt) no_refusal) (λ v p turns t few.
+    let only = only_turn (turn_rules (Table v) p) turns refl t.within in
+    no_table p only.0 (as_table v bytes p only.0 (subst (λ (x : List (List (Option Row))). IsTextOf (Table v) bytes p x) only.1 t)).0)

@@ -1,52 +1,31 @@
 -- Bytes are the table of one plant and of one list of rows.
-use Rattle.std.proofs.Common.{◌≡◌, ℕ, List, ◌++◌, drop, get_or, Option, refl, sym, ap, subst, ◌∙◌, append_assoc, arith}
+use Rattle.std.proofs.Common.{◌≡◌, ℕ, List, [], ◌∷◌, Option, sym, ap, ◌∙◌}
 use Rattle.std.specs.Prelude.{ℤ}
-use Rattle.std.specs.List.{concat}
 use Rattle.game_core.specs.declared.game.Row.{Row}
 use Rattle.game_core.specs.Solution.{row_of}
 use Rattle.grid_quantiser.specs.Cells.{cell_of}
 use Rattle.plant_record.specs.declared.aims.GoalKind.{GoalKind}
 use Rattle.plant_record.specs.declared.aims.GoalKind.TheVariants.{Reach, Keep}
 use Rattle.plant_record.specs.Description.{Description, axes_of}
-use Rattle.plant_record.specs.Limits.{IsWithinLimits}
-use Rattle.plant_writing.specs.CanonicalText.{text_of}
-use Rattle.plant_text.proofs.lemmas.CanonicalFronts as fronts
+use Rattle.base.proofs.Lists.{same_head}
 use Rattle.row_runs.specs.declared.run.TableVersion.{TableVersion}
-use Rattle.row_runs.specs.declared.run.TableVersion.TheVariants.{First, Second}
-use Rattle.row_reading.proofs.Laws.{one_rows}
-use Rattle.controller_table.specs.TableText.{version_line, lines_after}
-use Rattle.controller_table.specs.Tables.{RowsFit, IsTable}
+use Rattle.controller_table.specs.declared.text_kind.TextKind.TheVariants.{Table}
+use Rattle.controller_table.specs.Tables.{IsTable}
 use Rattle.controller_table.specs.Choice.{HasRowAt, Applies, Chooses}
-use Rattle.controller_table.specs.RowLines.{rules_of}
 use Rattle.controller_table.specs.Laws.{OneTablePerText, OneChoice, OneRank}
-use Rattle.controller_table.proofs.Fitting.{small_rules, rows_within}
+use Rattle.controller_table.proofs.HeadedLaws.{one_text}
+use Rattle.controller_table.proofs.TableTexts.{as_text}
 use Rattle.std.proofs.lemmas.Option.{same_Some}
 
--- ---- the first line
+-- ---- one table
 
-pub one_version : (v w : TableVersion) (s t : List ℕ) → version_line v ++ s ≡ version_line w ++ t → (v ≡ w) × (s ≡ t)
-one_version First First s t e = (refl, ap (drop 8) e)
-one_version First Second s t e = absurd (let other : 49 ≡ 50 = ap (λ (x : List ℕ). get_or x 6 0) e in omega (arith, other))
-one_version Second First s t e = absurd (let other : 50 ≡ 49 = ap (λ (x : List ℕ). get_or x 6 0) e in omega (arith, other))
-one_version Second Second s t e = (refl, ap (drop 8) e)
-
--- ---- the rows after the plant
-
-after_told : (v : TableVersion) (p : Description) (rows others : List (Option Row)) → IsWithinLimits p → RowsFit p rows → RowsFit p others → concat (lines_after v p.goal rows) ≡ concat (lines_after v p.goal others) → rows ≡ others
-after_told v p rows others within h k e =
-    one_rows (rules_of v p) (small_rules v p within) (concat (lines_after v p.goal rows)) rows others (record { within = rows_within v p rows h; text = refl }) (record { within = rows_within v p others k; text = e })
+pub same_version : (v w : TableVersion) → Table v ≡ Table w → v ≡ w
+same_version v w e = cc
 
 pub one_table : OneTablePerText
 one_table bytes p q rows others h k =
-    let whole : version_line h.version ++ (text_of p ++ concat (lines_after h.version p.goal rows)) ≡ version_line k.version ++ (text_of q ++ concat (lines_after k.version q.goal others)) =
-    sym (append_assoc (version_line h.version) (text_of p) (concat (lines_after h.version p.goal rows))) ∙ sym h.text ∙ k.text ∙ append_assoc (version_line k.version) (text_of q) (concat (lines_after k.version q.goal others)) in
-    let version = one_version h.version k.version (text_of p ++ concat (lines_after h.version p.goal rows)) (text_of q ++ concat (lines_after k.version q.goal others)) whole in
-    let plant = fronts.one_plant_at_the_front p q (concat (lines_after h.version p.goal rows)) (concat (lines_after k.version q.goal others)) h.limits.plant k.limits.plant version.1 in
-    let moved : concat (lines_after h.version p.goal rows) ≡ concat (lines_after h.version p.goal others) =
-    plant.1
-    ∙ ap (λ (v : TableVersion). concat (lines_after v q.goal others)) (sym version.0)
-    ∙ ap (λ (d : Description). concat (lines_after h.version d.goal others)) (sym plant.0) in
-    (plant.0, after_told h.version p rows others h.limits h.fitting (subst (λ (d : Description). RowsFit d others) (sym plant.0) k.fitting) moved, version.0)
+    let same = one_text (Table h.version) (Table k.version) bytes p q (rows ∷ []) (others ∷ []) (as_text bytes p rows h) (as_text bytes q others k) in
+    (same.1, same_head rows others [] [] same.2, same_version h.version k.version same.0)
 
 -- ---- one row at a state
 

@@ -1,7 +1,8 @@
 pub mod TableText
 pub mod Tables
 pub mod Choice
-pub mod RowLines
+pub mod TextKinds
+pub mod KindTexts
 pub mod HeadedTexts
 pub mod TableRefusals
 pub mod Laws

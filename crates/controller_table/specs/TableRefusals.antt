@@ -1,9 +1,8 @@
 -- Which texts are refused as tables, and why: the first reason that applies.
 use Rattle.std.specs.Prelude.{ℕ, ◌≤◌, List, length}
 use Rattle.controller_table.specs.declared.table_fault.TableFault.{TableFault}
-use Rattle.controller_table.specs.TableText.{version_line}
-use Rattle.controller_table.specs.RowLines.{IsFirstRefusedAfter}
-use Rattle.controller_table.specs.HeadedTexts.{IsTextRefusedFor}
+use Rattle.controller_table.specs.declared.text_kind.TextKind.TheVariants.{Table}
+use Rattle.controller_table.specs.HeadedTexts.{IsTextRefusedFor, text_fault}
 use Rattle.base.specs.declared.limits.TheConstants.{TABLE_LIMIT}
 
 -- the text has at most 67,108,864 bytes
@@ -12,4 +11,4 @@ IsShortTable bytes = length bytes ≤ TABLE_LIMIT
 
 -- why a text is refused as a table: of both versions' first lines, by the rules of the rows of its plant
 abbrev pub IsTableRefusedFor : List ℕ → TableFault → Type 0
-IsTableRefusedFor bytes fault = IsTextRefusedFor version_line IsFirstRefusedAfter TABLE_LIMIT bytes fault
+IsTableRefusedFor bytes fault = IsTextRefusedFor Table TABLE_LIMIT bytes (text_fault fault)

@@ -1,5 +1,5 @@
 -- The text of a table, by its version: the plant's text, and lines for the runs of its rows.
-use Rattle.std.specs.Prelude.{ℕ, List, [], ◌∷◌, ◌++◌, Option, codes}
+use Rattle.std.specs.Prelude.{ℕ, List, [], ◌∷◌, ◌++◌, length, Option, codes}
 use Rattle.std.specs.List.{concat}
 use Rattle.game_core.specs.declared.game.Row.{Row}
 use Rattle.row_runs.specs.declared.row_format.RowFormat.{RowFormat}
@@ -7,7 +7,8 @@ use Rattle.row_runs.specs.declared.row_format.RowFormat.TheVariants.{InputAboveZ
 use Rattle.row_runs.specs.declared.run.TableVersion.{TableVersion}
 use Rattle.row_runs.specs.declared.run.TableVersion.TheVariants.{First, Second}
 use Rattle.base.specs.Lines.{line}
-use Rattle.row_reading.specs.RowsTexts.{counted_lines}
+use Rattle.row_runs.specs.RunText.{count_line, end_line}
+use Rattle.row_reading.specs.RowsTexts.{row_lines}
 use Rattle.plant_record.specs.declared.aims.GoalKind.{GoalKind}
 use Rattle.plant_record.specs.declared.aims.GoalKind.TheVariants.{Reach, Keep}
 use Rattle.plant_record.specs.Description.{Description}
@@ -34,7 +35,8 @@ version_line Second = line (codes "table" ∷ codes "2" ∷ [])
 
 -- the lines after the plant's text
 abbrev pub lines_after : TableVersion → GoalKind → List (Option Row) → List (List ℕ)
-lines_after version goal rows = counted_lines version (format_of goal) rows
+lines_after version goal rows =
+    count_line (length (row_lines version (format_of goal) rows)) ∷ row_lines version (format_of goal) rows ++ end_line ∷ []
 
 -- the text of a table, one optional row for each cell
 abbrev pub table_text : TableVersion → Description → List (Option Row) → List ℕ

@@ -1,2 +1,1 @@
-pub mod TableReading
-pub mod ReadPlant
+pub mod TextReading

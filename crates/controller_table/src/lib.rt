@@ -7,19 +7,25 @@
 
 mod goal_format;
 mod header;
-mod heading;
 pub mod laws;
+mod rows_text;
 mod table;
 mod table_copy;
 mod table_fault;
 mod table_reader;
 mod table_writer;
+mod text_fault;
+mod text_kind;
+mod text_reader;
 
 pub use base::NoMemory;
-pub use goal_format::{format_of, rules_of};
+pub use goal_format::format_of;
 pub use header::header_of;
-pub use heading::{Heading, take_heading};
+pub use rows_text::RowsText;
 pub use table::Table;
 pub use table_fault::TableFault;
 pub use table_reader::read_table;
 pub use table_writer::TableWriter;
+pub use text_fault::TextFault;
+pub use text_kind::{PATROL_LIMIT, TextKind, take_kind};
+pub use text_reader::read_after;

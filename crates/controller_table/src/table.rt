@@ -1,4 +1,4 @@
-ghost use Rattle.std.specs.Prelude.{◌≡◌, ◌<◌, ℕ, count_by, IfSome, IfOk};
+ghost use Rattle.std.specs.Prelude.{◌≡◌, ◌<◌, ℕ, [], ◌∷◌, count_by, IfSome, IfOk};
 ghost use Rattle.std.specs.Option.{IfNone, is_some};
 ghost use Rattle.grid_quantiser.specs.Axes.{cells_of};
 ghost use Rattle.game_core.specs.Solution.{row_of};
@@ -8,7 +8,9 @@ ghost use Rattle.controller_table.specs.TableText.{version_number};
 ghost use Rattle.controller_table.specs.Tables.{RowsFit};
 ghost use Rattle.controller_table.specs.Choice.{Chooses};
 
+use crate::rows_text::RowsText;
 use crate::table_copy::{copy_answer, copy_plant};
+use crate::text_kind::TextKind;
 use base::NoMemory;
 use game_core::{Answer, Row};
 use grid_quantiser::Point;
@@ -45,11 +47,14 @@ impl Model for Table {
 }
 
 impl Table {
-    pub(crate) fn new(version: TableVersion, plant: Plant, answer: Answer) -> Table
-        requires limits { IsWithinLimits plant }
-        requires fit { RowsFit plant answer }
-        ensures { result ≡ record { version = version; plant = plant; rows = answer } }
+    /// What the text of a table says.
+    pub(crate) fn of(version: TableVersion, text: RowsText) -> Table
+        requires { text.kind ≡ TextKind.Table version }
+        ensures table { (result.version ≡ version) × (result.plant ≡ text.plant) }
+        ensures rows { text.turns ≡ result.rows ∷ [] }
     {
+        let (_, plant, turns) = text.into_parts();
+        let answer = turns.into_only();
         let rows = answer.row_count();
         Table {
             version,

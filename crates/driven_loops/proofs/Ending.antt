@@ -22,8 +22,8 @@ use Rattle.plant_refine.proofs.Choosing.{one_row}
 use Rattle.plant_refine.proofs.Down.{guides}
 use Rattle.text_control.specs.declared.reply.Reply.{Reply}
 use Rattle.text_control.specs.declared.reply.Reply.TheVariants.{Apply, Arrived, NoRow, WrongSizes}
-use Rattle.text_control.specs.declared.text_kind.TextKind.{TextKind}
-use Rattle.text_control.specs.declared.text_kind.TextKind.TheVariants.{Table}
+use Rattle.controller_table.specs.declared.text_kind.TextKind.{TextKind}
+use Rattle.controller_table.specs.declared.text_kind.TextKind.TheVariants.{Table}
 use Rattle.text_control.specs.Texts.{TextModel, due_rows}
 use Rattle.text_control.specs.Control.{AreSized, AppliesAs, IsReply, IsRank, reply_number}
 use Rattle.text_control.specs.Loops.{Answers, AlwaysAnswers}

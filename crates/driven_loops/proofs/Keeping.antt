@@ -19,7 +19,7 @@ use Rattle.plant_record.proofs.lemmas.SoundPlants.{sound}
 use Rattle.successor_box.specs.SuccessorBoxes.{IsEnabledAt}
 use Rattle.plant_game.proofs.GameLaws.{refines, clear_at}
 use Rattle.controller_table.specs.Choice.{Applies, HasRowAt}
-use Rattle.text_control.specs.declared.text_kind.TextKind.{TextKind}
+use Rattle.controller_table.specs.declared.text_kind.TextKind.{TextKind}
 use Rattle.text_control.specs.Texts.{TextModel, due_rows}
 use Rattle.text_control.specs.Control.{AppliesAs, IsRank}
 use Rattle.text_control.specs.Loops.{AlwaysAnswers}

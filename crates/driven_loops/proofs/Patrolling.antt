@@ -27,8 +27,8 @@ use Rattle.turn_rows.specs.Targets.{IsInTarget, next_turn}
 use Rattle.temporal_texts.specs.PatrolText.{IsPatrolText}
 use Rattle.turn_rows.specs.Rows.{rows_for}
 use Rattle.temporal_texts.proofs.OnePatrolText.{one_patrol_text}
-use Rattle.text_control.specs.declared.text_kind.TextKind.{TextKind}
-use Rattle.text_control.specs.declared.text_kind.TextKind.TheVariants.{Patrol}
+use Rattle.controller_table.specs.declared.text_kind.TextKind.{TextKind}
+use Rattle.controller_table.specs.declared.text_kind.TextKind.TheVariants.{Patrol}
 use Rattle.text_control.specs.declared.visits.Visit.{Visit}
 use Rattle.text_control.specs.declared.visits.Visit.TheVariants.{Next, Same, WrongSize}
 use Rattle.text_control.specs.Texts.{TextModel, TellsAs, IsReadFrom}

@@ -23,8 +23,8 @@ use Rattle.temporal_games.specs.Held.{IsHeld}
 use Rattle.temporal_games.specs.Stay.{IsStayedBy, IsStayRow, IsStaySolution}
 use Rattle.temporal_texts.proofs.OneStayText.{one_stay_text}
 use Rattle.temporal_promises.proofs.Settling.{clear_of, goal_of}
-use Rattle.text_control.specs.declared.text_kind.TextKind.{TextKind}
-use Rattle.text_control.specs.declared.text_kind.TextKind.TheVariants.{Stay}
+use Rattle.controller_table.specs.declared.text_kind.TextKind.{TextKind}
+use Rattle.controller_table.specs.declared.text_kind.TextKind.TheVariants.{Stay}
 use Rattle.text_control.specs.Texts.{TextModel, due_rows, TellsAs, IsReadFrom}
 use Rattle.text_control.specs.Control.{AppliesAs, IsRank}
 use Rattle.text_control.specs.Loops.{AlwaysAnswers}

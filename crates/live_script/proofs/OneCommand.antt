@@ -11,7 +11,7 @@ use Rattle.row_runs.specs.declared.run.TableVersion.{TableVersion}
 use Rattle.row_runs.specs.declared.run.TableVersion.TheVariants.{First, Second}
 use Rattle.controller_table.specs.TableText.{table_text}
 use Rattle.controller_table.proofs.OneTable as tables
-use Rattle.controller_table.proofs.ShortTables as short
+use Rattle.controller_table.proofs.ShortTexts as short
 use Rattle.live_script.specs.declared.command.ScriptCommand.{ScriptCommand}
 use Rattle.live_script.specs.declared.command.ScriptCommand.TheVariants.{Publish, Ask}
 use Rattle.command_line.specs.Command.{AreStateNumbers}

@@ -6,7 +6,7 @@ ghost use Rattle.std.specs.List.{All, AllPairs};
 ghost use Rattle.fixed_expr.specs.Expression.{Expression, expression_of};
 ghost use Rattle.plant_record.specs.Names.{IsName};
 ghost use Rattle.plant_record.specs.Parts.{variable_names};
-ghost use Rattle.plant_reading.specs.inside.ExpressionReading.{Gives, Inside, Signed, RestOfSum, RestOfTerm, after_open, after_close, after_comma, bracketed, pair_of, factor_of, after_term, term_of, after_sum, sum_of, whole, GivesExpression, GivesPair, reader_in, read_in};
+ghost use Rattle.plant_reading.specs.inside.ExpressionReading.{Gives, Inside, Signed, RestOfSum, RestOfTerm, after_open, after_close, after_comma, bracketed, pair_of, number_at, negative, minimum, maximum, absolute, looked_up, factor_of, after_term, term_of, after_sum, sum_of, whole, GivesExpression, GivesPair, reader_in, read_in};
 ghost use Rattle.base.specs.declared.limits.TheConstants.{VARIABLES_LIMIT};
 ghost use Rattle.plant_reading.specs.StatementsRead.{SpellsOver};
 
@@ -196,7 +196,7 @@ fn rest_of_term(
 
 /// A factor at the front.
 #[cycle(descent)]
-#[tactic(auto, unfolding(crate::specs::inside::ExpressionReading::factor_of, crate::specs::inside::ExpressionReading::literal_at))]
+#[tactic(auto, unfolding(crate::specs::inside::ExpressionReading::factor_of))]
 fn take_factor(
     alloc: Global,
     budget: Budget,
@@ -205,38 +205,97 @@ fn take_factor(
     ensures { GivesExpression result (read_in budget factor_of tokens.now) }
 {
     match tokens {
-        [TokenKind::Number(_), ..] => {
-            let (k, rest) = take_literal(tokens)?;
-            Ok((Operand::num(alloc, k)?, rest))
-        }
+        [TokenKind::Number(_), ..] => take_number(alloc, tokens),
         [TokenKind::Variable(i), rest @ ..] if *i < budget.variables => Ok((
             Operand::var(alloc, *i)?,
             rest,
         )),
-        [TokenKind::Minus, rest @ ..] => {
-            let (factor, rest) = signed(alloc, budget, rest)?;
-            Ok((factor.neg(alloc)?, rest))
-        }
+        [TokenKind::Minus, rest @ ..] => negative(alloc, budget, rest),
         [TokenKind::Open, rest @ ..] => bracketed(alloc, budget, rest),
-        [TokenKind::Min, rest @ ..] => {
-            let (a, b, rest) = take_pair(alloc, budget, rest)?;
-            Ok((a.min(alloc, b)?, rest))
-        }
-        [TokenKind::Max, rest @ ..] => {
-            let (a, b, rest) = take_pair(alloc, budget, rest)?;
-            Ok((a.max(alloc, b)?, rest))
-        }
-        [TokenKind::Abs, rest @ ..] => {
-            let (sum, rest) = bracketed(alloc, budget, after_open(rest)?)?;
-            Ok((sum.abs(alloc)?, rest))
-        }
-        [TokenKind::Lut, rest @ ..] => {
-            let (sum, rest) = inside(alloc, budget, after_open(rest)?)?;
-            let (curve, rest) = take_curve(alloc, rest)?;
-            Ok((sum.lut(alloc, curve)?, rest))
-        }
+        [TokenKind::Min, rest @ ..] => minimum(alloc, budget, rest),
+        [TokenKind::Max, rest @ ..] => maximum(alloc, budget, rest),
+        [TokenKind::Abs, rest @ ..] => absolute(alloc, budget, rest),
+        [TokenKind::Lut, rest @ ..] => looked_up(alloc, budget, rest),
         _ => Err(LineFault::Malformed),
     }
+}
+
+/// A number at the front.
+#[tactic(auto, unfolding(crate::specs::inside::ExpressionReading::literal_at))]
+fn take_number(
+    alloc: Global,
+    tokens: &[TokenKind],
+) -> Result<(Operand, &[TokenKind]), LineFault>
+    ensures { GivesExpression result (number_at tokens.now) }
+{
+    let (k, rest) = take_literal(tokens)?;
+    Ok((Operand::num(alloc, k)?, rest))
+}
+
+/// The negative of a factor after a minus.
+#[cycle(descent)]
+fn negative(
+    alloc: Global,
+    budget: Budget,
+    tokens: &[TokenKind],
+) -> Result<(Operand, &[TokenKind]), LineFault>
+    ensures { GivesExpression result (negative (reader_in budget) budget.brackets tokens.now) }
+{
+    let (factor, rest) = signed(alloc, budget, tokens)?;
+    Ok((factor.neg(alloc)?, rest))
+}
+
+/// The lesser of two sums in brackets.
+#[cycle(descent)]
+fn minimum(
+    alloc: Global,
+    budget: Budget,
+    tokens: &[TokenKind],
+) -> Result<(Operand, &[TokenKind]), LineFault>
+    ensures { GivesExpression result (minimum (reader_in budget) budget.brackets tokens.now) }
+{
+    let (a, b, rest) = take_pair(alloc, budget, tokens)?;
+    Ok((a.min(alloc, b)?, rest))
+}
+
+/// The greater of two sums in brackets.
+#[cycle(descent)]
+fn maximum(
+    alloc: Global,
+    budget: Budget,
+    tokens: &[TokenKind],
+) -> Result<(Operand, &[TokenKind]), LineFault>
+    ensures { GivesExpression result (maximum (reader_in budget) budget.brackets tokens.now) }
+{
+    let (a, b, rest) = take_pair(alloc, budget, tokens)?;
+    Ok((a.max(alloc, b)?, rest))
+}
+
+/// The absolute value of a sum in brackets.
+#[cycle(descent)]
+fn absolute(
+    alloc: Global,
+    budget: Budget,
+    tokens: &[TokenKind],
+) -> Result<(Operand, &[TokenKind]), LineFault>
+    ensures { GivesExpression result (absolute (reader_in budget) budget.brackets tokens.now) }
+{
+    let (sum, rest) = bracketed(alloc, budget, after_open(tokens)?)?;
+    Ok((sum.abs(alloc)?, rest))
+}
+
+/// A sum in brackets looked up in the points after it.
+#[cycle(descent)]
+fn looked_up(
+    alloc: Global,
+    budget: Budget,
+    tokens: &[TokenKind],
+) -> Result<(Operand, &[TokenKind]), LineFault>
+    ensures { GivesExpression result (looked_up (reader_in budget) budget.brackets tokens.now) }
+{
+    let (sum, rest) = inside(alloc, budget, after_open(tokens)?)?;
+    let (curve, rest) = take_curve(alloc, rest)?;
+    Ok((sum.lut(alloc, curve)?, rest))
 }
 
 /// A factor after a sign, by a nested call.

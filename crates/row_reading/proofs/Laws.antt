@@ -1,43 +1,34 @@
--- Bytes give one list of rows or have one first refused line, never both and never neither.
-use Rattle.std.proofs.Common.{◌≡◌, ℕ, ◌+◌, ◌≤◌, List, [], ◌∷◌, ◌++◌, length, map, Option, refl, sym, ap, ◌∙◌, arith}
+-- Bytes give one list of rows for each turn or have one first refused line, never both and never neither.
+use Rattle.std.proofs.Common.{◌≡◌, ℕ, suc, ◌^◌, ◌<◌, List, [], ◌∷◌, ◌++◌, length, map, Option, None, refl, sym, ap, ◌∙◌, arith}
 use Rattle.std.specs.List.{AllByRecursion}
 use Rattle.std.proofs.lemmas.List.Elements.{recursion_from_All}
 use Rattle.base.proofs.Lists.{same_head, same_tail}
 use Rattle.game_core.specs.declared.game.Row.{Row}
 use Rattle.row_runs.specs.declared.run.Run.{Run}
 use Rattle.row_runs.specs.Runs.{AreRuns, runs_from}
-use Rattle.row_runs.specs.RunText.{run_line, count_line, end_line}
+use Rattle.row_runs.specs.RunText.{run_line, end_line}
 use Rattle.row_runs.proofs.RunLaws.{differ}
 use Rattle.row_runs.proofs.Lines.{same_front}
 use Rattle.read_texts.specs.Steps.{IsStuck}
 use Rattle.read_texts.proofs.Laws as texts
 use Rattle.row_reading.specs.declared.row_rules.RowRules.{RowRules}
-use Rattle.row_reading.specs.RowsTexts.{IsRunWithin, AreRowsWithin, row_lines, counted_lines, IsRowsText}
-use Rattle.row_reading.specs.RowSteps.{RowState, Begin, Done, RowStep, IsOver, IsRowRefused}
-use Rattle.row_reading.specs.inside.RunReading.{IsSpelled, AreSmall}
+use Rattle.row_reading.specs.declared.row_rules.TurnRules.{TurnRules}
+use Rattle.row_reading.specs.RowsTexts.{head_line, IsRunWithin, AreRowsWithin, row_lines, lines_from, turn_lines, AreTurnsText}
+use Rattle.row_reading.specs.TurnSteps.{AfterTurns, AfterAll, TurnStep, AreOver, AreTurnsRefusedAt}
+use Rattle.row_reading.specs.inside.RunReading.{IsSpelled, AreSmall, AreSmallTurns}
 use Rattle.row_reading.specs.inside.ReadRows.{AreRunsWithin}
 use Rattle.row_reading.proofs.RunWords.{run_same}
-use Rattle.row_reading.proofs.RowGrammar.{spelled_run, rows_are_grammar, few_lines}
-use Rattle.row_reading.proofs.RowsRead.{runs_within, text_read}
+use Rattle.row_reading.proofs.RowGrammar.{spelled_run}
+use Rattle.row_reading.proofs.RowsRead.{runs_within, few_lines as few_rows}
+use Rattle.row_reading.proofs.TurnGrammar.{Met, turns_are_grammar}
+use Rattle.row_reading.proofs.TurnHeads.{head_same}
+use Rattle.row_reading.proofs.TurnsRead.{own, told_read, each_within}
+
+-- ---- one list of rows
 
 module _ (rules : RowRules) (small : AreSmall rules) where
-  abbrev Met : RowState → Type 0
-  Met q = Unit {0}
-
   abbrev line_of : Run → List ℕ
   line_of r = run_line rules.version rules.format r
-
-  pub one_row_refused : (bytes : List ℕ) (m n : ℕ) → IsRowRefused rules bytes m → IsRowRefused rules bytes n → m ≡ n
-  one_row_refused bytes m n r s = texts.one_refusal (RowStep rules) IsOver Met (rows_are_grammar rules small) Begin bytes m n tt r s
-
-  pub rows_or_refused : (bytes : List ℕ) (rows : List (Option Row)) (n : ℕ) → IsRowsText rules bytes rows → IsRowRefused rules bytes n → ⊥
-  rows_or_refused bytes rows n told r =
-      texts.read_or_refused (RowStep rules) IsOver Met (rows_are_grammar rules small) Begin bytes Done [] n tt (record { pieces = counted_lines rules.version rules.format rows; read = text_read rules rows told.within bytes told.text; closed = refl }) r
-
-  pub line_bound : (bytes : List ℕ) (n : ℕ) → IsRowRefused rules bytes n → n ≤ rules.cells + 3
-  line_bound bytes n r = omega (arith, r.next, few_lines rules Begin r.pieces r.to (r.read).leads)
-
-  -- ---- one list of rows
 
   same_runs : (rs ss : List Run) → AllByRecursion (IsSpelled rules.version rules.format) rs → AllByRecursion (IsSpelled rules.version rules.format) ss → map line_of rs ≡ map line_of ss → rs ≡ ss
   same_runs [] [] h k e = refl
@@ -60,11 +51,49 @@ module _ (rules : RowRules) (small : AreSmall rules) where
       differ rules.version rows others (h.one_each ∙ sym k.one_each)
       (same_runs (runs_from rules.version 0 rows) (runs_from rules.version 0 others) (all_spelled (runs_from rules.version 0 rows) (runs_within rules rows h)) (all_spelled (runs_from rules.version 0 others) (runs_within rules others k)) e)
 
-  pub one_rows : (bytes : List ℕ) (rows others : List (Option Row)) → IsRowsText rules bytes rows → IsRowsText rules bytes others → rows ≡ others
-  one_rows bytes rows others h k =
-      let lines : List (Option Row) → List (List ℕ) = row_lines rules.version rules.format in
-      let even = texts.one_end (RowStep rules) IsOver Met (rows_are_grammar rules small) Begin bytes (counted_lines rules.version rules.format rows) (counted_lines rules.version rules.format others) Done Done [] [] tt (text_read rules rows h.within bytes h.text) (text_read rules others k.within bytes k.text) stops stops in
-      lines_tell rows others h.within k.within (same_front (lines rows) (lines others) end_line (same_tail (count_line (length (lines rows))) (count_line (length (lines others))) (lines rows ++ end_line ∷ []) (lines others ++ end_line ∷ []) even.pieces))
+-- as many lines at the front of the same
+split : (xs ys s t : List (List ℕ)) → length xs ≡ length ys → xs ++ s ≡ ys ++ t → (xs ≡ ys) × (s ≡ t)
+split [] [] s t n e = (refl, e)
+split [] (y ∷ ys) s t n e = absurd (omega (arith, n))
+split (x ∷ xs) [] s t n e = absurd (omega (arith, n))
+split (x ∷ xs) (y ∷ ys) s t n e =
+    let rest = split xs ys s t (omega (arith, n)) (same_tail x y (xs ++ s) (ys ++ t) e) in
+    (ap (λ (z : List ℕ). z ∷ xs) (same_head x y (xs ++ s) (ys ++ t) e) ∙ ap (λ (z : List (List ℕ)). y ∷ z) rest.0, rest.1)
+
+module _ (rules : TurnRules) (small : AreSmallTurns rules) where
+  few : (r : List (Option Row)) → AreRowsWithin rules.rows r → length (own rules r) < 2 ^ 64
+  few r within = let le = few_rows rules.rows r within in let cells = small.rows.cells in omega (arith, le, cells)
+
+  -- the lines of turns give their rows
+  turns_tell : (j : ℕ) (turns others : List (List (Option Row))) → AllByRecursion (AreRowsWithin rules.rows) turns → AllByRecursion (AreRowsWithin rules.rows) others → length turns ≡ length others
+      → lines_from rules j turns ≡ lines_from rules j others → turns ≡ others
+  turns_tell j [] [] h k n e = refl
+  turns_tell j [] (s ∷ others) h k n e = absurd (omega (arith, n))
+  turns_tell j (r ∷ turns) [] h k n e = absurd (omega (arith, n))
+  turns_tell j (r ∷ turns) (s ∷ others) h k n e =
+      let first : List (Option Row) → List ℕ = λ q. head_line rules.head j (length (own rules q)) in
+      let count = head_same rules.head j (length (own rules r)) (length (own rules s)) (few r h.0) (few s k.0)
+      (same_head (first r) (first s) (own rules r ++ lines_from rules (suc j) turns) (own rules s ++ lines_from rules (suc j) others) e) in
+      let both = split (own rules r) (own rules s) (lines_from rules (suc j) turns) (lines_from rules (suc j) others) count
+      (same_tail (first r) (first s) (own rules r ++ lines_from rules (suc j) turns) (own rules s ++ lines_from rules (suc j) others) e) in
+      ap (λ (x : List (Option Row)). x ∷ turns) (lines_tell rules.rows small.rows r s h.0 k.0 both.0)
+      ∙ ap (λ (x : List (List (Option Row))). s ∷ x) (turns_tell (suc j) turns others h.1 k.1 (omega (arith, n)) both.1)
+
+  pub one_turns : (bytes : List ℕ) (turns others : List (List (Option Row))) → AreTurnsText rules bytes turns → AreTurnsText rules bytes others → turns ≡ others
+  one_turns bytes turns others h k =
+      let even = texts.one_end (TurnStep rules) AreOver Met (turns_are_grammar rules small) (AfterTurns 0 0 None) bytes (turn_lines rules turns) (turn_lines rules others) AfterAll AfterAll [] [] tt
+      (told_read rules bytes turns h) (told_read rules bytes others k) stops stops in
+      turns_tell 0 turns others (each_within rules turns h.within) (each_within rules others k.within) (h.within.one_list_each ∙ sym k.within.one_list_each)
+      (same_front (lines_from rules 0 turns) (lines_from rules 0 others) end_line even.pieces)
     where
-      stops : IsStuck (RowStep rules) Done []
+      stops : IsStuck (TurnStep rules) AfterAll []
       stops piece after r cut step = step
+
+  -- ---- one line that is refused, and none where rows are given
+
+  pub one_turns_refused : (bytes : List ℕ) (m n : ℕ) → AreTurnsRefusedAt rules bytes m → AreTurnsRefusedAt rules bytes n → m ≡ n
+  one_turns_refused bytes m n r s = texts.one_refusal (TurnStep rules) AreOver Met (turns_are_grammar rules small) (AfterTurns 0 0 None) bytes m n tt r s
+
+  pub turns_or_refused : (bytes : List ℕ) (turns : List (List (Option Row))) (n : ℕ) → AreTurnsText rules bytes turns → AreTurnsRefusedAt rules bytes n → ⊥
+  turns_or_refused bytes turns n told r =
+      texts.read_or_refused (TurnStep rules) AreOver Met (turns_are_grammar rules small) (AfterTurns 0 0 None) bytes AfterAll [] n tt (record { pieces = turn_lines rules turns; read = told_read rules bytes turns told; closed = refl }) r

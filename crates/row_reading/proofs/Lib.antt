@@ -4,6 +4,9 @@ pub mod LinesRead
 pub mod MoreRuns
 pub mod RowGrammar
 pub mod RowsRead
-pub mod RefusedRows
-pub mod Laws
 pub mod SomeRows
+pub mod TurnHeads
+pub mod TurnGrammar
+pub mod TurnsRead
+pub mod SomeTurns
+pub mod Laws

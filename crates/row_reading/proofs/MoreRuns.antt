@@ -15,7 +15,7 @@ use Rattle.read_texts.specs.Steps.{IsRead}
 use Rattle.read_texts.proofs.Laws as ways
 use Rattle.row_reading.specs.declared.row_rules.RowRules.{RowRules}
 use Rattle.row_reading.specs.RowsTexts.{IsRunWithin}
-use Rattle.row_reading.specs.RowSteps.{Due, MayStandAfter, RunStep, IsRunRefused}
+use Rattle.row_reading.specs.TurnSteps.{Due, MayStandAfter, RunStep, IsRunRefused}
 use Rattle.row_reading.specs.inside.RunReading.{IsNextRunAt}
 use Rattle.row_reading.specs.inside.ReadRows.{last_run, AreRead}
 use Rattle.game_core.proofs.Gathering.{no_row}

@@ -1,7 +1,7 @@
 -- Rows that lines give, and the way along these lines.
-use Rattle.std.proofs.Common.{inl, inr, ◌≡◌, ℕ, suc, ◌+◌, ◌≤◌, List, [], ◌∷◌, ◌++◌, length, map, Option, Some, None, refl, sym, ap, subst, ◌∙◌, append-nil, arith}
+use Rattle.std.proofs.Common.{inl, inr, ◌≡◌, ℕ, zero, suc, ◌+◌, ◌<◌, ◌≤◌, List, [], ◌∷◌, ◌++◌, length, map, Option, Some, None, refl, sym, ap, subst, ◌∙◌, arith}
 use Rattle.std.specs.Prelude.{IfSome}
-use Rattle.std.specs.List.{AllByRecursion, concat}
+use Rattle.std.specs.List.{AllByRecursion}
 use Rattle.std.proofs.lemmas.List.{length-map}
 use Rattle.std.proofs.lemmas.List.Elements.{recursion_from_All, All-from_recursion, All-from_get_or}
 use Rattle.game_core.specs.declared.game.Row.{Row}
@@ -10,14 +10,14 @@ use Rattle.game_core.proofs.Rows.{below_from_row}
 use Rattle.row_runs.specs.declared.run.Run.{Run}
 use Rattle.row_runs.specs.declared.run.TableVersion.{TableVersion}
 use Rattle.row_runs.specs.Runs.{MayLead, AreRuns, Gives, EncodeRows, runs_from}
-use Rattle.row_runs.specs.RunText.{run_line, count_line, end_line}
+use Rattle.row_runs.specs.RunText.{run_line}
 use Rattle.row_runs.proofs.RunLaws.{runs_encode, one_list, forward}
 use Rattle.row_runs.proofs.FewRuns.{few_runs}
-use Rattle.read_texts.specs.Steps.{joined, Leads, IsRead}
-use Rattle.read_texts.proofs.Laws.{joined_bytes, both_ways}
+use Rattle.read_texts.specs.Steps.{joined, Leads}
+use Rattle.read_texts.proofs.Laws.{joined_bytes, few_pieces}
 use Rattle.row_reading.specs.declared.row_rules.RowRules.{RowRules}
-use Rattle.row_reading.specs.RowsTexts.{IsRowWithin, IsRunWithin, AreRowsWithin, row_lines, counted_lines, AreRowsAt}
-use Rattle.row_reading.specs.RowSteps.{Begin, Due, Done, MayStandAfter, RowStep}
+use Rattle.row_reading.specs.RowsTexts.{IsRowWithin, IsRunWithin, AreRowsWithin, row_lines, AreRowsAt}
+use Rattle.row_reading.specs.TurnSteps.{RowsDue, Due, MayStandAfter, RunStep, IsRunRefused}
 use Rattle.row_reading.specs.inside.ReadRows.{AreRunsWithin, AreRead}
 
 -- ---- the runs of rows that rules allow
@@ -58,39 +58,26 @@ module _ (rules : RowRules) where
   first_follows (Some s) r runs h = h
 
   runs_lead : (n : ℕ) (last : Option Run) (runs : List Run) → FollowsOn last runs → AreRuns rules.version runs → AllByRecursion (IsRunWithin rules) runs
-      → (before : Option Run) × Leads (RowStep rules) (Due (length runs + n) last) (map line_of runs) (Due n before)
+      → (before : Option Run) × Leads (RunStep rules) (Due (length runs + n) last) (map line_of runs) (Due n before)
   runs_lead n last [] on are each = (last, ap (λ (k : ℕ). Due k last) (omega arith))
   runs_lead n last (r ∷ runs) on are each =
       let k : suc (length runs + n) ≡ suc (length runs) + n = omega arith in
-      let step : RowStep rules (Due (suc (length runs + n)) last) (line_of r) (Due (length runs + n) (Some r)) =
+      let step : RunStep rules (Due (suc (length runs + n)) last) (line_of r) (Due (length runs + n) (Some r)) =
       (r, record { cells = are.0; within = each.0; follows = first_follows last r runs on; line_is = refl }, refl) in
       let more = runs_lead n (Some r) runs are.1 are.2 each.1 in
-      (more.0, subst (λ (j : ℕ). Leads (RowStep rules) (Due j last) (map line_of (r ∷ runs)) (Due n more.0)) k (Due (length runs + n) (Some r), step, more.1))
+      (more.0, subst (λ (j : ℕ). Leads (RunStep rules) (Due j last) (map line_of (r ∷ runs)) (Due n more.0)) k (Due (length runs + n) (Some r), step, more.1))
 
   module _ (rows : List (Option Row)) (within : AreRowsWithin rules rows) where
     abbrev lines : List (List ℕ)
     lines = row_lines rules.version rules.format rows
 
-    pub rows_lead : (before : Option Run) × Leads (RowStep rules) (Due (length lines) None) lines (Due 0 before)
+    pub rows_lead : (before : Option Run) × Leads (RunStep rules) (Due (length lines) None) lines (Due 0 before)
     rows_lead =
         let runs : List Run = runs_from rules.version 0 rows in
         let are = runs_within rules rows within in
         let led = runs_lead 0 None runs tt are.order (recursion_from_All (IsRunWithin rules) runs are.each) in
         let size : length runs + 0 ≡ length lines = omega (arith, length-map runs line_of) in
-        (led.0, subst (λ (n : ℕ). Leads (RowStep rules) (Due n None) lines (Due 0 led.0)) size led.1)
-
-    -- the line that says how many they are, and those lines
-    pub counted_lead : (before : Option Run) × Leads (RowStep rules) Begin (count_line (length lines) ∷ lines) (Due 0 before)
-    counted_lead = (rows_lead.0, (Due (length lines) None, (length lines, few_lines rules rows within, refl, refl), rows_lead.1))
-
-    pub all_lead : Leads (RowStep rules) Begin (counted_lines rules.version rules.format rows) Done
-    all_lead = both_ways (RowStep rules) Begin (Due 0 counted_lead.0) Done (count_line (length lines) ∷ lines) (end_line ∷ []) counted_lead.1 (Done, (refl, refl), refl)
-
-    pub text_read : (bytes : List ℕ) → bytes ≡ concat (counted_lines rules.version rules.format rows) → IsRead (RowStep rules) Begin bytes (counted_lines rules.version rules.format rows) Done []
-    text_read bytes text = record {
-      leads = all_lead;
-      are = text ∙ joined_bytes (counted_lines rules.version rules.format rows) ∙ sym (append-nil (joined (counted_lines rules.version rules.format rows)));
-    }
+        (led.0, subst (λ (n : ℕ). Leads (RunStep rules) (Due n None) lines (Due 0 led.0)) size led.1)
 
 -- ---- rows of runs
 
@@ -100,7 +87,7 @@ given_within rules [] c row each given = absurd given
 given_within rules (r ∷ runs) c row each (inl here) = subst (IsRowWithin rules) here.2 each.0.row
 given_within rules (r ∷ runs) c row each (inr rest) = given_within rules runs c row each.1 rest
 
-rows_within : (rules : RowRules) (runs : List Run) (rows : List (Option Row)) → length rows ≡ rules.cells → AreRunsWithin rules runs → ((c : ℕ) (row : Row) → row_of rows c ≡ Some row → Gives runs c row) → AreRowsWithin rules rows
+pub rows_within : (rules : RowRules) (runs : List Run) (rows : List (Option Row)) → length rows ≡ rules.cells → AreRunsWithin rules runs → ((c : ℕ) (row : Row) → row_of rows c ≡ Some row → Gives runs c row) → AreRowsWithin rules rows
 rows_within rules runs rows size are given = record {
   one_each = size;
   each = All-from_get_or (λ row. IfSome row (IsRowWithin rules)) rows None (λ c lt. fits c (row_of rows c) refl);
@@ -111,13 +98,16 @@ rows_within rules runs rows size are given = record {
     fits c (Some row) e = given_within rules runs c row (recursion_from_All (IsRunWithin rules) runs are.each) (given c row e)
 
 -- runs that give rows are the rows' own
-pub rows_at : (rules : RowRules) (count : ℕ) (runs : List Run) (rows : List (Option Row)) (bytes rest : List ℕ) → length rows ≡ rules.cells → AreRunsWithin rules runs → EncodeRows runs rows → length runs ≡ count
+pub own_lines : (rules : RowRules) (runs : List Run) (rows : List (Option Row)) → AreRunsWithin rules runs → EncodeRows runs rows → map (run_line rules.version rules.format) runs ≡ row_lines rules.version rules.format rows
+own_lines rules runs rows are tell =
+    let own = runs_encode rules.version rows in
+    ap (map (run_line rules.version rules.format)) (one_list rules.version rows runs (runs_from rules.version 0 rows) are.order own.0 tell own.1)
+
+rows_at : (rules : RowRules) (count : ℕ) (runs : List Run) (rows : List (Option Row)) (bytes rest : List ℕ) → length rows ≡ rules.cells → AreRunsWithin rules runs → EncodeRows runs rows → length runs ≡ count
     → bytes ≡ joined (map (run_line rules.version rules.format) runs) ++ rest → AreRowsAt rules count bytes rows rest
 rows_at rules count runs rows bytes rest size are tell counted text =
-    let own = runs_encode rules.version rows in
     let line : Run → List ℕ = run_line rules.version rules.format in
-    let same : runs ≡ runs_from rules.version 0 rows = one_list rules.version rows runs (runs_from rules.version 0 rows) are.order own.0 tell own.1 in
-    let lines : map line runs ≡ row_lines rules.version rules.format rows = ap (map line) same in
+    let lines = own_lines rules runs rows are tell in
     record {
       within = rows_within rules runs rows size are (λ c row. (tell c row).0);
       counted = ap length (sym lines) ∙ length-map runs line ∙ counted;
@@ -126,3 +116,16 @@ rows_at rules count runs rows bytes rest size are tell counted text =
 
 pub all_read : (rules : RowRules) (count : ℕ) (last : Option Run) (bytes rest : List ℕ) (rows : List (Option Row)) → AreRead rules count 0 last bytes rest rows → AreRowsAt rules count bytes rows rest
 all_read rules count last bytes rest rows read = rows_at rules count read.runs rows bytes rest read.one_each read.are read.tell (omega (arith, read.counted)) (read.read).are
+
+-- ---- how many lines there may be
+
+-- how many row lines are due
+abbrev due_at : RowsDue → ℕ
+due_at (Due n last) = n
+
+takes_one : (rules : RowRules) (q m : RowsDue) (x : List ℕ) → RunStep rules q x m → due_at m < due_at q
+takes_one rules (Due zero last) m x h = absurd h
+takes_one rules (Due (suc n) last) m x h = omega (arith, ap due_at h.2)
+
+pub few_refused : (rules : RowRules) (count : ℕ) (bytes : List ℕ) (n : ℕ) → IsRunRefused rules count bytes n → n ≤ count + 1
+few_refused rules count bytes n r = omega (arith, r.next, few_pieces (RunStep rules) due_at (takes_one rules) (Due count None) r.to r.pieces (r.read).leads)

@@ -1,10 +1,10 @@
--- No bytes give no rows and have no line that is refused.
-use Rattle.std.proofs.Common.{inl, inr, ◌≡◌, ℕ, zero, suc, ◌<◌, ◌≤◌, List, [], ◌∷◌, ◌++◌, length, map, Option, Some, None, refl, sym, ap, subst, ◌∙◌, append-nil, append_assoc, arith}
+-- Row lines that lead on to where none is due give rows.
+use Rattle.std.proofs.Common.{inl, inr, ◌≡◌, ℕ, zero, suc, ◌<◌, ◌≤◌, List, [], ◌∷◌, length, map, Option, Some, None, refl, sym, ap, subst, ◌∙◌, arith}
 use Rattle.std.specs.Prelude.{◌↔◌}
 use Rattle.std.specs.List.{AllByRecursion, range_with_len}
 use Rattle.std.proofs.lemmas.Bool.{cases_lt}
 use Rattle.std.proofs.lemmas.Option.{same_Some}
-use Rattle.std.proofs.lemmas.List.{get_or_past}
+use Rattle.std.proofs.lemmas.List.{get_or_past, length-map}
 use Rattle.std.proofs.lemmas.List.FromFn.{get_or-map-range_with_len, length-map-range_with_len}
 use Rattle.std.proofs.lemmas.List.Elements.{All-from_recursion}
 use Rattle.game_core.specs.declared.game.Row.{Row}
@@ -12,18 +12,14 @@ use Rattle.game_core.specs.Solution.{row_of}
 use Rattle.row_runs.specs.declared.run.Run.{Run}
 use Rattle.row_runs.specs.declared.run.TableVersion.{TableVersion}
 use Rattle.row_runs.specs.Runs.{AreRuns, Gives, EncodeRows}
-use Rattle.row_runs.specs.RunText.{run_line, count_line, end_line}
+use Rattle.row_runs.specs.RunText.{run_line}
 use Rattle.row_runs.proofs.Encoding.{begin_later, gives_above}
-use Rattle.read_texts.specs.Steps.{joined, Leads, IsRead, IsReading}
-use Rattle.read_texts.proofs.Laws.{undeniable}
+use Rattle.read_texts.specs.Steps.{Leads}
 use Rattle.row_reading.specs.declared.row_rules.RowRules.{RowRules}
-use Rattle.row_reading.specs.RowsTexts.{IsRunWithin, IsRowsText}
-use Rattle.row_reading.specs.RowSteps.{RowState, Begin, Due, Done, MayStandAfter, RowStep, IsOver, IsRowRefused}
-use Rattle.row_reading.specs.inside.RunReading.{AreSmall}
+use Rattle.row_reading.specs.RowsTexts.{IsRunWithin, AreRowsWithin, row_lines}
+use Rattle.row_reading.specs.TurnSteps.{RowsDue, Due, MayStandAfter, RunStep}
 use Rattle.row_reading.specs.inside.ReadRows.{AreRunsWithin}
-use Rattle.row_reading.proofs.RowGrammar.{rows_are_grammar}
-use Rattle.row_reading.proofs.RowsRead.{FollowsOn, rows_at}
-use Rattle.row_reading.proofs.RefusedRows.{whole_text}
+use Rattle.row_reading.proofs.RowsRead.{FollowsOn, own_lines, rows_within}
 
 -- ---- the rows that runs give
 
@@ -96,20 +92,20 @@ all_told rules runs rows are within size given c row =
       )
     ]
 
--- ---- lines that lead to the end
+-- ---- the lines of some runs
 
 module _ (rules : RowRules) where
   abbrev line_of : Run → List ℕ
   line_of r = run_line rules.version rules.format r
 
-  -- The runs whose lines stand there, and the end.
+  -- The runs whose lines these are.
   record AreTold (n : ℕ) (last : Option Run) (lines : List (List ℕ)) : Type 0 where
     runs : List Run
     order : AreRuns rules.version runs
     follows : FollowsOn rules last runs
     each : AllByRecursion (IsRunWithin rules) runs
     counted : length runs ≡ n
-    are : joined lines ≡ joined (map line_of runs) ++ (end_line ++ [])
+    are : lines ≡ map line_of runs
 
   none_follows : (last : Option Run) → FollowsOn rules last []
   none_follows None = tt
@@ -119,56 +115,44 @@ module _ (rules : RowRules) where
   follows_first None r runs h = tt
   follows_first (Some s) r runs h = h
 
-  not_done : (n : ℕ) (last : Option Run) → Done ≡ Due n last → ⊥
-  not_done n last e = cc
+  not_due : (n : ℕ) (last before : Option Run) → Due 0 before ≡ Due (suc n) last → ⊥
+  not_due n last before e = cc
 
-  none_after : (lines : List (List ℕ)) → Leads (RowStep rules) Done lines Done → lines ≡ []
-  none_after [] leads = refl
-  none_after (x ∷ lines) leads = absurd leads.1
-
-  due_told : (n : ℕ) (last : Option Run) (lines : List (List ℕ)) → Leads (RowStep rules) (Due n last) lines Done → AreTold n last lines
-  due_told n last [] leads = absurd (not_done n last leads)
-  due_told zero last (x ∷ lines) leads =
-      let none = none_after lines (subst (λ (q : RowState). Leads (RowStep rules) q lines Done) leads.1.1 leads.2) in
-      record { runs = []; order = tt; follows = none_follows last; each = tt; counted = refl; are = ap (λ (y : List ℕ). y ++ joined lines) leads.1.0 ∙ ap (λ (ys : List (List ℕ)). end_line ++ joined ys) none }
-  due_told (suc n) last (x ∷ lines) leads =
+  due_told : (n : ℕ) (last before : Option Run) (lines : List (List ℕ)) → Leads (RunStep rules) (Due n last) lines (Due 0 before) → AreTold n last lines
+  due_told zero last before [] leads = record { runs = []; order = tt; follows = none_follows last; each = tt; counted = refl; are = refl }
+  due_told zero last before (x ∷ lines) leads = absurd leads.1
+  due_told (suc n) last before [] leads = absurd (not_due n last before leads)
+  due_told (suc n) last before (x ∷ lines) leads =
       let r : Run = leads.1.0 in
       let next = leads.1.1 in
-      let more = due_told n (Some r) lines (subst (λ (q : RowState). Leads (RowStep rules) q lines Done) leads.1.2 leads.2) in
+      let more = due_told n (Some r) before lines (subst (λ (q : RowsDue). Leads (RunStep rules) q lines (Due 0 before)) leads.1.2 leads.2) in
       record {
         runs = r ∷ more.runs;
         order = (next.cells, more.follows, more.order);
         follows = follows_first last r more.runs next.follows;
         each = (next.within, more.each);
         counted = ap suc more.counted;
-        are = ap (λ (y : List ℕ). y ++ joined lines) next.line_is ∙ ap (λ (y : List ℕ). line_of r ++ y) more.are ∙ sym (append_assoc (line_of r) (joined (map line_of more.runs)) (end_line ++ []));
+        are = ap (λ (y : List ℕ). y ∷ lines) next.line_is ∙ ap (λ (ys : List (List ℕ)). line_of r ∷ ys) more.are;
       }
 
-  -- the rows of runs whose lines the bytes have
-  rows_told : (n : ℕ) (bytes : List ℕ) (lines : List (List ℕ)) → n ≤ rules.cells → bytes ≡ count_line n ++ joined lines → AreTold n None lines → (rows : List (Option Row)) × IsRowsText rules bytes rows
-  rows_told n bytes lines le text told =
+  -- Rows that lines give, and how many they are.
+  pub record AreRowsOf (n : ℕ) (lines : List (List ℕ)) : Type 0 where
+    pub rows : List (Option Row)
+    pub within : AreRowsWithin rules rows
+    pub lines_are : lines ≡ row_lines rules.version rules.format rows
+    pub counted : n ≡ length (row_lines rules.version rules.format rows)
+
+  pub rows_of : (n : ℕ) (before : Option Run) (lines : List (List ℕ)) → Leads (RunStep rules) (Due n None) lines (Due 0 before) → AreRowsOf n lines
+  rows_of n before lines leads =
+      let told = due_told n None before lines leads in
       let rows : List (Option Row) = rows_given told.runs rules.cells in
       let size : length rows ≡ rules.cells = length-map-range_with_len (λ (c : ℕ). (given_row told.runs c).0) 0 rules.cells in
       let tell : EncodeRows told.runs rows = all_told rules told.runs rows told.order told.each size (each_given told.runs rules.cells) in
       let are : AreRunsWithin rules told.runs = record { order = told.order; each = All-from_recursion (IsRunWithin rules) told.runs told.each } in
-      (rows, whole_text rules bytes n le (joined lines) text rows (end_line ++ []) (rows_at rules n told.runs rows (joined lines) (end_line ++ []) size are tell told.counted told.are) refl)
-
-  not_begin : Done ≡ Begin → ⊥
-  not_begin e = cc
-
-  lines_told : (bytes : List ℕ) (lines : List (List ℕ)) → IsRead (RowStep rules) Begin bytes lines Done [] → (rows : List (Option Row)) × IsRowsText rules bytes rows
-  lines_told bytes [] read = absurd (not_begin read.leads)
-  lines_told bytes (x ∷ lines) read =
-      let step = (read.leads).1 in
-      let told = due_told step.0 None lines (subst (λ (q : RowState). Leads (RowStep rules) q lines Done) step.3 (read.leads).2) in
-      rows_told step.0 bytes lines step.1 (read.are ∙ append-nil (joined (x ∷ lines)) ∙ ap (λ (y : List ℕ). y ++ joined lines) step.2) told
-
-  text_told : (bytes : List ℕ) (to : RowState) (rest : List ℕ) (lines : List (List ℕ)) → IsOver to rest → IsRead (RowStep rules) Begin bytes lines to rest → (rows : List (Option Row)) × IsRowsText rules bytes rows
-  text_told bytes Done rest lines over read = lines_told bytes lines (subst (λ (x : List ℕ). IsRead (RowStep rules) Begin bytes lines Done x) over read)
-  text_told bytes to rest lines over read = absurd over
-
-  pub no_bytes_are_neither : AreSmall rules → (bytes : List ℕ) → ((rows : List (Option Row)) → IsRowsText rules bytes rows → ⊥) → ((n : ℕ) → IsRowRefused rules bytes n → ⊥) → ⊥
-  no_bytes_are_neither small bytes untold unrefused = undeniable (RowStep rules) IsOver (λ q. Unit {0}) (rows_are_grammar rules small) Begin bytes tt unread unrefused
-    where
-      unread : (to : RowState) (rest : List ℕ) → IsReading (RowStep rules) IsOver Begin bytes to rest → ⊥
-      unread to rest reading = (let told = text_told bytes to rest reading.pieces reading.closed reading.read in untold told.0 told.1)
+      let own = own_lines rules told.runs rows are tell in
+      record {
+        rows = rows;
+        within = rows_within rules told.runs rows size are (λ c row. (tell c row).0);
+        lines_are = told.are ∙ own;
+        counted = sym told.counted ∙ sym (length-map told.runs line_of) ∙ ap length own;
+      }

@@ -2,5 +2,5 @@ pub mod Found
 pub mod Numbers
 pub mod Counting
 pub mod RowsTexts
-pub mod RowSteps
+pub mod TurnSteps
 pub mod inside

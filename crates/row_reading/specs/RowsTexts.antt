@@ -1,6 +1,8 @@
--- Rows that rules allow, and the lines that give them.
-use Rattle.std.specs.Prelude.{◌≡◌, ℕ, ◌<◌, ◌≤◌, List, [], ◌∷◌, ◌++◌, length, map, Option, IfSome}
+-- Rows that rules allow, turn by turn, and the lines that give them. A table has one turn.
+use Rattle.std.specs.Prelude.{◌≡◌, ℕ, suc, ◌<◌, ◌≤◌, List, [], ◌∷◌, ◌++◌, length, map, Option, IfSome, codes}
 use Rattle.std.specs.List.{All, concat}
+use Rattle.std.specs.Fmt.{decimal}
+use Rattle.base.specs.Lines.{line}
 use Rattle.game_core.specs.declared.game.Row.{Row}
 use Rattle.row_runs.specs.declared.row_format.RowFormat.{RowFormat}
 use Rattle.row_runs.specs.declared.row_format.RowFormat.TheVariants.{InputAboveZero, InputAlone, Both}
@@ -9,6 +11,9 @@ use Rattle.row_runs.specs.declared.run.TableVersion.{TableVersion}
 use Rattle.row_runs.specs.Runs.{runs_from}
 use Rattle.row_runs.specs.RunText.{run_line, count_line, end_line}
 use Rattle.row_reading.specs.declared.row_rules.RowRules.{RowRules}
+use Rattle.row_reading.specs.declared.row_rules.TurnHead.{TurnHead}
+use Rattle.row_reading.specs.declared.row_rules.TurnHead.TheVariants.{Count, Numbered}
+use Rattle.row_reading.specs.declared.row_rules.TurnRules.{TurnRules}
 
 -- what a line of the row doesn't say is 0
 abbrev pub Determines : RowFormat → Row → Type 0
@@ -37,14 +42,37 @@ pub record AreRowsWithin (rules : RowRules) (rows : List (Option Row)) : Type 0 
 abbrev pub row_lines : TableVersion → RowFormat → List (Option Row) → List (List ℕ)
 row_lines version format rows = map (run_line version format) (runs_from version 0 rows)
 
--- how many they are, those lines, and the end
-abbrev pub counted_lines : TableVersion → RowFormat → List (Option Row) → List (List ℕ)
-counted_lines version format rows = count_line (length (row_lines version format rows)) ∷ row_lines version format rows ++ end_line ∷ []
+-- the line of a turn: its number, and how many lines of rows follow
+abbrev pub turn_line : ℕ → ℕ → List ℕ
+turn_line j n = line (codes "turn" ∷ decimal j ∷ codes "rows" ∷ decimal n ∷ [])
 
--- The bytes give these rows: how many lines they have, those lines, and the end.
-pub record IsRowsText (rules : RowRules) (bytes : List ℕ) (rows : List (Option Row)) : Type 0 where
-  pub within : AreRowsWithin rules rows
-  pub text : bytes ≡ concat (counted_lines rules.version rules.format rows)
+-- the line before the rows of a turn
+abbrev pub head_line : TurnHead → ℕ → ℕ → List ℕ
+head_line Count j n = count_line n
+head_line Numbered j n = turn_line j n
+
+-- the lines of the turns from j on, by how a turn begins and how a row is printed
+abbrev pub lines_by : TurnHead → TableVersion → RowFormat → ℕ → List (List (Option Row)) → List (List ℕ)
+lines_by head version format j [] = []
+lines_by head version format j (rows ∷ turns) = head_line head j (length (row_lines version format rows)) ∷ row_lines version format rows ++ lines_by head version format (suc j) turns
+
+-- those by rules
+abbrev pub lines_from : TurnRules → ℕ → List (List (Option Row)) → List (List ℕ)
+lines_from rules j turns = lines_by rules.head rules.rows.version rules.rows.format j turns
+
+-- the lines of all turns, and the end
+abbrev pub turn_lines : TurnRules → List (List (Option Row)) → List (List ℕ)
+turn_lines rules turns = lines_from rules 0 turns ++ end_line ∷ []
+
+-- For each turn one optional row for each cell, which it may have.
+pub record AreTurnsWithin (rules : TurnRules) (turns : List (List (Option Row))) : Type 0 where
+  pub one_list_each : length turns ≡ rules.turns
+  pub each : All (AreRowsWithin rules.rows) turns
+
+-- The bytes give the rows of the turns: the lines of each, and the end.
+pub record AreTurnsText (rules : TurnRules) (bytes : List ℕ) (turns : List (List (Option Row))) : Type 0 where
+  pub within : AreTurnsWithin rules turns
+  pub text : bytes ≡ concat (turn_lines rules turns)
 
 -- So many lines of rows stand at the front, and give these rows.
 pub record AreRowsAt (rules : RowRules) (count : ℕ) (bytes : List ℕ) (rows : List (Option Row)) (rest : List ℕ) : Type 0 where

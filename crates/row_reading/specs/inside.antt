@@ -1,3 +1,4 @@
 -- What only private clauses and proofs name.
 pub mod RunReading
 pub mod ReadRows
+pub mod ReadTurns

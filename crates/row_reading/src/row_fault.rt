@@ -1,5 +1,6 @@
-ghost use Rattle.std.specs.Prelude.{◌≡◌};
-ghost use Rattle.row_reading.specs.declared.row_fault.RowFault.TheVariants.{Memory};
+ghost use Rattle.std.specs.Prelude.{◌≡◌, ℕ, ◌+◌, ◌^◌, ◌<◌};
+ghost use Rattle.row_reading.specs.declared.row_fault.RowFault.TheVariants.{Malformed, Memory};
+ghost use Rattle.row_reading.specs.TurnSteps.{fault_after};
 
 use base::NoMemory;
 
@@ -10,6 +11,19 @@ pub enum RowFault {
     Malformed { line: u32 },
     /// There was no memory left.
     Memory,
+}
+
+impl RowFault {
+    /// The fault where so many lines stand before.
+    pub fn after(self, lines: u32) -> RowFault
+        requires { (line : ℕ) → self ≡ Malformed line → lines + line < 2 ^ 32 }
+        ensures { result ≡ fault_after lines self }
+    {
+        match self {
+            RowFault::Malformed { line } => RowFault::Malformed { line: lines + line },
+            RowFault::Memory => RowFault::Memory,
+        }
+    }
 }
 
 impl From<NoMemory> for RowFault {

@@ -3,7 +3,7 @@
 ghost use Rattle.std.specs.Prelude.{IsTrue, ◌↔◌};
 ghost use Rattle.row_runs.specs.Runs.{MayFollow};
 ghost use Rattle.row_reading.specs.RowsTexts.{IsRowWithin, IsRunWithin};
-ghost use Rattle.row_reading.specs.RowSteps.{MayStandAfter};
+ghost use Rattle.row_reading.specs.TurnSteps.{MayStandAfter};
 ghost use Rattle.row_reading.specs.Found.{Finds};
 ghost use Rattle.row_reading.specs.inside.RunReading.{AreSmall, IsLastAt, IsRowAt, IsRunAt, IsNextRunAt};
 

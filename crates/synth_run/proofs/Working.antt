@@ -3,7 +3,7 @@ use Rattle.std.proofs.Common.{Bool, refl, take, drop, length, ◌≡◌, ◌<◌
 use Rattle.std.specs.Prelude.{Option, Some, None, IfSome, IsTrue}
 use Rattle.command_line.specs.declared.command.Command.{Command}
 use Rattle.command_line.specs.declared.command.Command.TheVariants.{Synth, Check, Upgrade, Sim, Demo, Stay, Patrol}
-use Rattle.controller_table.proofs.ShortTables.{tables_are_short}
+use Rattle.controller_table.proofs.ShortTexts.{tables_are_short}
 use Rattle.run_devices.specs.declared.transfer.ReadFault.{ReadFault as Fault}
 use Rattle.run_devices.specs.declared.transfer.ReadFault.TheVariants as faults
 use Rattle.command_line.specs.declared.outcome.Failure.TheVariants.{Read, Write, Memory}

@@ -6,19 +6,9 @@ use Rattle.std.proofs.lemmas.List.Elements.{recursion_from_All, All-from_recursi
 use Rattle.game_core.specs.declared.game.Row.{Row}
 use Rattle.grid_quantiser.specs.Axes.{cells_of}
 use Rattle.plant_record.specs.Description.{Description, axes_of}
-use Rattle.plant_record.specs.Limits.{IsWithinLimits}
-use Rattle.plant_record.proofs.lemmas.Limits.{small_cells, small_vectors}
 use Rattle.row_reading.specs.RowsTexts.{IsRowWithin, AreRowsWithin}
-use Rattle.row_reading.specs.inside.RunReading.{AreSmall}
+use Rattle.controller_table.specs.TextKinds.{patrol_rules}
 use Rattle.temporal_texts.specs.PatrolText.{IsPatrolRowOf, PatrolRowsFit}
-use Rattle.temporal_texts.specs.TurnSteps.{patrol_rules}
-
-pub small_rules : (p : Description) → IsWithinLimits p → AreSmall (patrol_rules p)
-small_rules p within = record {
-  cells = small_cells p within;
-  vectors = small_vectors p within;
-  most_rank = small_cells p within;
-}
 
 module _ (p : Description) where
   abbrev Fit : List (Option Row) → Type 0

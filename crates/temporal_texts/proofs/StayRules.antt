@@ -1,25 +1,12 @@
 -- The rules of a plant's stay rows allow the rows that fit it, and no others.
-use Rattle.std.proofs.Common.{◌≡◌, ℕ, ◌-◌, ◌^◌, ◌<◌, ◌≤◌, List, length, get_or, Option, Some, None, arith}
+use Rattle.std.proofs.Common.{◌≡◌, ℕ, ◌<◌, ◌≤◌, List, length, get_or, Option, Some, None, arith}
 use Rattle.std.specs.Prelude.{IfSome}
 use Rattle.game_core.specs.declared.game.Row.{Row}
 use Rattle.grid_quantiser.specs.Axes.{cells_of}
 use Rattle.plant_record.specs.Description.{Description, axes_of}
-use Rattle.plant_record.specs.Limits.{IsWithinLimits}
-use Rattle.plant_record.proofs.lemmas.Limits.{small_cells, small_vectors}
 use Rattle.row_reading.specs.RowsTexts.{IsRowWithin, AreRowsWithin}
-use Rattle.row_reading.specs.inside.RunReading.{AreSmall}
+use Rattle.controller_table.specs.TextKinds.{stay_rules}
 use Rattle.temporal_texts.specs.StayText.{IsStayRowOf, StayRowsFit}
-use Rattle.temporal_texts.specs.StayRefusals.{stay_rules}
-
-less : (n : ℕ) → n ≤ 2 ^ 20 → n - 1 < 2 ^ 32
-less n le = omega (arith, le)
-
-pub small_rules : (p : Description) → IsWithinLimits p → AreSmall (stay_rules p)
-small_rules p within = record {
-  cells = small_cells p within;
-  vectors = small_vectors p within;
-  most_rank = less (cells_of (axes_of p)) within.cells;
-}
 
 none_below : (n : ℕ) → 0 ≤ n
 none_below n = omega arith

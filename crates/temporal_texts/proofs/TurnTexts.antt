@@ -8,33 +8,34 @@ use Rattle.row_runs.specs.declared.row_format.RowFormat.TheVariants.{Both}
 use Rattle.row_runs.specs.declared.run.TableVersion.TheVariants.{Second}
 use Rattle.row_runs.specs.Runs.{runs_from}
 use Rattle.row_runs.specs.RunText.{run_line, run_lines}
-use Rattle.temporal_texts.specs.PatrolText.{turn_line, turn_lines}
+use Rattle.row_reading.specs.declared.row_rules.TurnHead.TheVariants.{Numbered}
+use Rattle.row_reading.specs.RowsTexts.{turn_line, lines_by}
 use Rattle.turn_rows.specs.Rows.{rows_for}
 
 -- the first of some turns, in its pieces
-first_turn : (j : ℕ) (rows : List (Option Row)) (rest : List (List (Option Row))) → concat (turn_lines j (rows ∷ rest)) ≡ turn_line j (length (runs_from Second 0 rows)) ++ (concat (run_lines Both rows) ++ concat (turn_lines (suc j) rest))
+first_turn : (j : ℕ) (rows : List (Option Row)) (rest : List (List (Option Row))) → concat (lines_by Numbered Second Both j (rows ∷ rest)) ≡ turn_line j (length (runs_from Second 0 rows)) ++ (concat (run_lines Both rows) ++ concat (lines_by Numbered Second Both (suc j) rest))
 first_turn j rows rest =
-    ap (λ (n : ℕ). turn_line j n ++ concat (run_lines Both rows ++ turn_lines (suc j) rest)) (length-map (runs_from Second 0 rows) (run_line Second Both))
-    ∙ ap (λ (x : List ℕ). turn_line j (length (runs_from Second 0 rows)) ++ x) (concat-append (run_lines Both rows) (turn_lines (suc j) rest))
+    ap (λ (n : ℕ). turn_line j n ++ concat (run_lines Both rows ++ lines_by Numbered Second Both (suc j) rest)) (length-map (runs_from Second 0 rows) (run_line Second Both))
+    ∙ ap (λ (x : List ℕ). turn_line j (length (runs_from Second 0 rows)) ++ x) (concat-append (run_lines Both rows) (lines_by Numbered Second Both (suc j) rest))
 
 pub one_turn_on : (rows : List (List (Option Row))) (j : ℕ) → j < length rows
-    → concat (turn_lines j (drop j rows)) ≡ turn_line j (length (runs_from Second 0 (rows_for rows j))) ++ (concat (run_lines Both (rows_for rows j)) ++ concat (turn_lines (j + 1) (drop (j + 1) rows)))
+    → concat (lines_by Numbered Second Both j (drop j rows)) ≡ turn_line j (length (runs_from Second 0 (rows_for rows j))) ++ (concat (run_lines Both (rows_for rows j)) ++ concat (lines_by Numbered Second Both (j + 1) (drop (j + 1) rows)))
 one_turn_on rows j lt =
-    ap (λ (r : List (List (Option Row))). concat (turn_lines j r)) (drop_more rows j [] lt)
+    ap (λ (r : List (List (Option Row))). concat (lines_by Numbered Second Both j r)) (drop_more rows j [] lt)
     ∙ first_turn j (get_or rows j []) (drop (j + 1) rows)
-    ∙ ap (λ (k : ℕ). turn_line j (length (runs_from Second 0 (rows_for rows j))) ++ (concat (run_lines Both (rows_for rows j)) ++ concat (turn_lines k (drop (j + 1) rows)))) (sym (add-one j))
+    ∙ ap (λ (k : ℕ). turn_line j (length (runs_from Second 0 (rows_for rows j))) ++ (concat (run_lines Both (rows_for rows j)) ++ concat (lines_by Numbered Second Both k (drop (j + 1) rows)))) (sym (add-one j))
 
 -- a turn whose line is due: nothing is left of the one before it
-pub begun : (rows : List (List (Option Row))) (j n : ℕ) (now line runs first lines : List ℕ) → line ++ (runs ++ concat (turn_lines j (drop j rows))) ≡ now → length line ≡ 0 → runs ≡ [] → j < length rows
-    → first ≡ turn_line j n → n ≡ length (runs_from Second 0 (rows_for rows j)) → lines ≡ concat (run_lines Both (rows_for rows j)) → now ≡ first ++ (lines ++ concat (turn_lines (j + 1) (drop (j + 1) rows)))
+pub begun : (rows : List (List (Option Row))) (j n : ℕ) (now line runs first lines : List ℕ) → line ++ (runs ++ concat (lines_by Numbered Second Both j (drop j rows))) ≡ now → length line ≡ 0 → runs ≡ [] → j < length rows
+    → first ≡ turn_line j n → n ≡ length (runs_from Second 0 (rows_for rows j)) → lines ≡ concat (run_lines Both (rows_for rows j)) → now ≡ first ++ (lines ++ concat (lines_by Numbered Second Both (j + 1) (drop (j + 1) rows)))
 begun rows j n now line runs first lines view none over lt first_is count lines_are =
     sym view
-    ∙ ap (λ (x : List ℕ). x ++ (runs ++ concat (turn_lines j (drop j rows)))) (nil_from_length line none)
-    ∙ ap (λ (x : List ℕ). x ++ concat (turn_lines j (drop j rows))) over
+    ∙ ap (λ (x : List ℕ). x ++ (runs ++ concat (lines_by Numbered Second Both j (drop j rows)))) (nil_from_length line none)
+    ∙ ap (λ (x : List ℕ). x ++ concat (lines_by Numbered Second Both j (drop j rows))) over
     ∙ one_turn_on rows j lt
-    ∙ ap (λ (k : ℕ). turn_line j k ++ (concat (run_lines Both (rows_for rows j)) ++ concat (turn_lines (j + 1) (drop (j + 1) rows)))) (sym count)
-    ∙ ap (λ (x : List ℕ). x ++ (concat (run_lines Both (rows_for rows j)) ++ concat (turn_lines (j + 1) (drop (j + 1) rows)))) (sym first_is)
-    ∙ ap (λ (x : List ℕ). first ++ (x ++ concat (turn_lines (j + 1) (drop (j + 1) rows)))) (sym lines_are)
+    ∙ ap (λ (k : ℕ). turn_line j k ++ (concat (run_lines Both (rows_for rows j)) ++ concat (lines_by Numbered Second Both (j + 1) (drop (j + 1) rows)))) (sym count)
+    ∙ ap (λ (x : List ℕ). x ++ (concat (run_lines Both (rows_for rows j)) ++ concat (lines_by Numbered Second Both (j + 1) (drop (j + 1) rows)))) (sym first_is)
+    ∙ ap (λ (x : List ℕ). first ++ (x ++ concat (lines_by Numbered Second Both (j + 1) (drop (j + 1) rows)))) (sym lines_are)
 
 -- what is copied of the front of a list
 pub copied_within : (now line rest : List ℕ) (count : ℕ) → now ≡ line ++ rest → count ≤ length line → count ≤ length now

@@ -5,12 +5,13 @@ use Rattle.game_core.specs.declared.game.Row.{Row}
 use Rattle.plant_record.specs.Description.{Description}
 use Rattle.plant_record.specs.States.{LiesInSome, IsClear}
 use Rattle.controller_table.specs.declared.table_fault.TableFault.{TableFault}
-use Rattle.temporal_texts.specs.declared.patrol_fault.PatrolFault.{PatrolFault}
+use Rattle.controller_table.specs.declared.text_fault.TextFault.{TextFault}
+use Rattle.controller_table.specs.TextKinds.{HasFewTurns}
 use Rattle.temporal_texts.specs.StayText.{IsStayText, HasStayRow}
 use Rattle.temporal_texts.specs.StayRefusals.{IsStayRefusedFor}
 use Rattle.temporal_texts.specs.Settles.{Settles}
 use Rattle.temporal_texts.specs.PatrolText.{IsPatrolText, HasPatrolRow}
-use Rattle.temporal_texts.specs.PatrolRefusals.{HasFewTurns, IsPatrolRefusedFor}
+use Rattle.temporal_texts.specs.PatrolRefusals.{IsPatrolRefusedFor}
 use Rattle.temporal_texts.specs.Patrols.{Patrols}
 use Rattle.temporal_texts.specs.TextTrajectories.{Sample, IsStayTrajectory, IsPatrolTrajectory, EndsTurn}
 
@@ -38,16 +39,16 @@ OnePatrolText =
 
 -- a text has one reason to be refused as a patrol text
 abbrev pub OnePatrolRefusal : Type 0
-OnePatrolRefusal = (bytes : List ℕ) (f g : PatrolFault) → IsPatrolRefusedFor bytes f → IsPatrolRefusedFor bytes g → f ≡ g
+OnePatrolRefusal = (bytes : List ℕ) (f g : TextFault) → IsPatrolRefusedFor bytes f → IsPatrolRefusedFor bytes g → f ≡ g
 
 -- no patrol text of a plant with few enough turns is refused
 abbrev pub PatrolTextOrRefused : Type 0
-PatrolTextOrRefused = (bytes : List ℕ) (p : Description) (rows : List (List (Option Row))) (f : PatrolFault) → IsPatrolText bytes p rows → HasFewTurns p → IsPatrolRefusedFor bytes f → ⊥
+PatrolTextOrRefused = (bytes : List ℕ) (p : Description) (rows : List (List (Option Row))) (f : TextFault) → IsPatrolText bytes p rows → HasFewTurns p → IsPatrolRefusedFor bytes f → ⊥
 
 -- no text is neither the patrol text of such a plant nor refused as one
 abbrev pub NoPatrolTextIsNeither : Type 0
 NoPatrolTextIsNeither =
-    (bytes : List ℕ) → ((p : Description) (rows : List (List (Option Row))) → IsPatrolText bytes p rows → HasFewTurns p → ⊥) → ((f : PatrolFault) → IsPatrolRefusedFor bytes f → ⊥) → ⊥
+    (bytes : List ℕ) → ((p : Description) (rows : List (List (Option Row))) → IsPatrolText bytes p rows → HasFewTurns p → ⊥) → ((f : TextFault) → IsPatrolRefusedFor bytes f → ⊥) → ⊥
 
 -- Where a text settles its plant, every trajectory by its rows from a state with a row stays off the obstacles, always
 -- comes to a state with a row, and from the sample of the first row's rank on lies in a target.

@@ -2,7 +2,6 @@ pub mod StayText
 pub mod StayRefusals
 pub mod Settles
 pub mod PatrolText
-pub mod TurnSteps
 pub mod PatrolRefusals
 pub mod Patrols
 pub mod TextTrajectories

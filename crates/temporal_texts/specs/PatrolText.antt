@@ -1,36 +1,20 @@
 -- The text of a plant with its rows of patrol, turn by turn.
-use Rattle.std.specs.Prelude.{◌≡◌, ℕ, suc, ◌<◌, ◌≤◌, ℤ, List, [], ◌∷◌, ◌++◌, length, Option, Some, IfSome, codes}
-use Rattle.std.specs.List.{All, concat}
-use Rattle.std.specs.Fmt.{decimal}
+use Rattle.std.specs.Prelude.{◌≡◌, ℕ, ◌<◌, ◌≤◌, ℤ, List, length, Option, Some, IfSome}
+use Rattle.std.specs.List.{All}
 use Rattle.game_core.specs.declared.game.Row.{Row}
 use Rattle.game_core.specs.Solution.{row_of}
-use Rattle.row_runs.specs.declared.row_format.RowFormat.TheVariants.{Both}
-use Rattle.row_runs.specs.RunText.{run_lines, end_line}
-use Rattle.base.specs.Lines.{line}
 use Rattle.grid_quantiser.specs.Axes.{cells_of}
 use Rattle.grid_quantiser.specs.Cells.{IsInDomain, cell_of}
 use Rattle.plant_record.specs.Description.{Description, axes_of, vectors_of}
 use Rattle.plant_record.specs.Limits.{IsWithinLimits}
-use Rattle.plant_writing.specs.CanonicalText.{text_of}
+use Rattle.controller_table.specs.declared.text_kind.TextKind.TheVariants.{Patrol}
+use Rattle.controller_table.specs.KindTexts.{rows_text}
 use Rattle.turn_rows.specs.Targets.{IsInTarget, next_turn}
 use Rattle.turn_rows.specs.Rows.{rows_for}
 
--- the first line
-abbrev pub patrol_line : List ℕ
-patrol_line = line (codes "patrol" ∷ codes "1" ∷ [])
-
--- the line before the runs of a turn: its number, and how many lines of runs follow
-abbrev pub turn_line : ℕ → ℕ → List ℕ
-turn_line j n = line (codes "turn" ∷ decimal j ∷ codes "rows" ∷ decimal n ∷ [])
-
--- the lines of the turns from j on: the lines of runs have the rank and the input
-abbrev pub turn_lines : ℕ → List (List (Option Row)) → List (List ℕ)
-turn_lines j [] = []
-turn_lines j (rows ∷ rest) = turn_line j (length (run_lines Both rows)) ∷ run_lines Both rows ++ turn_lines (suc j) rest
-
--- the text of a plant and of one optional row for each turn and cell
+-- the text of a plant and of one optional row for each turn and cell: the lines of runs have the rank and the input
 abbrev pub patrol_text : Description → List (List (Option Row)) → List ℕ
-patrol_text p rows = patrol_line ++ text_of p ++ concat (turn_lines 0 rows ++ end_line ∷ [])
+patrol_text p rows = rows_text Patrol p rows
 
 -- What a patrol text says.
 pub record PatrolModel : Type 0 where

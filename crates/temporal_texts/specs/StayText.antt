@@ -1,25 +1,18 @@
 -- The text of a plant with its rows of reach and stay.
-use Rattle.std.specs.Prelude.{◌≡◌, ℕ, ◌<◌, ℤ, List, [], ◌∷◌, ◌++◌, length, Option, Some, IfSome, codes}
-use Rattle.std.specs.List.{All, concat}
+use Rattle.std.specs.Prelude.{◌≡◌, ℕ, ◌<◌, ℤ, List, [], ◌∷◌, length, Option, Some, IfSome}
+use Rattle.std.specs.List.{All}
 use Rattle.game_core.specs.declared.game.Row.{Row}
 use Rattle.game_core.specs.Solution.{row_of}
-use Rattle.row_runs.specs.declared.row_format.RowFormat.TheVariants.{Both}
-use Rattle.row_runs.specs.RunText.{run_lines, count_line, end_line}
-use Rattle.base.specs.Lines.{line}
 use Rattle.grid_quantiser.specs.Axes.{cells_of}
 use Rattle.grid_quantiser.specs.Cells.{IsInDomain, cell_of}
 use Rattle.plant_record.specs.Description.{Description, axes_of, vectors_of}
 use Rattle.plant_record.specs.Limits.{IsWithinLimits}
-use Rattle.plant_writing.specs.CanonicalText.{text_of}
+use Rattle.controller_table.specs.declared.text_kind.TextKind.TheVariants.{Stay}
+use Rattle.controller_table.specs.KindTexts.{rows_text}
 
--- the first line
-abbrev pub stay_line : List ℕ
-stay_line = line (codes "stay" ∷ codes "1" ∷ [])
-
--- the text of a plant and of one optional row for each of its cells: the lines of runs have the rank and the input
+-- the text of a plant and of one optional row for each of its cells: of one turn, and the lines of runs have the rank and the input
 abbrev pub stay_text : Description → List (Option Row) → List ℕ
-stay_text p rows =
-    stay_line ++ text_of p ++ concat (count_line (length (run_lines Both rows)) ∷ run_lines Both rows ++ end_line ∷ [])
+stay_text p rows = rows_text Stay p (rows ∷ [])
 
 -- What a stay text says.
 pub record StayModel : Type 0 where

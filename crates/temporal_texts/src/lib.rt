@@ -7,7 +7,6 @@
 #![tactic(auto)]
 
 pub mod laws;
-mod patrol_fault;
 mod patrol_reader;
 mod patrol_table;
 mod patrol_writer;
@@ -15,10 +14,9 @@ mod stay_reader;
 mod stay_table;
 mod stay_writer;
 mod turn_lines;
-mod turn_reader;
 
-pub use patrol_fault::PatrolFault;
-pub use patrol_reader::{PATROL_LIMIT, read_patrol};
+pub use controller_table::{PATROL_LIMIT, TextFault as PatrolFault};
+pub use patrol_reader::read_patrol;
 pub use patrol_table::PatrolTable;
 pub use patrol_writer::PatrolWriter;
 pub use stay_reader::read_stay;

@@ -3,10 +3,12 @@ ghost use Rattle.grid_quantiser.specs.Axes.{cells_of};
 ghost use Rattle.game_core.specs.Solution.{row_of};
 ghost use Rattle.plant_record.specs.Description.{axes_of};
 ghost use Rattle.plant_record.specs.Limits.{IsWithinLimits};
+ghost use Rattle.controller_table.specs.declared.text_kind.TextKind.TheVariants.{Patrol};
 ghost use Rattle.temporal_texts.specs.PatrolText.{IsPatrolRowOf, PatrolRowsFit};
 ghost use Rattle.turn_rows.specs.Rows.{rows_for};
-ghost use Rattle.temporal_texts.specs.PatrolRefusals.{HasFewTurns};
+ghost use Rattle.controller_table.specs.TextKinds.{HasFewTurns};
 
+use controller_table::RowsText;
 use game_core::Row;
 use plant_record::Plant;
 use std::marker::Model;
@@ -24,7 +26,7 @@ impl Model for PatrolTable {
     ghost use Rattle.fixed_expr.specs.inside.Postfix.{expression_code};
     ghost use Rattle.plant_record.specs.Limits.{IsWithinLimits};
     ghost use Rattle.temporal_texts.specs.PatrolText.{PatrolModel, PatrolRowsFit};
-    ghost use Rattle.temporal_texts.specs.PatrolRefusals.{HasFewTurns};
+    ghost use Rattle.controller_table.specs.TextKinds.{HasFewTurns};
 
     ghost Value = { PatrolModel };
 
@@ -36,12 +38,12 @@ impl Model for PatrolTable {
 }
 
 impl PatrolTable {
-    pub(crate) fn new(plant: Plant, rows: PatrolRows) -> PatrolTable
-        requires limits { IsWithinLimits plant }
-        requires few { HasFewTurns plant }
-        requires fit { PatrolRowsFit plant rows }
-        ensures { result ≡ record { plant = plant; rows = rows } }
+    /// What a patrol text says.
+    pub(crate) fn of(text: RowsText) -> PatrolTable
+        requires { text.kind ≡ Patrol }
+        ensures { result ≡ record { plant = text.plant; rows = text.turns } }
     {
+        let (_, plant, rows) = text.into_parts();
         PatrolTable { plant, rows }
     }
 

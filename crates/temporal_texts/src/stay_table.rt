@@ -1,10 +1,12 @@
-ghost use Rattle.std.specs.Prelude.{◌≡◌, ◌<◌, IfSome};
+ghost use Rattle.std.specs.Prelude.{◌≡◌, ◌<◌, [], ◌∷◌, IfSome};
 ghost use Rattle.grid_quantiser.specs.Axes.{cells_of};
 ghost use Rattle.game_core.specs.Solution.{row_of};
 ghost use Rattle.plant_record.specs.Description.{axes_of};
 ghost use Rattle.plant_record.specs.Limits.{IsWithinLimits};
+ghost use Rattle.controller_table.specs.declared.text_kind.TextKind.TheVariants.{Stay};
 ghost use Rattle.temporal_texts.specs.StayText.{IsStayRowOf, StayRowsFit};
 
+use controller_table::RowsText;
 use game_core::{Answer, Row};
 use plant_record::Plant;
 use std::marker::Model;
@@ -32,12 +34,17 @@ impl Model for StayTable {
 }
 
 impl StayTable {
-    pub(crate) fn new(plant: Plant, answer: Answer) -> StayTable
-        requires limits { IsWithinLimits plant }
-        requires fit { StayRowsFit plant answer }
-        ensures { result ≡ record { plant = plant; rows = answer } }
+    /// What a stay text says.
+    pub(crate) fn of(text: RowsText) -> StayTable
+        requires { text.kind ≡ Stay }
+        ensures plant { result.plant ≡ text.plant }
+        ensures rows { text.turns ≡ result.rows ∷ [] }
     {
-        StayTable { plant, answer }
+        let (_, plant, turns) = text.into_parts();
+        StayTable {
+            plant,
+            answer: turns.into_only(),
+        }
     }
 
     /// The plant whose cells have the rows.

@@ -1,6 +1,9 @@
 ghost use Rattle.std.specs.Prelude.{◌≡◌, ◌<◌, ◌≤◌, ◌++◌, [], length, take, drop};
 ghost use Rattle.std.specs.List.{concat};
-ghost use Rattle.temporal_texts.specs.PatrolText.{turn_line, turn_lines};
+ghost use Rattle.row_runs.specs.declared.row_format.RowFormat.TheVariants.{Both};
+ghost use Rattle.row_runs.specs.declared.run.TableVersion.TheVariants.{Second};
+ghost use Rattle.row_reading.specs.declared.row_rules.TurnHead.TheVariants.{Numbered};
+ghost use Rattle.row_reading.specs.RowsTexts.{turn_line, lines_by};
 ghost use Rattle.temporal_texts.specs.inside.Left.{left_of};
 
 use row_runs::{LineText, RowFormat, RunLines, count_runs};
@@ -22,12 +25,15 @@ pub(crate) struct TurnLines<'a> {
 impl<'a> Model for TurnLines<'a> {
     ghost use Rattle.std.specs.Prelude.{List, ℕ, ◌++◌, drop, ◌≤◌, length};
     ghost use Rattle.std.specs.List.{concat};
-    ghost use Rattle.temporal_texts.specs.PatrolText.{turn_lines};
+    ghost use Rattle.row_runs.specs.declared.row_format.RowFormat.TheVariants.{Both};
+    ghost use Rattle.row_runs.specs.declared.run.TableVersion.TheVariants.{Second};
+    ghost use Rattle.row_reading.specs.declared.row_rules.TurnHead.TheVariants.{Numbered};
+    ghost use Rattle.row_reading.specs.RowsTexts.{lines_by};
     ghost use Rattle.temporal_texts.specs.inside.Left.{left_of};
 
     ghost Value = { List ℕ };
 
-    ghost view = { λ t. t.line ++ (left_of t.runs ++ concat (turn_lines t.turn (drop t.turn t.rows.now))) };
+    ghost view = { λ t. t.line ++ (left_of t.runs ++ concat (lines_by Numbered Second Both t.turn (drop t.turn t.rows.now))) };
 
     ghost invariant = { λ t. t.turn ≤ length t.rows.now };
 }
@@ -35,7 +41,7 @@ impl<'a> Model for TurnLines<'a> {
 impl<'a> TurnLines<'a> {
     /// The lines of all turns.
     pub(crate) fn new(rows: &'a PatrolRows) -> TurnLines<'a>
-        ensures { result ≡ concat (turn_lines 0 rows.now) }
+        ensures { result ≡ concat (lines_by Numbered Second Both 0 rows.now) }
     {
         TurnLines {
             rows,

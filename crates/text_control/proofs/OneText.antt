@@ -14,8 +14,8 @@ use Rattle.temporal_texts.specs.PatrolText.{IsPatrolText, HasPatrolRow}
 use Rattle.turn_rows.specs.Rows.{rows_for}
 use Rattle.temporal_texts.proofs.OneStayText.{one_stay_text}
 use Rattle.temporal_texts.proofs.OnePatrolText.{one_patrol_text}
-use Rattle.text_control.specs.declared.text_kind.TextKind.{TextKind}
-use Rattle.text_control.specs.declared.text_kind.TextKind.TheVariants.{Table, Stay, Patrol}
+use Rattle.controller_table.specs.declared.text_kind.TextKind.{TextKind}
+use Rattle.controller_table.specs.declared.text_kind.TextKind.TheVariants.{Table, Stay, Patrol}
 use Rattle.text_control.specs.Texts.{TextModel, due_rows, TellsAs}
 use Rattle.text_control.specs.Control.{AppliesAs, HasTextRank, AreTextValues}
 

@@ -15,8 +15,8 @@ use Rattle.controller_table.specs.Tables.{IsTable}
 use Rattle.controller_table.proofs.OneTable.{one_choice}
 use Rattle.plant_refine.specs.Drives.{Comes}
 use Rattle.plant_refine.specs.Stays.{HasSomeRow, Stays}
-use Rattle.text_control.specs.declared.text_kind.TextKind.{TextKind}
-use Rattle.text_control.specs.declared.text_kind.TextKind.TheVariants.{Table}
+use Rattle.controller_table.specs.declared.text_kind.TextKind.{TextKind}
+use Rattle.controller_table.specs.declared.text_kind.TextKind.TheVariants.{Table}
 use Rattle.text_control.specs.Texts.{TextModel, due_rows, Tells, TellsAs}
 use Rattle.text_control.specs.Control.{AppliesAs, HasTextRank, AreTextValues, IsRank}
 use Rattle.text_control.specs.Loops.{LoopSample, moved_by, Answers, AlwaysAnswers, IsLoop}

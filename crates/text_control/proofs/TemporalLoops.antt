@@ -12,8 +12,8 @@ use Rattle.temporal_texts.specs.TextTrajectories.{Sample, state_after, IsStayTra
 use Rattle.temporal_texts.specs.TextTrajectories as texts
 use Rattle.turn_rows.specs.Targets.{target_at}
 use Rattle.temporal_texts.proofs.TextLaws.{stay_trajectories_settle, patrol_trajectories_go_on}
-use Rattle.text_control.specs.declared.text_kind.TextKind.{TextKind}
-use Rattle.text_control.specs.declared.text_kind.TextKind.TheVariants.{Stay, Patrol}
+use Rattle.controller_table.specs.declared.text_kind.TextKind.{TextKind}
+use Rattle.controller_table.specs.declared.text_kind.TextKind.TheVariants.{Stay, Patrol}
 use Rattle.text_control.specs.declared.visits.Visit.{Visit}
 use Rattle.text_control.specs.declared.visits.Visit.TheVariants.{Next, Same, WrongSize}
 use Rattle.text_control.specs.Texts.{TextModel, Tells, TellsAs}

@@ -9,13 +9,13 @@ use Rattle.row_runs.specs.declared.run.TableVersion.TheVariants.{First, Second}
 use Rattle.controller_table.specs.Tables.{IsTable}
 use Rattle.controller_table.specs.TableText.{version_line, lines_after}
 use Rattle.controller_table.proofs.OneRefusal as tables
-use Rattle.temporal_texts.specs.StayText.{stay_line}
-use Rattle.temporal_texts.specs.PatrolText.{patrol_line}
-use Rattle.temporal_texts.specs.PatrolRefusals.{HasFewTurns}
+use Rattle.controller_table.specs.TextKinds.{stay_line}
+use Rattle.controller_table.specs.TextKinds.{patrol_line}
+use Rattle.controller_table.specs.TextKinds.{HasFewTurns}
 use Rattle.temporal_texts.proofs.TextLaws as texts
 use Rattle.text_control.specs.declared.text_fault.TextFault.{TextFault}
-use Rattle.text_control.specs.declared.text_kind.TextKind.{TextKind}
-use Rattle.text_control.specs.declared.text_kind.TextKind.TheVariants.{Table, Stay, Patrol}
+use Rattle.controller_table.specs.declared.text_kind.TextKind.{TextKind}
+use Rattle.controller_table.specs.declared.text_kind.TextKind.TheVariants.{Table, Stay, Patrol}
 use Rattle.text_control.specs.Texts.{TextModel, TellsAs, Tells, HasFirstLine, IsTextRefusedFor, fault_of_table, fault_of_patrol}
 use Rattle.text_control.specs.Laws.{ReadTextsTell, OneTextRefusal, TextOrRefused, NoBytesAreNeither}
 

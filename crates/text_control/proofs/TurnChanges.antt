@@ -5,8 +5,8 @@ use Rattle.game_core.specs.declared.game.Row.{Row}
 use Rattle.temporal_texts.specs.PatrolText.{IsPatrolText, IsArrivalIn}
 use Rattle.text_control.specs.declared.visits.Visit.{Visit}
 use Rattle.text_control.specs.declared.visits.Visit.TheVariants.{Next, Same, WrongSize}
-use Rattle.text_control.specs.declared.text_kind.TextKind.{TextKind}
-use Rattle.text_control.specs.declared.text_kind.TextKind.TheVariants.{Patrol}
+use Rattle.controller_table.specs.declared.text_kind.TextKind.{TextKind}
+use Rattle.controller_table.specs.declared.text_kind.TextKind.TheVariants.{Patrol}
 use Rattle.text_control.specs.Texts.{TextModel, Tells, TellsAs}
 use Rattle.text_control.specs.Visits.{turn_after, HasArrivedInTurn, IsVisit, IsVisitByText}
 use Rattle.text_control.proofs.OneText.{patrol_row, has_patrol_row}

@@ -8,8 +8,8 @@ use Rattle.temporal_texts.specs.StayText.{HasStayRow}
 use Rattle.temporal_texts.specs.PatrolText.{HasPatrolRow}
 use Rattle.text_control.specs.declared.reply.Reply.{Reply}
 use Rattle.text_control.specs.declared.reply.Reply.TheVariants as replies
-use Rattle.text_control.specs.declared.text_kind.TextKind.{TextKind}
-use Rattle.text_control.specs.declared.text_kind.TextKind.TheVariants.{Table, Stay, Patrol}
+use Rattle.controller_table.specs.declared.text_kind.TextKind.{TextKind}
+use Rattle.controller_table.specs.declared.text_kind.TextKind.TheVariants.{Table, Stay, Patrol}
 use Rattle.text_control.specs.Texts.{TextModel, due_rows, Tells}
 
 -- One number for each state, and room for one for each input variable.

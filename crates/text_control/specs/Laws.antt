@@ -8,10 +8,10 @@ use Rattle.row_runs.specs.declared.run.TableVersion.{TableVersion}
 use Rattle.temporal_texts.specs.Settles.{Settles}
 use Rattle.turn_rows.specs.Targets.{target_at}
 use Rattle.temporal_texts.specs.Patrols.{Patrols}
-use Rattle.temporal_texts.specs.PatrolRefusals.{HasFewTurns}
+use Rattle.controller_table.specs.TextKinds.{HasFewTurns}
 use Rattle.plant_refine.specs.Drives.{Drives}
 use Rattle.plant_refine.specs.Stays.{Stays}
-use Rattle.text_control.specs.declared.text_kind.TextKind.TheVariants.{Table, Stay, Patrol}
+use Rattle.controller_table.specs.declared.text_kind.TextKind.TheVariants.{Table, Stay, Patrol}
 use Rattle.text_control.specs.declared.text_fault.TextFault.{TextFault}
 use Rattle.text_control.specs.Texts.{TextModel, Tells, IsReadFrom, IsTextRefusedFor}
 use Rattle.text_control.specs.Control.{IsRank}

@@ -9,15 +9,17 @@ use Rattle.controller_table.specs.declared.table_fault.TableFault.{TableFault}
 use Rattle.controller_table.specs.declared.table_fault.TableFault.TheVariants as tables
 use Rattle.controller_table.specs.Tables.{TableModel, IsTable, IsTableIn}
 use Rattle.controller_table.specs.TableRefusals.{IsTableRefusedFor}
-use Rattle.temporal_texts.specs.declared.patrol_fault.PatrolFault.{PatrolFault}
-use Rattle.temporal_texts.specs.declared.patrol_fault.PatrolFault.TheVariants as patrols
-use Rattle.temporal_texts.specs.StayText.{StayModel, stay_line, IsStayText}
+use Rattle.controller_table.specs.declared.text_fault.TextFault.{TextFault as PatrolFault}
+use Rattle.controller_table.specs.declared.text_fault.TextFault.TheVariants as patrols
+use Rattle.controller_table.specs.TextKinds.{stay_line}
+use Rattle.temporal_texts.specs.StayText.{StayModel, IsStayText}
 use Rattle.temporal_texts.specs.StayRefusals.{IsStayRefusedFor}
-use Rattle.temporal_texts.specs.PatrolText.{PatrolModel, patrol_line, IsPatrolText}
+use Rattle.controller_table.specs.TextKinds.{patrol_line}
+use Rattle.temporal_texts.specs.PatrolText.{PatrolModel, IsPatrolText}
 use Rattle.turn_rows.specs.Rows.{rows_for}
 use Rattle.temporal_texts.specs.PatrolRefusals.{IsPatrolRefusedFor}
-use Rattle.text_control.specs.declared.text_kind.TextKind.{TextKind}
-use Rattle.text_control.specs.declared.text_kind.TextKind.TheVariants.{Table, Stay, Patrol}
+use Rattle.controller_table.specs.declared.text_kind.TextKind.{TextKind}
+use Rattle.controller_table.specs.declared.text_kind.TextKind.TheVariants.{Table, Stay, Patrol}
 use Rattle.text_control.specs.declared.text_fault.TextFault.{TextFault}
 use Rattle.text_control.specs.declared.text_fault.TextFault.TheVariants.{Malformed, Limit, Memory}
 

@@ -9,7 +9,7 @@ use Rattle.turn_rows.specs.Rows.{rows_for}
 use Rattle.temporal_texts.specs.TextTrajectories.{IsTurnFrom}
 use Rattle.text_control.specs.declared.visits.Visit.{Visit}
 use Rattle.text_control.specs.declared.visits.Visit.TheVariants.{Next, Same, WrongSize}
-use Rattle.text_control.specs.declared.text_kind.TextKind.TheVariants.{Patrol}
+use Rattle.controller_table.specs.declared.text_kind.TextKind.TheVariants.{Patrol}
 use Rattle.text_control.specs.Texts.{TextModel, Tells}
 
 -- the turn after the one that is due

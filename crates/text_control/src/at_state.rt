@@ -8,7 +8,7 @@ ghost use Rattle.text_control.specs.Control.{AreSized, AppliesAs, IsReply, IsRep
 use crate::packed_text::PackedText;
 use crate::reply::Reply;
 use crate::rows::row_at;
-use crate::text_kind::TextKind;
+use controller_table::TextKind;
 use game_core::Row;
 use plant_record::{GoalKind, Plant};
 

@@ -12,9 +12,8 @@ ghost use Rattle.text_control.specs.Visits.{with_turn};
 ghost use Rattle.text_control.specs.inside.Slopes.{AreSlopes};
 ghost use Rattle.successor_box.specs.Deviations.{HasNoOverflow, deviations_of};
 
-use crate::text_kind::TextKind;
 use base::NoMemory;
-use controller_table::Table;
+use controller_table::{Table, TextKind};
 use game_core::{Answer, Row};
 use packed_rows::PackedRows;
 use plant_record::Plant;

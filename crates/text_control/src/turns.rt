@@ -5,12 +5,12 @@ ghost use Rattle.grid_quantiser.specs.Axes.{cells_of};
 ghost use Rattle.plant_record.specs.Description.{axes_of};
 ghost use Rattle.plant_record.specs.Limits.{IsWithinLimits};
 ghost use Rattle.turn_rows.specs.Targets.{IsInTarget};
-ghost use Rattle.text_control.specs.declared.text_kind.TextKind.TheVariants.{Patrol};
+ghost use Rattle.controller_table.specs.declared.text_kind.TextKind.TheVariants.{Patrol};
 ghost use Rattle.text_control.specs.Visits.{with_turn, HasArrivedInTurn, BeginsAt, IsVisit, IsVisitByText};
 
 use crate::packed_text::PackedText;
-use crate::text_kind::TextKind;
 use crate::visits::Visit;
+use controller_table::TextKind;
 use plant_record::Plant;
 
 /// Begins the next turn where the state is an arrival of a patrol.

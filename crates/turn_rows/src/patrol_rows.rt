@@ -1,5 +1,5 @@
 //! What a solver of patrol gives.
-ghost use Rattle.std.specs.Prelude.{◌≡◌, ◌<◌, ◌^◌, length};
+ghost use Rattle.std.specs.Prelude.{◌≡◌, ◌<◌, ◌^◌, [], ◌∷◌, length};
 ghost use Rattle.game_core.specs.Solution.{row_of};
 ghost use Rattle.turn_rows.specs.Rows.{rows_for};
 
@@ -46,6 +46,18 @@ impl PatrolRows {
         ensures { result ≡ row_of (rows_for self.now turn) c }
     {
         self.turn(turn).row(c)
+    }
+
+    /// The rows of the only turn.
+    pub fn into_only(self) -> Answer
+        requires { length self ≡ 1 }
+        ensures { self ≡ result ∷ [] }
+    {
+        let mut answers = self.answers;
+        match answers.pop() {
+            Some(answer) => answer,
+            None => unreachable!(),
+        }
     }
 
     /// The rows of one turn.

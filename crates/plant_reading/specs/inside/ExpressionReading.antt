@@ -156,36 +156,60 @@ pair_of r b ts = do
   c ← bracketed r b rest
   Some (a.0, c.0, c.1)
 
--- a factor
-unfoldable pub factor_of : ℕ → (Ask → Read) → ℕ → List TokenKind → Read
-factor_of m r b (kind.Number k ∷ ts) = do
-  x ← literal_at (kind.Number k ∷ ts)
-  Some (NumExpr (pos x.0), x.1)
-factor_of m r b (kind.Variable i ∷ ts) = if nat_lt i m then Some (VarExpr i, ts) else None
-factor_of m r b (kind.Minus ∷ ts) = do
+-- a number
+abbrev pub number_at : List TokenKind → Read
+number_at ts = do
+  k ← literal_at ts
+  Some (NumExpr (pos k.0), k.1)
+
+-- the negative of a factor
+abbrev pub negative : (Ask → Read) → ℕ → List TokenKind → Read
+negative r b ts = do
   a ← r (Signed b ts)
   e ← kept (NegExpr a.0)
   Some (e, a.1)
-factor_of m r b (kind.Open ∷ ts) = bracketed r b ts
-factor_of m r b (kind.Min ∷ ts) = do
+
+-- the lesser of two sums in brackets
+abbrev pub minimum : (Ask → Read) → ℕ → List TokenKind → Read
+minimum r b ts = do
   x ← pair_of r b ts
   e ← kept (MinExpr x.0 x.1)
   Some (e, x.2)
-factor_of m r b (kind.Max ∷ ts) = do
+
+-- the greater of two sums in brackets
+abbrev pub maximum : (Ask → Read) → ℕ → List TokenKind → Read
+maximum r b ts = do
   x ← pair_of r b ts
   e ← kept (MaxExpr x.0 x.1)
   Some (e, x.2)
-factor_of m r b (kind.Abs ∷ ts) = do
+
+-- the absolute value of a sum in brackets
+abbrev pub absolute : (Ask → Read) → ℕ → List TokenKind → Read
+absolute r b ts = do
   opened ← after_open ts
   a ← bracketed r b opened
   e ← kept (AbsExpr a.0)
   Some (e, a.1)
-factor_of m r b (kind.Lut ∷ ts) = do
+
+-- a sum in brackets, looked up in the points after it
+abbrev pub looked_up : (Ask → Read) → ℕ → List TokenKind → Read
+looked_up r b ts = do
   opened ← after_open ts
   a ← r (Inside b opened)
   points ← curve_at a.1
   e ← kept (LutExpr a.0 points.0)
   Some (e, points.1)
+
+-- a factor
+unfoldable pub factor_of : ℕ → (Ask → Read) → ℕ → List TokenKind → Read
+factor_of m r b (kind.Number k ∷ ts) = number_at (kind.Number k ∷ ts)
+factor_of m r b (kind.Variable i ∷ ts) = if nat_lt i m then Some (VarExpr i, ts) else None
+factor_of m r b (kind.Minus ∷ ts) = negative r b ts
+factor_of m r b (kind.Open ∷ ts) = bracketed r b ts
+factor_of m r b (kind.Min ∷ ts) = minimum r b ts
+factor_of m r b (kind.Max ∷ ts) = maximum r b ts
+factor_of m r b (kind.Abs ∷ ts) = absolute r b ts
+factor_of m r b (kind.Lut ∷ ts) = looked_up r b ts
 factor_of m r b ts = None
 
 -- what stands after a term goes on with it, or it ends there

@@ -1,18 +1,14 @@
 -- How far rows are read. No public clause names this.
-use Rattle.std.specs.Prelude.{◌≡◌, ℕ, ◌+◌, ◌≤◌, List, [], ◌∷◌, ◌++◌, length, map, Option, Some, None}
+use Rattle.std.specs.Prelude.{◌≡◌, ℕ, ◌+◌, List, [], ◌∷◌, length, map, Option, Some, None}
 use Rattle.std.specs.List.{All}
 use Rattle.game_core.specs.declared.game.Row.{Row}
 use Rattle.row_runs.specs.declared.run.Run.{Run}
 use Rattle.row_runs.specs.Runs.{AreRuns, EncodeRows}
-use Rattle.row_runs.specs.RunText.{run_line, count_line}
+use Rattle.row_runs.specs.RunText.{run_line}
 use Rattle.read_texts.specs.Steps.{IsRead}
 use Rattle.row_reading.specs.declared.row_rules.RowRules.{RowRules}
 use Rattle.row_reading.specs.RowsTexts.{IsRunWithin}
-use Rattle.row_reading.specs.RowSteps.{Due, RunStep}
-
--- the number of row lines that is said at the front, at most this, and what stands after its line
-abbrev pub IsCountAt : ℕ → List ℕ → ℕ × List ℕ → Type 0
-IsCountAt most bytes y = (y.0 ≤ most) × (bytes ≡ count_line y.0 ++ y.1)
+use Rattle.row_reading.specs.TurnSteps.{Due, RunStep}
 
 -- the last of some runs
 abbrev pub last_run : List Run → Option Run

@@ -9,9 +9,10 @@ use Rattle.row_runs.specs.declared.run.TableVersion.TheVariants.{First, Second}
 use Rattle.row_runs.specs.Runs.{HasCells}
 use Rattle.row_runs.specs.RunText.{rank_field, input_field, run_line}
 use Rattle.row_reading.specs.declared.row_rules.RowRules.{RowRules}
+use Rattle.row_reading.specs.declared.row_rules.TurnRules.{TurnRules}
 use Rattle.row_reading.specs.Numbers.{IsNumberTo}
-use Rattle.row_reading.specs.RowsTexts.{Determines, IsRunWithin}
-use Rattle.row_reading.specs.RowSteps.{IsNextRow}
+use Rattle.row_reading.specs.RowsTexts.{Determines}
+use Rattle.row_reading.specs.TurnSteps.{IsNextRow}
 
 -- Numbers of 32 bits that a line gives.
 pub record IsSpelledRow (format : RowFormat) (row : Row) : Type 0 where
@@ -57,3 +58,8 @@ pub record AreSmall (rules : RowRules) : Type 0 where
   pub cells : rules.cells < 2 ^ 32
   pub vectors : rules.vectors < 2 ^ 32
   pub most_rank : rules.most_rank < 2 ^ 32
+
+-- Numbers of a text by turns that fit in 32 bits.
+pub record AreSmallTurns (rules : TurnRules) : Type 0 where
+  pub rows : AreSmall rules.rows
+  pub turns : rules.turns < 2 ^ 32

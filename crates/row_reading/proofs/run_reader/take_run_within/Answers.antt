@@ -1,6 +1,6 @@
 use Rattle.std.proofs.Common.{◌≡◌, ℕ, List, ◌++◌, subst, ap, sym, ◌∙◌}
 use Rattle.row_reading.specs.RowsTexts.{IsRunWithin}
-use Rattle.row_reading.specs.RowSteps.{MayStandAfter}
+use Rattle.row_reading.specs.TurnSteps.{MayStandAfter}
 use Rattle.row_reading.proofs.RunWords.{one_run}
 use Rattle.row_reading.proofs.RowGrammar.{spelled_run}
 use Rattle.row_reading.proofs.run_reader.take_run_within.Goals as goal

@@ -6,7 +6,8 @@ use Rattle.row_runs.specs.declared.row_format.RowFormat.TheVariants.{Both}
 use Rattle.row_runs.specs.declared.run.TableVersion.TheVariants.{Second}
 use Rattle.row_runs.specs.Runs.{runs_from}
 use Rattle.row_runs.specs.RunText.{run_lines}
-use Rattle.temporal_texts.specs.PatrolText.{turn_lines}
+use Rattle.row_reading.specs.declared.row_rules.TurnHead.TheVariants.{Numbered}
+use Rattle.row_reading.specs.RowsTexts.{lines_by}
 use Rattle.temporal_texts.specs.inside.Left.{left_of}
 use Rattle.temporal_texts.proofs.TurnTexts.{begun, copied_within, taken, dropped}
 use Rattle.temporal_texts.proofs.turn_lines.TurnLinesPieces.copy_some.Goals.{then-is_empty+else-count-gt0+else-self-turns, else-is_empty}
@@ -14,7 +15,7 @@ use Rattle.temporal_texts.proofs.turn_lines.TurnLinesPieces.copy_some.Goals as g
 
 -- what is left after the line, once there is one
 after : goal.After-advance → List ℕ
-after c = left_of c.if-is_empty.self-inside.runs ++ concat (turn_lines c.if-is_empty.self-inside.turn (drop c.if-is_empty.self-inside.turn c.if-is_empty.self-inside.rows.now))
+after c = left_of c.if-is_empty.self-inside.runs ++ concat (lines_by Numbered Second Both c.if-is_empty.self-inside.turn (drop c.if-is_empty.self-inside.turn c.if-is_empty.self-inside.rows.now))
 
 in_pieces : (c : goal.After-advance) → c.args.self.now ≡ c.if-is_empty.self-inside.line ++ after c
 unfolding after
@@ -26,8 +27,8 @@ in_pieces c = elim c.if-is_empty.branch [
       let more = w.if-self-turns.false in
       let now = begun c.self.inside.rows.now c.self.inside.turn w.count_runs.result c.args.self.now c.self.inside.line (left_of c.self.inside.runs) w.write_turn.new.line w.new.result c.self.view_is (omega (arith, empty, line)) (w.copy_runs-count.ensures.some (omega (arith, copied)))
       (omega (arith, more, w.turns.ensures, c.self.invariant)) w.write_turn.ensures.text (w.count_runs.ensures.count ∙ ap (λ (r : List (Option Row)). length (runs_from Second 0 r)) w.turn-rows.ensures) (w.new.ensures ∙ ap (λ (r : List (Option Row)). concat (run_lines Both r)) w.turn-rows.ensures) in
-      subst (λ s. c.args.self.now ≡ s.line ++ (left_of s.runs ++ concat (turn_lines s.turn (drop s.turn s.rows.now)))) (sym w.self-inside-is) now)
-  | else-is_empty w ↦ subst (λ s. c.args.self.now ≡ s.line ++ (left_of s.runs ++ concat (turn_lines s.turn (drop s.turn s.rows.now)))) (sym w.self-inside-is) (sym c.self.view_is)
+      subst (λ s. c.args.self.now ≡ s.line ++ (left_of s.runs ++ concat (lines_by Numbered Second Both s.turn (drop s.turn s.rows.now)))) (sym w.self-inside-is) now)
+  | else-is_empty w ↦ subst (λ s. c.args.self.now ≡ s.line ++ (left_of s.runs ++ concat (lines_by Numbered Second Both s.turn (drop s.turn s.rows.now)))) (sym w.self-inside-is) (sym c.self.view_is)
 ]
 
 within : (c : goal.After-advance) → c.copy_prefix-count.result ≤ length c.if-is_empty.self-inside.line

@@ -1,0 +1,14 @@
+use Rattle.std.proofs.Common.{sym, ap, subst, ◌∙◌}
+use Rattle.controller_table.specs.KindTexts.{RowsModel, HoldsRows}
+use Rattle.controller_table.proofs.TableTexts.{rows_held}
+use Rattle.controller_table.proofs.table.Table.of.Goals as goal
+
+pub invariant_of-result : goal.invariant_of-result
+invariant_of-result c =
+    let parts = c.into_parts-plant.ensures.parts in
+    let held = subst HoldsRows (sym parts) c.into_parts-plant.ensures.holds in
+    let kind = ap (λ (t : RowsModel). t.kind) parts ∙ c.requires in (
+      held.limits,
+      rows_held c.args.version _ c.into_parts-plant.result.1 c.into_parts-plant.result.2 c.into_only-answer.result kind c.into_only-answer.ensures held.within,
+      c.row_count-rows.ensures,
+    )

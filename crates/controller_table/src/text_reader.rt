@@ -1,0 +1,68 @@
+//! Reads what stands after the first line of a text.
+
+ghost use Rattle.std.specs.Prelude.{◌≡◌, ◌≢◌, ◌+◌, ◌^◌, ◌<◌, ◌≤◌, ◌++◌, ℕ, length, IfOk, IfErr};
+ghost use Rattle.plant_record.specs.Limits.{IsWithinLimits};
+ghost use Rattle.plant_text.specs.CanonicalFronts.{IsFront};
+ghost use Rattle.row_reading.specs.Counting.{line_count};
+ghost use Rattle.controller_table.specs.declared.text_fault.TextFault.TheVariants.{Memory};
+ghost use Rattle.controller_table.specs.TextKinds.{first_line};
+ghost use Rattle.controller_table.specs.KindTexts.{IsTextOf};
+ghost use Rattle.controller_table.specs.inside.TextReading.{IsRefusedAfter, IsPlantRefused, fault_of_front};
+
+use crate::rows_text::RowsText;
+use crate::text_fault::TextFault;
+use crate::text_kind::TextKind;
+use plant_text::{Front, PlantFault, read_front};
+use row_reading::{line_count, read_turns};
+use std::alloc::Global;
+
+/// Reads the text of a kind from what stands after its first line, or answers why it is none. So many bytes have lines that 32 bits
+/// count.
+pub fn read_after(alloc: Global, kind: TextKind, rest: &[u8]) -> Result<RowsText, TextFault>
+    requires { length rest.now < 2 ^ 30 }
+    ensures kind { IfOk result (λ t. t.kind ≡ kind) }
+    ensures read { IfOk result (λ t. IsTextOf kind (first_line kind ++ rest.now) t.plant t.turns) }
+    ensures refused { IfErr result (λ fault. fault ≢ Memory → IsRefusedAfter kind rest.now fault) }
+{
+    let Front { plant, length } = take_plant(alloc, rest)?;
+    if !kind.has_few_turns(&plant) {
+        return Err(TextFault::Turns);
+    }
+    match read_turns(alloc, kind.rules(&plant), &rest[length..]) {
+        Ok(turns) => Ok(RowsText::new(kind, plant, turns)),
+        Err(fault) => Err(fault.after(1 + lines_in(&rest[..length])).into()),
+    }
+}
+
+/// How many lines end in the bytes.
+fn lines_in(bytes: &[u8]) -> u32
+    requires { length bytes.now < 2 ^ 30 }
+    ensures count { result ≡ line_count bytes.now }
+    ensures bound { result ≤ length bytes.now }
+{
+    line_count(bytes) as u32
+}
+
+/// The plant whose text stands after the first line.
+fn take_plant(alloc: Global, bytes: &[u8]) -> Result<Front, TextFault>
+    requires { length bytes.now < 2 ^ 30 }
+    ensures read { IfOk result (λ f. IsFront bytes.now f.plant f.length × IsWithinLimits f.plant) }
+    ensures refused { IfErr result (λ fault. IsPlantRefused bytes.now fault) }
+{
+    match read_front(alloc, bytes) {
+        Ok(front) => Ok(front),
+        Err(fault) => Err(after_first_line(fault)),
+    }
+}
+
+/// The fault of a text whose plant has this fault.
+fn after_first_line(fault: PlantFault) -> TextFault
+    requires { (line : ℕ) → fault ≡ PlantFault.Malformed line → line + 1 < 2 ^ 32 }
+    ensures { result ≡ fault_of_front fault }
+{
+    match fault {
+        PlantFault::Malformed { line } => TextFault::Malformed { line: line + 1 },
+        PlantFault::Limit { what } => TextFault::Limit { what },
+        PlantFault::Memory => TextFault::Memory,
+    }
+}

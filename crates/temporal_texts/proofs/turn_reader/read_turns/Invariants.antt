@@ -1,9 +1,0 @@
-use Rattle.std.proofs.Common.{◌≡◌, length}
-use Rattle.temporal_texts.specs.inside.ReadTurns.{AreTurnsRead}
-use Rattle.temporal_texts.proofs.turn_reader.read_turns.Given as goal
-
-abbrev pub invariant-loop-turn : goal.invariant-loop-turn
-invariant-loop-turn l = record {
-  turns : length l.answers.items ≡ l.turn;
-  read : AreTurnsRead l.p l.lines l.bytes l.rest l.answers.items;
-}
