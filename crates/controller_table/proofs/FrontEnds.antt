@@ -8,8 +8,8 @@ use Rattle.plant_record.specs.declared.version.PlantVersion.{PlantVersion}
 use Rattle.plant_record.specs.Description.{Description, axes_of, vectors_of}
 use Rattle.plant_record.specs.Limits.{IsWithinLimits, Exceeds}
 use Rattle.plant_record.specs.Plants.{IsPlant}
-use Rattle.read_texts.specs.Steps.{IsReading}
-use Rattle.read_texts.proofs.Laws.{undeniable}
+use Rattle.text_pieces.specs.Steps.{IsReading}
+use Rattle.text_pieces.proofs.Laws.{undeniable}
 use Rattle.plant_text.specs.Grammar.{PartialPlant, nothing_yet, IsWhole}
 use Rattle.plant_text.specs.CanonicalFronts.{FrontStep, IsFrontEnded, IsFirstRefusedAtFront, IsFront}
 use Rattle.plant_text.specs.inside.PartialPlantRules.{KeepsRules}

@@ -14,8 +14,8 @@ use Rattle.plant_text.specs.declared.plant_fault.PlantFault.{PlantFault}
 use Rattle.plant_text.specs.declared.plant_fault.PlantFault.TheVariants as front
 use Rattle.plant_text.specs.CanonicalFronts.{IsFront, IsFirstRefusedAtFront, IsFrontRefusedFor}
 use Rattle.plant_text.proofs.lemmas.CanonicalFronts as fronts
-use Rattle.read_texts.proofs.Laws.{one_by_length}
-use Rattle.read_texts.proofs.Undeniable.{either}
+use Rattle.text_pieces.proofs.Laws.{one_by_length}
+use Rattle.text_pieces.proofs.Undeniable.{either}
 use Rattle.row_reading.specs.Counting.{line_count}
 use Rattle.row_reading.specs.RowsTexts.{turn_lines, AreTurnsText}
 use Rattle.row_reading.specs.TurnSteps.{AreTurnsRefusedAt}

@@ -1,7 +1,7 @@
 -- Why no plant is read after a table's first line.
 use Rattle.std.proofs.Common.{ℕ, ◌+◌, ◌≤◌, List, [], ◌∷◌, length, length-append, ap, arith}
 use Rattle.std.specs.Prelude.{codes}
-use Rattle.read_texts.specs.Steps.{joined, Leads}
+use Rattle.text_pieces.specs.Steps.{joined, Leads}
 use Rattle.plant_text.specs.Grammar.{PartialPlant, nothing_yet}
 use Rattle.plant_text.specs.CanonicalFronts.{FrontStep, IsFirstRefusedAtFront}
 

@@ -2,8 +2,8 @@
 use Rattle.std.proofs.Common.{inl, inr, ◌≡◌, ◌≢◌, ℕ, suc, ◌+◌, ◌<◌, List, [], ◌∷◌, ◌++◌, length, refl, ap, sym, ◌∙◌, subst, arith, append_assoc, append-nil, length-append, Option, Some, None}
 use Rattle.std.specs.Prelude.{ℤ, IfSome}
 use Rattle.controller_table.specs.Tables.{TableModel}
-use Rattle.read_texts.specs.Steps.{joined, IsRead}
-use Rattle.read_texts.proofs.Laws.{joined_more, read_on}
+use Rattle.text_pieces.specs.Steps.{joined, IsRead}
+use Rattle.text_pieces.proofs.Laws.{joined_more, read_on}
 use Rattle.row_reading.specs.Counting.{line_count}
 use Rattle.live_script.specs.declared.command.ScriptCommand.{ScriptCommand}
 use Rattle.live_script.specs.declared.command.ScriptCommand.TheVariants.{Publish, Ask}

@@ -3,7 +3,7 @@ use Rattle.std.proofs.Common.{◌≡◌, ℕ, ◌<◌, ◌≤◌, List, [], ◌�
 use Rattle.std.specs.Prelude.{ℤ}
 use Rattle.std.proofs.lemmas.List.{append_cancel_right}
 use Rattle.controller_table.specs.Tables.{TableModel}
-use Rattle.read_texts.specs.Steps.{IsGrammar}
+use Rattle.text_pieces.specs.Steps.{IsGrammar}
 use Rattle.live_script.specs.declared.command.ScriptCommand.{ScriptCommand}
 use Rattle.live_script.specs.declared.command.ScriptCommand.TheVariants.{Publish, Ask}
 use Rattle.live_script.specs.Scripts.{publish_line, ask_line, Spell, FitsAfter, published_tables, CommandStep, IsScriptEnd}

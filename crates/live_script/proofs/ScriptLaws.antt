@@ -3,8 +3,8 @@ use Rattle.std.proofs.Common.{◌≡◌, ◌⊎◌, ℕ, suc, ◌<◌, List, [],
 use Rattle.std.specs.Prelude.{ℤ}
 use Rattle.controller_table.specs.declared.table_fault.TableFault.{TableFault}
 use Rattle.controller_table.specs.declared.table_fault.TableFault.TheVariants as tables
-use Rattle.read_texts.specs.Steps.{joined, IsFirstRefused}
-use Rattle.read_texts.proofs.Laws as texts
+use Rattle.text_pieces.specs.Steps.{joined, IsFirstRefused}
+use Rattle.text_pieces.proofs.Laws as texts
 use Rattle.row_reading.specs.Counting.{line_count}
 use Rattle.controller_table.specs.Tables.{TableModel}
 use Rattle.controller_table.specs.TableRefusals.{IsTableRefusedFor}

@@ -2,8 +2,8 @@
 use Rattle.std.proofs.Common.{◌≡◌, ℕ, suc, ◌<◌, ◌≤◌, List, [], ◌∷◌, ◌++◌, length, take, drop, inl, inr, refl, sym, ap, subst, ◌∙◌, arith, append_assoc, length-take, take-append-drop}
 use Rattle.std.proofs.lemmas.Bool.{cases_lt}
 use Rattle.controller_table.proofs.OneRefusal.{no_text_is_neither}
-use Rattle.read_texts.specs.Steps.{joined, IsReading, IsFirstRefused}
-use Rattle.read_texts.proofs.Laws.{met, undeniable}
+use Rattle.text_pieces.specs.Steps.{joined, IsReading, IsFirstRefused}
+use Rattle.text_pieces.proofs.Laws.{met, undeniable}
 use Rattle.row_reading.specs.Counting.{line_count}
 use Rattle.live_script.specs.declared.command.ScriptCommand.{ScriptCommand}
 use Rattle.live_script.specs.declared.command.ScriptCommand.TheVariants.{Publish, Ask}

@@ -2,7 +2,7 @@
 use Rattle.std.specs.Prelude.{◌≡◌, ◌≢◌, ◌⊎◌, ℕ, suc, ◌+◌, ◌<◌, ◌≤◌, ℤ, List, [], ◌++◌, length}
 use Rattle.controller_table.specs.declared.table_fault.TableFault.{TableFault}
 use Rattle.controller_table.specs.declared.table_fault.TableFault.TheVariants as tables
-use Rattle.read_texts.specs.Steps.{joined, IsRead}
+use Rattle.text_pieces.specs.Steps.{joined, IsRead}
 use Rattle.row_reading.specs.Counting.{line_count}
 use Rattle.controller_table.specs.TableRefusals.{IsTableRefusedFor}
 use Rattle.live_script.specs.declared.command.ScriptCommand.{ScriptCommand}

@@ -3,7 +3,7 @@ use Rattle.std.specs.Prelude.{◌≡◌, ℕ, suc, ◌<◌, ◌≤◌, ℤ, List
 use Rattle.std.specs.Fmt.{decimal, signed_decimal}
 use Rattle.base.specs.Lines.{line}
 use Rattle.controller_table.specs.Tables.{TableModel, IsTableIn}
-use Rattle.read_texts.specs.Steps.{IsReading}
+use Rattle.text_pieces.specs.Steps.{IsReading}
 use Rattle.live_script.specs.declared.command.ScriptCommand.{ScriptCommand}
 use Rattle.live_script.specs.declared.command.ScriptCommand.TheVariants.{Publish, Ask}
 use Rattle.command_line.specs.Command.{AreStateNumbers}

@@ -10,7 +10,7 @@ use Rattle.base.specs.Lines.{line}
 use Rattle.plant_writing.specs.CanonicalText.{text_of, state_line, input_line, noise_line, equation_line, box_line}
 use Rattle.plant_reading.specs.Statements.{Statement, Version, State, Input, Noise, Next, Target, Obstacle, Goal, End}
 use Rattle.plant_text.specs.Grammar.{PartialPlant, nothing_yet, names_in, IsStated}
-use Rattle.read_texts.specs.Steps.{IsFirstRefused}
+use Rattle.text_pieces.specs.Steps.{IsFirstRefused}
 
 -- a statement's line in the canonical text, where the variables have these names and the first n are states
 abbrev pub statement_line : List (List ℕ) → ℕ → Statement → List ℕ

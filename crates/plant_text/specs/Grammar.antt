@@ -15,7 +15,7 @@ use Rattle.plant_record.specs.Description.{Description, names_over}
 use Rattle.plant_reading.specs.Lines.{lines_of}
 use Rattle.plant_reading.specs.Words.{words_of, is_skipped}
 use Rattle.plant_reading.specs.Statements.{Statement, Version, State, Input, Noise, Next, Target, Obstacle, Goal, End, States}
-use Rattle.read_texts.specs.Steps.{IsReading, IsFirstRefused}
+use Rattle.text_pieces.specs.Steps.{IsReading, IsFirstRefused}
 use Rattle.base.specs.declared.limits.TheConstants.{BOXES_LIMIT, INPUTS_LIMIT, NOISES_LIMIT, STATES_LIMIT}
 
 -- The part of a plant that some lines spell.

@@ -1,7 +1,7 @@
 ghost use Rattle.std.specs.Prelude.{◌≡◌, ◌≢◌, ◌<◌, [], IfOk, IfErr, true};
 ghost use Rattle.plant_text.specs.declared.plant_fault.PlantFault.TheVariants.{Memory};
 ghost use Rattle.plant_reading.specs.Lines.{lines_of};
-ghost use Rattle.read_texts.specs.Steps.{IsReading};
+ghost use Rattle.text_pieces.specs.Steps.{IsReading};
 ghost use Rattle.plant_text.specs.Grammar.{nothing_yet, LineStep, IsEnded, Spells};
 ghost use Rattle.plant_record.specs.Limits.{IsWithinLimits};
 ghost use Rattle.plant_text.specs.PlantRefusals.{IsShort, IsRefusedFor};

@@ -9,8 +9,8 @@ use Rattle.row_runs.specs.Runs.{AreRuns, runs_from}
 use Rattle.row_runs.specs.RunText.{run_line, end_line}
 use Rattle.row_runs.proofs.RunLaws.{differ}
 use Rattle.row_runs.proofs.Lines.{same_front}
-use Rattle.read_texts.specs.Steps.{IsStuck}
-use Rattle.read_texts.proofs.Laws as texts
+use Rattle.text_pieces.specs.Steps.{IsStuck}
+use Rattle.text_pieces.proofs.Laws as texts
 use Rattle.row_reading.specs.declared.row_rules.RowRules.{RowRules}
 use Rattle.row_reading.specs.declared.row_rules.TurnRules.{TurnRules}
 use Rattle.row_reading.specs.RowsTexts.{head_line, IsRunWithin, AreRowsWithin, row_lines, lines_from, turn_lines, AreTurnsText}

@@ -11,8 +11,8 @@ use Rattle.row_runs.specs.Runs.{IsFilled}
 use Rattle.row_runs.specs.RunText.{run_line}
 use Rattle.row_runs.specs.inside.AddedRuns.{MayEnd}
 use Rattle.row_runs.proofs.RunLaws.{one_more}
-use Rattle.read_texts.specs.Steps.{IsRead}
-use Rattle.read_texts.proofs.Laws as ways
+use Rattle.text_pieces.specs.Steps.{IsRead}
+use Rattle.text_pieces.proofs.Laws as ways
 use Rattle.row_reading.specs.declared.row_rules.RowRules.{RowRules}
 use Rattle.row_reading.specs.RowsTexts.{IsRunWithin}
 use Rattle.row_reading.specs.TurnSteps.{Due, MayStandAfter, RunStep, IsRunRefused}

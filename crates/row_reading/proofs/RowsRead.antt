@@ -13,8 +13,8 @@ use Rattle.row_runs.specs.Runs.{MayLead, AreRuns, Gives, EncodeRows, runs_from}
 use Rattle.row_runs.specs.RunText.{run_line}
 use Rattle.row_runs.proofs.RunLaws.{runs_encode, one_list, forward}
 use Rattle.row_runs.proofs.FewRuns.{few_runs}
-use Rattle.read_texts.specs.Steps.{joined, Leads}
-use Rattle.read_texts.proofs.Laws.{joined_bytes, few_pieces}
+use Rattle.text_pieces.specs.Steps.{joined, Leads}
+use Rattle.text_pieces.proofs.Laws.{joined_bytes, few_pieces}
 use Rattle.row_reading.specs.declared.row_rules.RowRules.{RowRules}
 use Rattle.row_reading.specs.RowsTexts.{IsRowWithin, IsRunWithin, AreRowsWithin, row_lines, AreRowsAt}
 use Rattle.row_reading.specs.TurnSteps.{RowsDue, Due, MayStandAfter, RunStep, IsRunRefused}

@@ -14,7 +14,7 @@ use Rattle.row_runs.specs.declared.run.TableVersion.{TableVersion}
 use Rattle.row_runs.specs.Runs.{AreRuns, Gives, EncodeRows}
 use Rattle.row_runs.specs.RunText.{run_line}
 use Rattle.row_runs.proofs.Encoding.{begin_later, gives_above}
-use Rattle.read_texts.specs.Steps.{Leads}
+use Rattle.text_pieces.specs.Steps.{Leads}
 use Rattle.row_reading.specs.declared.row_rules.RowRules.{RowRules}
 use Rattle.row_reading.specs.RowsTexts.{IsRunWithin, AreRowsWithin, row_lines}
 use Rattle.row_reading.specs.TurnSteps.{RowsDue, Due, MayStandAfter, RunStep}

@@ -5,8 +5,8 @@ use Rattle.std.proofs.lemmas.List.Elements.{All-from_recursion}
 use Rattle.game_core.specs.declared.game.Row.{Row}
 use Rattle.row_runs.specs.declared.run.Run.{Run}
 use Rattle.row_runs.specs.RunText.{end_line}
-use Rattle.read_texts.specs.Steps.{joined, Leads, IsRead}
-use Rattle.read_texts.proofs.Laws.{joined_bytes, undeniable}
+use Rattle.text_pieces.specs.Steps.{joined, Leads, IsRead}
+use Rattle.text_pieces.proofs.Laws.{joined_bytes, undeniable}
 use Rattle.row_reading.specs.declared.row_rules.TurnRules.{TurnRules}
 use Rattle.row_reading.specs.RowsTexts.{head_line, lines_from, turn_lines, AreRowsWithin, AreTurnsText}
 use Rattle.row_reading.specs.TurnSteps.{Due, RunStep, TurnState, AfterTurns, AfterAll, TurnStep, AreOver, AreTurnsRefusedAt}

@@ -11,7 +11,7 @@ use Rattle.row_runs.specs.declared.run.TableVersion.TheVariants.{First, Second}
 use Rattle.row_runs.specs.RunText.{rank_field, input_field, run_line}
 use Rattle.row_runs.proofs.Lines.{IsLine, one_line}
 use Rattle.row_runs.proofs.RunWords.{end_is_line}
-use Rattle.read_texts.specs.Steps.{joined, Leads, IsStuck, IsGrammar}
+use Rattle.text_pieces.specs.Steps.{joined, Leads, IsStuck, IsGrammar}
 use Rattle.row_reading.specs.declared.row_rules.TurnHead.{TurnHead}
 use Rattle.row_reading.specs.declared.row_rules.TurnHead.TheVariants.{Count, Numbered}
 use Rattle.row_reading.specs.declared.row_rules.TurnRules.{TurnRules}

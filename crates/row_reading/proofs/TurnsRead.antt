@@ -6,8 +6,8 @@ use Rattle.std.proofs.lemmas.List.Elements.{recursion_from_All, All-from_recursi
 use Rattle.game_core.specs.declared.game.Row.{Row}
 use Rattle.row_runs.specs.declared.run.Run.{Run}
 use Rattle.row_runs.specs.RunText.{end_line}
-use Rattle.read_texts.specs.Steps.{joined, Leads, IsRead}
-use Rattle.read_texts.proofs.Laws.{joined_bytes, both_ways}
+use Rattle.text_pieces.specs.Steps.{joined, Leads, IsRead}
+use Rattle.text_pieces.proofs.Laws.{joined_bytes, both_ways}
 use Rattle.row_reading.specs.declared.row_fault.RowFault.{RowFault}
 use Rattle.row_reading.specs.declared.row_fault.RowFault.TheVariants.{Malformed, Memory}
 use Rattle.row_reading.specs.declared.row_rules.TurnRules.{TurnRules}

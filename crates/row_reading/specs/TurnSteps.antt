@@ -5,7 +5,7 @@ use Rattle.row_runs.specs.declared.run.Run.{Run}
 use Rattle.row_runs.specs.declared.run.TableVersion.{TableVersion}
 use Rattle.row_runs.specs.Runs.{HasCells, MayFollow}
 use Rattle.row_runs.specs.RunText.{run_line, end_line}
-use Rattle.read_texts.specs.Steps.{IsFirstRefused}
+use Rattle.text_pieces.specs.Steps.{IsFirstRefused}
 use Rattle.row_reading.specs.declared.row_fault.RowFault.{RowFault}
 use Rattle.row_reading.specs.declared.row_fault.RowFault.TheVariants.{Malformed, Memory}
 use Rattle.row_reading.specs.declared.row_rules.RowRules.{RowRules}

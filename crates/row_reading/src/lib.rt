@@ -2,7 +2,7 @@
 //!
 //! The layer above gives the bytes after a header, and rules: in which version and format rows are written turn by turn, and
 //! which rows a cell may have. It gets the one list of rows that the lines give for each turn, or the first line that is
-//! refused. A table has one turn. Which line may come next is a grammar of `read_texts`. Numbers, prefixes and lines of any
+//! refused. A table has one turn. Which line may come next is a grammar of `text_pieces`. Numbers, prefixes and lines of any
 //! bytes are read here too.
 #![tactic(auto)]
 

@@ -20,7 +20,7 @@ use Rattle.plant_game.specs.Abstraction.{IsGameOf, AreBoxesOf, pairs_of, pair_of
 use Rattle.plant_game.specs.Marks.{IsMarkAt, AreMarksOf, LiesInSomeTarget}
 use Rattle.abstraction_table.proofs.PlantGame.{is_game_of}
 use Rattle.base.proofs.Products.{part_fits}
-use Rattle.read_texts.proofs.Undeniable.{either}
+use Rattle.text_pieces.proofs.Undeniable.{either}
 use Rattle.synth_run.proofs.Undeniable.{chosen}
 
 -- ---- boxes

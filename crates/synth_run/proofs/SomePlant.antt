@@ -6,8 +6,8 @@ use Rattle.plant_record.specs.declared.limit_kind.LimitKind.TheVariants.{Vectors
 use Rattle.plant_record.specs.Description.{Description, vectors_of}
 use Rattle.plant_record.specs.Limits.{IsWithinLimits}
 use Rattle.plant_reading.specs.Lines.{lines_of}
-use Rattle.read_texts.specs.Steps.{IsReading}
-use Rattle.read_texts.proofs.Laws as texts
+use Rattle.text_pieces.specs.Steps.{IsReading}
+use Rattle.text_pieces.proofs.Laws as texts
 use Rattle.plant_text.specs.Grammar.{PartialPlant, nothing_yet, LineStep, IsEnded, Spells}
 use Rattle.plant_text.specs.inside.PartialPlantRules.{KeepsRules}
 use Rattle.plant_text.specs.PlantRefusals.{IsShort}

@@ -1,7 +1,7 @@
 -- What can't be denied: classical logic in the command that needs no axiom. Each lemma leads to whatever its last argument gives.
 use Rattle.std.proofs.Common.{inl, inr, ◌≡◌, ◌⊎◌, ℕ, zero, suc, ◌<◌, List, [], ◌∷◌, length, get_or, refl, sym, subst, arith}
 use Rattle.std.proofs.lemmas.Bool.{cases_eq}
-use Rattle.read_texts.proofs.Undeniable.{either}
+use Rattle.text_pieces.proofs.Undeniable.{either}
 use Rattle.table_check.specs.Verdicts.{IsFirstWithout}
 
 one_more : (Fact : ℕ → Type 0) (n : ℕ) → ((c : ℕ) → c < n → Fact c) → Fact n → (c : ℕ) → c < suc n → Fact c

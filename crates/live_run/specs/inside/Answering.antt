@@ -1,7 +1,7 @@
 -- How far a script is answered. No public clause names this.
 use Rattle.std.specs.Prelude.{◌≡◌, ◌≢◌, ℕ, suc, ◌+◌, List, [], ◌∷◌, ◌++◌, length, Option, Some, None, IfSome}
 use Rattle.controller_table.specs.Tables.{TableModel}
-use Rattle.read_texts.specs.Steps.{joined, IsRead}
+use Rattle.text_pieces.specs.Steps.{joined, IsRead}
 use Rattle.row_reading.specs.Counting.{line_count}
 use Rattle.live_script.specs.declared.command.ScriptCommand.{ScriptCommand}
 use Rattle.live_script.specs.declared.command.ScriptCommand.TheVariants.{Publish, Ask}

@@ -4,8 +4,8 @@ use Rattle.std.proofs.lemmas.List.{take-append-drop}
 use Rattle.plant_record.specs.Description.{Description}
 use Rattle.plant_record.specs.Plants.{IsPlant}
 use Rattle.plant_writing.specs.CanonicalText.{text_of}
-use Rattle.read_texts.specs.Steps.{IsReading}
-use Rattle.read_texts.proofs.Laws as texts
+use Rattle.text_pieces.specs.Steps.{IsReading}
+use Rattle.text_pieces.proofs.Laws as texts
 use Rattle.plant_text.specs.declared.plant_fault.PlantFault.{PlantFault}
 use Rattle.plant_text.specs.declared.plant_fault.PlantFault.TheVariants as faults
 use Rattle.plant_text.specs.Grammar.{PartialPlant, nothing_yet, IsWhole}

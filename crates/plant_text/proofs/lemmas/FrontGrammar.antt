@@ -12,8 +12,8 @@ use Rattle.plant_reading.specs.Statements.{Statement, Version, State, Input, Noi
 use Rattle.plant_reading.proofs.lemmas.WhereCut.{feed_has_position}
 use Rattle.plant_reading.proofs.lemmas.PutTogether.{lines_front}
 use Rattle.plant_writing.specs.CanonicalText.{text_of}
-use Rattle.read_texts.specs.Steps.{joined, Leads, IsRead, IsStuck, IsGrammar}
-use Rattle.read_texts.proofs.Laws.{read_on, met}
+use Rattle.text_pieces.specs.Steps.{joined, Leads, IsRead, IsStuck, IsGrammar}
+use Rattle.text_pieces.proofs.Laws.{read_on, met}
 use Rattle.plant_text.specs.Grammar.{PartialPlant, nothing_yet, HasEquations, FitsAfter, IsWhole}
 use Rattle.plant_text.specs.CanonicalFronts.{ExtendsCanonically, FrontStep, IsFrontEnded, IsFirstRefusedAtFront, IsFront}
 use Rattle.plant_text.specs.inside.PartialPlantText.{partial_text, IsOrderly}

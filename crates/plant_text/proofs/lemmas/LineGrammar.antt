@@ -5,8 +5,8 @@ use Rattle.plant_reading.specs.Lines.{lines_of}
 use Rattle.plant_reading.specs.Words.{words_of}
 use Rattle.plant_reading.specs.Statements.{Statement, States}
 use Rattle.plant_reading.proofs.lemmas.StatementLaws.{one_statement, skipped}
-use Rattle.read_texts.specs.Steps.{IsRead, IsReading, IsStuck, IsGrammar}
-use Rattle.read_texts.proofs.Laws.{read_on}
+use Rattle.text_pieces.specs.Steps.{IsRead, IsReading, IsStuck, IsGrammar}
+use Rattle.text_pieces.proofs.Laws.{read_on}
 use Rattle.plant_text.specs.Grammar.{PartialPlant, nothing_yet, names_in, FitsAfter, with_statement, IsStated, Extends, LineStep, IsEnded, IsLineRefused}
 use Rattle.plant_text.specs.inside.PartialPlantRules.{KeepsRules}
 use Rattle.plant_text.specs.inside.ReadUpTo.{IsReadUpTo}

@@ -5,7 +5,7 @@ use Rattle.plant_record.specs.declared.limit_kind.LimitKind.TheVariants.{PlantTe
 use Rattle.plant_record.specs.Description.{Description}
 use Rattle.plant_record.specs.Plants.{IsPlant}
 use Rattle.plant_reading.specs.Lines.{lines_of}
-use Rattle.read_texts.proofs.Laws as texts
+use Rattle.text_pieces.proofs.Laws as texts
 use Rattle.plant_text.specs.declared.plant_fault.PlantFault.{PlantFault}
 use Rattle.plant_text.specs.declared.plant_fault.PlantFault.TheVariants as faults
 use Rattle.plant_text.specs.Grammar.{PartialPlant, nothing_yet, HasEquations, LineStep, IsEnded, IsWhole, Spells, IsLineRefused}

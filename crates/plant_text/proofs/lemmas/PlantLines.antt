@@ -27,7 +27,7 @@ use Rattle.plant_writing.specs.ExpressionText.{expression_text}
 use Rattle.plant_reading.specs.Words.{words_of}
 use Rattle.plant_reading.specs.Statements.{Statement, Version, State, Input, Noise, Next, Target, Obstacle, Goal, End, States}
 use Rattle.plant_text.specs.Grammar.{PartialPlant, nothing_yet, names_in, FitsAfter, with_statement, IsWhole}
-use Rattle.read_texts.specs.Steps.{joined, Leads}
+use Rattle.text_pieces.specs.Steps.{joined, Leads}
 use Rattle.plant_text.specs.CanonicalFronts.{statement_line, IsInOrder, FrontStep}
 use Rattle.plant_reading.proofs.lemmas.PutTogether.{IsDarkWord, words_front, words_joined}
 use Rattle.plant_text.proofs.lemmas.CanonicalWords.{name_dark, number_dark, numbers_dark, box_dark, goal_dark}

@@ -2,7 +2,7 @@
 use Rattle.std.proofs.Common.{inr, ◌≡◌, ℕ, List, [], ◌∷◌, ◌++◌, append-nil, refl, sym, ap, ◌∙◌}
 use Rattle.plant_reading.specs.Lines.{lines_of}
 use Rattle.plant_reading.specs.Words.{words_of}
-use Rattle.read_texts.specs.Steps.{joined, Leads}
+use Rattle.text_pieces.specs.Steps.{joined, Leads}
 use Rattle.plant_text.specs.Grammar.{PartialPlant, nothing_yet, LineStep}
 use Rattle.plant_text.specs.CanonicalFronts.{FrontStep}
 use Rattle.plant_text.specs.Laws.{CanonicalTextsSpell}

@@ -1,6 +1,6 @@
 -- How far the front of some bytes is read. No public clause names this.
 use Rattle.std.specs.Prelude.{◌≡◌, ℕ, suc, ◌+◌, ◌≤◌, List, length}
-use Rattle.read_texts.specs.Steps.{IsRead}
+use Rattle.text_pieces.specs.Steps.{IsRead}
 use Rattle.plant_text.specs.Grammar.{PartialPlant, nothing_yet}
 use Rattle.plant_text.specs.CanonicalFronts.{FrontStep}
 use Rattle.plant_text.specs.inside.PartialPlantRules.{KeepsRules}

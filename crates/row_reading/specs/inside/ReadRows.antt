@@ -5,7 +5,7 @@ use Rattle.game_core.specs.declared.game.Row.{Row}
 use Rattle.row_runs.specs.declared.run.Run.{Run}
 use Rattle.row_runs.specs.Runs.{AreRuns, EncodeRows}
 use Rattle.row_runs.specs.RunText.{run_line}
-use Rattle.read_texts.specs.Steps.{IsRead}
+use Rattle.text_pieces.specs.Steps.{IsRead}
 use Rattle.row_reading.specs.declared.row_rules.RowRules.{RowRules}
 use Rattle.row_reading.specs.RowsTexts.{IsRunWithin}
 use Rattle.row_reading.specs.TurnSteps.{Due, RunStep}

@@ -5,7 +5,7 @@ use Rattle.std.specs.Fmt.{decimal}
 use Rattle.game_core.specs.declared.game.Row.{Row}
 use Rattle.row_runs.specs.declared.run.Run.{Run}
 use Rattle.row_runs.specs.RunText.{count_line}
-use Rattle.read_texts.specs.Steps.{IsRead}
+use Rattle.text_pieces.specs.Steps.{IsRead}
 use Rattle.row_reading.specs.declared.row_rules.TurnHead.{TurnHead}
 use Rattle.row_reading.specs.declared.row_rules.TurnRules.{TurnRules}
 use Rattle.row_reading.specs.RowsTexts.{head_line, lines_from, AreRowsWithin, AreRowsAt}

@@ -2,7 +2,7 @@
 use Rattle.std.proofs.Common.{inl, inr, ◌≡◌, ◌⊎◌, ℕ, zero, suc, ◌+◌, ◌<◌, ◌≤◌, List, [], ◌∷◌, ◌++◌, length, refl, sym, ap, ◌∙◌, append_assoc, append-nil, length-append, subst, arith}
 use Rattle.std.specs.List.{concat}
 use Rattle.std.proofs.lemmas.List.{append_cancel_left}
-use Rattle.read_texts.specs.Steps.{joined, Leads, IsRead, IsStuck, IsReading, IsFirstRefused, IsGrammar}
+use Rattle.text_pieces.specs.Steps.{joined, Leads, IsRead, IsStuck, IsReading, IsFirstRefused, IsGrammar}
 
 -- ---- ways
 
