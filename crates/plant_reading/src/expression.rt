@@ -222,10 +222,7 @@ fn take_factor(
 
 /// A number at the front.
 #[tactic(auto, unfolding(crate::specs::inside::ExpressionReading::literal_at))]
-fn take_number(
-    alloc: Global,
-    tokens: &[TokenKind],
-) -> Result<(Operand, &[TokenKind]), LineFault>
+fn take_number(alloc: Global, tokens: &[TokenKind]) -> Result<(Operand, &[TokenKind]), LineFault>
     ensures { GivesExpression result (number_at tokens.now) }
 {
     let (k, rest) = take_literal(tokens)?;
