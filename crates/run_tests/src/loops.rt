@@ -13,7 +13,7 @@ use std::alloc::Global;
 use std::test::Fail;
 use std::thread::Threads;
 use synth_run::Open;
-use text_control::{PackedText, Reply, Visit, control, read_text, visit};
+use text_control::{Follow, PackedText, Reply, Visit, control, follows, read_text, visit};
 
 /// The plant of the trials, which may also stand still.
 const STAY: &[u8] =
@@ -62,10 +62,30 @@ fn ends(text: &PackedText) -> bool {
     written_tables_end();
     followed_tables_end();
     loops_are_followed();
-    no_false_alarms();
     driven(text, 0, SAMPLES) == (Reply::Arrived, 12, 4)
         && driven(text, 14, SAMPLES) == (Reply::Arrived, 14, 0)
         && driven(text, 15, SAMPLES) == (Reply::NoRow, 15, 0)
+}
+
+/// Whether each sample of a loop from a state leads into its box, and a state one cell further on doesn't lie there.
+fn is_followed(text: &PackedText, start: i64) -> bool {
+    no_false_alarms();
+    let mut state = [start];
+    let mut input = [0];
+    for _ in 0..SAMPLES {
+        if control(text, &state, &mut input) != Reply::Apply {
+            return true;
+        }
+        let next = [state[0].wrapping_add(input[0])];
+        let beyond = [next[0].wrapping_add(3)];
+        if follows(text, &state, &input, &next) != Follow::Inside
+            || follows(text, &state, &input, &beyond) != Follow::Outside
+        {
+            return false;
+        }
+        state[0] = next[0];
+    }
+    true
 }
 
 /// Whether a loop from a state goes on.
@@ -108,6 +128,7 @@ fn turns_of(text: &mut PackedText) -> u32 {
 fn a_written_table_brings_its_loop_to_the_target(rt: HostRuntime) -> Result<(), Fail> {
     let text = written(&rt, rt.alloc(), "synth", PLANT)?;
     assert!(rt; ends(&text));
+    assert!(rt; is_followed(&text, 1));
     Ok(())
 }
 
@@ -116,6 +137,7 @@ fn a_written_table_keeps_its_loop_in_the_range(rt: HostRuntime) -> Result<(), Fa
     let text = written(&rt, rt.alloc(), "synth", KEEP)?;
     assert!(rt; goes_on(&text, 0));
     assert!(rt; goes_on(&text, 14));
+    assert!(rt; is_followed(&text, 14));
     Ok(())
 }
 
