@@ -13,3 +13,4 @@ pub mod ShortTexts
 pub mod OneTable
 pub mod OneRefusal
 pub mod Copies
+pub mod TurnTexts

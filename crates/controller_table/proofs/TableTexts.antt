@@ -18,7 +18,7 @@ use Rattle.controller_table.specs.KindTexts.{rows_text, IsTextOf}
 use Rattle.controller_table.proofs.Fitting.{rows_within, rows_fit}
 
 -- the lines of a text of one turn
-pub one_turn : (lines : List (List ℕ)) → count_line (length lines) ∷ ((lines ++ []) ++ end_line ∷ []) ≡ count_line (length lines) ∷ lines ++ end_line ∷ []
+one_turn : (lines : List (List ℕ)) → count_line (length lines) ∷ ((lines ++ []) ++ end_line ∷ []) ≡ count_line (length lines) ∷ lines ++ end_line ∷ []
 one_turn lines = ap (λ (x : List (List ℕ)). count_line (length lines) ∷ x ++ end_line ∷ []) (append-nil lines)
 
 pub one_within : (rules : TurnRules) (rows : List (Option Row)) → rules.turns ≡ 1 → AreRowsWithin rules.rows rows → AreTurnsWithin rules (rows ∷ [])
@@ -33,7 +33,7 @@ only_turn rules [] one within = absurd (omega (arith, within.one_list_each, one)
 only_turn rules (rows ∷ []) one within = (rows, refl)
 only_turn rules (rows ∷ s ∷ turns) one within = absurd (omega (arith, within.one_list_each, one))
 
-text_is : (v : TableVersion) (p : Description) (rows : List (Option Row)) → rows_text (Table v) p (rows ∷ []) ≡ table_text v p rows
+pub text_is : (v : TableVersion) (p : Description) (rows : List (Option Row)) → rows_text (Table v) p (rows ∷ []) ≡ table_text v p rows
 text_is v p rows = ap (λ (x : List (List ℕ)). version_line v ++ text_of p ++ concat x) (one_turn (row_lines v (format_of p.goal) rows))
 
 pub as_text : (bytes : List ℕ) (p : Description) (rows : List (Option Row)) → (t : IsTable bytes p rows) → IsTextOf (Table t.version) bytes p (rows ∷ [])

@@ -6,9 +6,9 @@
 #![tactic(auto)]
 
 mod goal_format;
-mod header;
 pub mod laws;
 mod rows_text;
+mod rows_writer;
 mod table;
 mod table_copy;
 mod table_fault;
@@ -17,11 +17,12 @@ mod table_writer;
 mod text_fault;
 mod text_kind;
 mod text_reader;
+mod turn_lines;
 
 pub use base::NoMemory;
 pub use goal_format::format_of;
-pub use header::header_of;
 pub use rows_text::RowsText;
+pub use rows_writer::RowsWriter;
 pub use table::Table;
 pub use table_fault::TableFault;
 pub use table_reader::read_table;

@@ -2,21 +2,22 @@ ghost use Rattle.std.specs.Prelude.{◌≡◌, IfOk};
 ghost use Rattle.controller_table.specs.TableText.{written_version, table_text};
 ghost use Rattle.controller_table.specs.Tables.{RowsFit};
 
-use crate::goal_format::format_of;
-use crate::header::header_of;
+use crate::rows_writer::RowsWriter;
 use crate::table::Table;
+use crate::text_kind::TextKind;
 use base::NoMemory;
 use game_core::Answer;
 use plant_record::Plant;
-use row_runs::{FramedText, RunLines};
+use row_runs::TableVersion;
 use std::alloc::Global;
 use std::marker::Model;
+use std::slice;
 use text_pieces::Pieces;
 
 /// Writes the text of a table piece by piece. Seen as the bytes that are still to come.
 #[derive(Drop)]
 pub struct TableWriter<'a> {
-    text: FramedText<RunLines<'a>>,
+    text: RowsWriter<'a>,
 }
 
 impl<'a> Model for TableWriter<'a> {
@@ -33,11 +34,9 @@ impl<'a> TableWriter<'a> {
         requires { RowsFit p.now a.now }
         ensures { IfOk result (λ w. w ≡ table_text written_version p.now a.now) }
     {
-        let header = header_of(alloc, b"table 2\n", p)?;
-        let lines = RunLines::counted(format_of(p.goal()), a);
-        Ok(TableWriter {
-            text: FramedText::new(header, lines),
-        })
+        let kind = TextKind::Table(TableVersion::Second);
+        let text = RowsWriter::new(alloc, kind, p, slice::from_ref(a))?;
+        Ok(TableWriter { text })
     }
 
     /// The writer of a table that was read.

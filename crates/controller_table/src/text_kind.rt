@@ -1,10 +1,10 @@
 ghost use Rattle.std.specs.Prelude.{◌≡◌, ◌↔◌, IsTrue};
 ghost use Rattle.row_reading.specs.Found.{Finds};
-ghost use Rattle.controller_table.specs.TextKinds.{first_line, rules_of, stay_rules, patrol_rules, turn_rules, HasFewTurnsFor};
+ghost use Rattle.controller_table.specs.TextKinds.{first_line, most_bytes, rules_of, stay_rules, patrol_rules, turn_rules, HasFewTurnsFor};
 ghost use Rattle.controller_table.specs.inside.TextReading.{IsBegun};
 
 use crate::goal_format::format_of;
-use base::limits::TURNS_LIMIT;
+use base::limits::{TABLE_LIMIT, TURNS_LIMIT};
 use plant_record::{GoalKind, Plant};
 use row_reading::{RowRules, TurnHead, TurnRules, after_prefix};
 use row_runs::{RowFormat, TableVersion};
@@ -33,6 +33,16 @@ impl TextKind {
             TextKind::Table(TableVersion::Second) => b"table 2\n",
             TextKind::Stay => b"stay 1\n",
             TextKind::Patrol => b"patrol 1\n",
+        }
+    }
+
+    /// How many bytes its texts may have.
+    pub fn most_bytes(self) -> usize
+        ensures { result ≡ most_bytes self }
+    {
+        match self {
+            TextKind::Table(_) | TextKind::Stay => TABLE_LIMIT,
+            TextKind::Patrol => PATROL_LIMIT,
         }
     }
 

@@ -1,6 +1,6 @@
 ghost use Rattle.std.specs.Prelude.{◌≡◌, ◌+◌, ◌<◌, ◌≤◌, ◌∷◌, ◌++◌, [], length, drop};
 ghost use Rattle.std.specs.Fmt.{decimal};
-ghost use Rattle.row_runs.specs.RunText.{rank_field, input_field, run_line, count_line};
+ghost use Rattle.row_runs.specs.RunText.{rank_field, input_field, run_line};
 ghost use Rattle.row_runs.specs.declared.run.TableVersion.TheVariants.{Second};
 
 use crate::row_format::RowFormat;
@@ -101,15 +101,6 @@ impl LineText {
         self.prepend_number(run.last);
         self.prepend(b" ");
         self.prepend_number(run.first);
-    }
-
-    /// The line that says how many lines of runs follow.
-    pub(crate) fn write_count(&mut self, runs: u32)
-        ensures { self.new ≡ count_line runs }
-    {
-        self.begin();
-        self.prepend_number(runs);
-        self.prepend(b"rows ");
     }
 
     fn prepend_input(&mut self, format: RowFormat, row: Row)

@@ -1,10 +1,10 @@
-ghost use Rattle.std.specs.Prelude.{◌≡◌, ◌∷◌, length};
+ghost use Rattle.std.specs.Prelude.{◌≡◌};
 ghost use Rattle.std.specs.List.{concat};
-ghost use Rattle.row_runs.specs.RunText.{run_lines, count_line};
+ghost use Rattle.row_runs.specs.RunText.{run_lines};
 
 use crate::line_text::LineText;
 use crate::row_format::RowFormat;
-use crate::runs::{Runs, count_runs};
+use crate::runs::Runs;
 use game_core::Answer;
 use std::marker::Model;
 use text_pieces::{Pieces, copy_prefix};
@@ -38,19 +38,6 @@ impl<'a> RunLines<'a> {
         RunLines {
             format,
             line: LineText::empty(),
-            runs: Runs::new(answer),
-        }
-    }
-
-    /// The lines of all runs, after the line that says how many they are.
-    pub fn counted(format: RowFormat, answer: &'a Answer) -> RunLines<'a>
-        ensures { result ≡ concat (count_line (length (run_lines format answer.now)) ∷ run_lines format answer.now) }
-    {
-        let mut line = LineText::empty();
-        line.write_count(count_runs(answer));
-        RunLines {
-            format,
-            line,
             runs: Runs::new(answer),
         }
     }

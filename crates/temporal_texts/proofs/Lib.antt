@@ -4,6 +4,5 @@ pub mod OneStayText
 pub mod OnePatrolText
 pub mod StayRefusals
 pub mod PatrolRefusals
-pub mod TurnTexts
 pub mod Trajectories
 pub mod TextLaws

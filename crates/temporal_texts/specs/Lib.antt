@@ -6,4 +6,3 @@ pub mod PatrolRefusals
 pub mod Patrols
 pub mod TextTrajectories
 pub mod Laws
-pub mod inside

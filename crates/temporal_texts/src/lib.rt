@@ -13,7 +13,6 @@ mod patrol_writer;
 mod stay_reader;
 mod stay_table;
 mod stay_writer;
-mod turn_lines;
 
 pub use controller_table::{PATROL_LIMIT, TextFault as PatrolFault};
 pub use patrol_reader::read_patrol;

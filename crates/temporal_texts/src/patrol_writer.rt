@@ -1,11 +1,9 @@
 ghost use Rattle.std.specs.Prelude.{◌≡◌, IfOk};
 ghost use Rattle.temporal_texts.specs.PatrolText.{patrol_text};
 
-use crate::turn_lines::TurnLines;
-use controller_table::header_of;
+use controller_table::{RowsWriter, TextKind};
 use game_core::NoMemory;
 use plant_record::Plant;
-use row_runs::FramedText;
 use std::alloc::Global;
 use std::marker::Model;
 use text_pieces::Pieces;
@@ -14,7 +12,7 @@ use turn_rows::PatrolRows;
 /// Writes the text of a patrol piece by piece. Seen as the bytes that are still to come.
 #[derive(Drop)]
 pub struct PatrolWriter<'a> {
-    text: FramedText<TurnLines<'a>>,
+    text: RowsWriter<'a>,
 }
 
 impl<'a> Model for PatrolWriter<'a> {
@@ -30,11 +28,8 @@ impl<'a> PatrolWriter<'a> {
     pub fn new(alloc: Global, p: &Plant, a: &'a PatrolRows) -> Result<PatrolWriter<'a>, NoMemory>
         ensures { IfOk result (λ w. w ≡ patrol_text p.now a.now) }
     {
-        let header = header_of(alloc, b"patrol 1\n", p)?;
-        let lines = TurnLines::new(a);
-        Ok(PatrolWriter {
-            text: FramedText::new(header, lines),
-        })
+        let text = RowsWriter::new(alloc, TextKind::Patrol, p, a.as_slice())?;
+        Ok(PatrolWriter { text })
     }
 }
 

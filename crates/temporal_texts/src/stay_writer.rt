@@ -1,18 +1,18 @@
 ghost use Rattle.std.specs.Prelude.{◌≡◌, IfOk};
 ghost use Rattle.temporal_texts.specs.StayText.{stay_text};
 
-use controller_table::header_of;
+use controller_table::{RowsWriter, TextKind};
 use game_core::{Answer, NoMemory};
 use plant_record::Plant;
-use row_runs::{FramedText, RowFormat, RunLines};
 use std::alloc::Global;
 use std::marker::Model;
+use std::slice;
 use text_pieces::Pieces;
 
 /// Writes the text of reach and stay piece by piece. Seen as the bytes that are still to come.
 #[derive(Drop)]
 pub struct StayWriter<'a> {
-    text: FramedText<RunLines<'a>>,
+    text: RowsWriter<'a>,
 }
 
 impl<'a> Model for StayWriter<'a> {
@@ -28,11 +28,8 @@ impl<'a> StayWriter<'a> {
     pub fn new(alloc: Global, p: &Plant, a: &'a Answer) -> Result<StayWriter<'a>, NoMemory>
         ensures { IfOk result (λ w. w ≡ stay_text p.now a.now) }
     {
-        let header = header_of(alloc, b"stay 1\n", p)?;
-        let lines = RunLines::counted(RowFormat::Both, a);
-        Ok(StayWriter {
-            text: FramedText::new(header, lines),
-        })
+        let text = RowsWriter::new(alloc, TextKind::Stay, p, slice::from_ref(a))?;
+        Ok(StayWriter { text })
     }
 }
 

@@ -60,6 +60,14 @@ impl PatrolRows {
         }
     }
 
+    /// The rows of all turns.
+    pub fn as_slice(&self) -> &[Answer]
+        ensures rows { result.now ≡ self.now }
+        ensures few { length result.now < 2 ^ 32 }
+    {
+        &self.answers
+    }
+
     /// The rows of one turn.
     pub fn turn(&self, turn: u32) -> &Answer
         requires { turn < length self.now }

@@ -1,20 +1,21 @@
-ghost use Rattle.std.specs.Prelude.{◌≡◌, ◌<◌, ◌≤◌, ◌++◌, [], length, take, drop};
+ghost use Rattle.std.specs.Prelude.{◌≡◌, ◌^◌, ◌<◌, ◌≤◌, ◌++◌, [], length, take, drop};
 ghost use Rattle.std.specs.List.{concat};
-ghost use Rattle.row_runs.specs.declared.row_format.RowFormat.TheVariants.{Both};
 ghost use Rattle.row_runs.specs.declared.run.TableVersion.TheVariants.{Second};
-ghost use Rattle.row_reading.specs.declared.row_rules.TurnHead.TheVariants.{Numbered};
-ghost use Rattle.row_reading.specs.RowsTexts.{turn_line, lines_by};
-ghost use Rattle.temporal_texts.specs.inside.Left.{left_of};
+ghost use Rattle.row_reading.specs.RowsTexts.{head_line, lines_by};
+ghost use Rattle.controller_table.specs.inside.Left.{left_of};
 
+use game_core::Answer;
+use row_reading::TurnHead;
 use row_runs::{LineText, RowFormat, RunLines, count_runs};
 use std::marker::Model;
 use text_pieces::{Pieces, copy_prefix};
-use turn_rows::PatrolRows;
 
 /// The lines of all turns, piece by piece. Seen as the bytes that are still to come.
 #[derive(Drop)]
 pub(crate) struct TurnLines<'a> {
-    rows: &'a PatrolRows,
+    head: TurnHead,
+    format: RowFormat,
+    turns: &'a [Answer],
     /// The turns from this one on.
     turn: u32,
     /// What is left of the line of the turn before it, and of the lines of its runs.
@@ -23,28 +24,29 @@ pub(crate) struct TurnLines<'a> {
 }
 
 impl<'a> Model for TurnLines<'a> {
-    ghost use Rattle.std.specs.Prelude.{List, ℕ, ◌++◌, drop, ◌≤◌, length};
+    ghost use Rattle.std.specs.Prelude.{List, ℕ, ◌^◌, ◌++◌, drop, ◌<◌, ◌≤◌, length};
     ghost use Rattle.std.specs.List.{concat};
-    ghost use Rattle.row_runs.specs.declared.row_format.RowFormat.TheVariants.{Both};
     ghost use Rattle.row_runs.specs.declared.run.TableVersion.TheVariants.{Second};
-    ghost use Rattle.row_reading.specs.declared.row_rules.TurnHead.TheVariants.{Numbered};
     ghost use Rattle.row_reading.specs.RowsTexts.{lines_by};
-    ghost use Rattle.temporal_texts.specs.inside.Left.{left_of};
+    ghost use Rattle.controller_table.specs.inside.Left.{left_of};
 
     ghost Value = { List ℕ };
 
-    ghost view = { λ t. t.line ++ (left_of t.runs ++ concat (lines_by Numbered Second Both t.turn (drop t.turn t.rows.now))) };
+    ghost view = { λ t. t.line ++ (left_of t.runs ++ concat (lines_by t.head Second t.format t.turn (drop t.turn t.turns.now))) };
 
-    ghost invariant = { λ t. t.turn ≤ length t.rows.now };
+    ghost invariant = { λ t. (t.turn ≤ length t.turns.now) × (length t.turns.now < 2 ^ 32) };
 }
 
 impl<'a> TurnLines<'a> {
     /// The lines of all turns.
-    pub(crate) fn new(rows: &'a PatrolRows) -> TurnLines<'a>
-        ensures { result ≡ concat (lines_by Numbered Second Both 0 rows.now) }
+    pub(crate) fn new(head: TurnHead, format: RowFormat, turns: &'a [Answer]) -> TurnLines<'a>
+        requires { length turns.now < 2 ^ 32 }
+        ensures { result ≡ concat (lines_by head Second format 0 turns.now) }
     {
         TurnLines {
-            rows,
+            head,
+            format,
+            turns,
             turn: 0,
             line: LineText::empty(),
             runs: None,
@@ -61,12 +63,12 @@ impl Pieces for TurnLines<'_> {
             if count > 0 {
                 return count;
             }
-            if self.turn == self.rows.turns() {
+            if self.turn as usize == self.turns.len() {
                 return 0;
             }
-            let rows = self.rows.turn(self.turn);
-            write_turn(&mut self.line, self.turn, count_runs(rows));
-            self.runs = Some(RunLines::new(RowFormat::Both, rows));
+            let rows = &self.turns[self.turn as usize];
+            write_head(&mut self.line, self.head, self.turn, count_runs(rows));
+            self.runs = Some(RunLines::new(self.format, rows));
             self.turn += 1;
         }
         let count = copy_prefix(self.line.as_slice(), buf);
@@ -90,14 +92,17 @@ fn copy_runs(runs: &mut Option<RunLines>, buf: &mut [u8]) -> usize
     }
 }
 
-/// The line before the runs of a turn.
-fn write_turn(line: &mut LineText, turn: u32, runs: u32)
-    ensures text { line.new ≡ turn_line turn runs }
+/// The line before the rows of a turn.
+fn write_head(line: &mut LineText, head: TurnHead, turn: u32, runs: u32)
+    ensures text { line.new ≡ head_line head turn runs }
     ensures some { 0 < length line.new }
 {
     line.begin();
     line.prepend_number(runs);
-    line.prepend(b" rows ");
-    line.prepend_number(turn);
-    line.prepend(b"turn ");
+    line.prepend(b"rows ");
+    if head == TurnHead::Numbered {
+        line.prepend(b" ");
+        line.prepend_number(turn);
+        line.prepend(b"turn ");
+    }
 }
