@@ -1,1 +1,4 @@
 pub mod Slopes
+pub mod RowWords
+pub mod WordPositions
+pub mod TextReading

@@ -12,14 +12,18 @@ mod at_states;
 mod follow;
 mod following;
 pub mod laws;
+mod packed_rows;
 mod packed_text;
 mod reading;
 mod reply;
+mod row_words;
 mod rows;
 pub mod statuses;
+mod stretches;
 mod text_fault;
 mod turns;
 mod visits;
+mod word_positions;
 
 pub use at_state::control;
 pub use at_states::control_each;

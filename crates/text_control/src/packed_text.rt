@@ -1,26 +1,22 @@
-ghost use Rattle.std.specs.Prelude.{◌≡◌, ◌<◌, ◌≤◌, [], ◌∷◌, length, IfOk, IfSome, MatchOption};
-ghost use Rattle.std.specs.List.{All};
+ghost use Rattle.std.specs.Prelude.{◌≡◌, ◌<◌, length, IfOk, IfSome, MatchOption};
 ghost use Rattle.grid_quantiser.specs.Axes.{cells_of};
 ghost use Rattle.game_core.specs.Solution.{row_of};
-ghost use Rattle.packed_rows.specs.RowWords.{FitsWord};
 ghost use Rattle.plant_record.specs.Description.{axes_of, vectors_of};
 ghost use Rattle.plant_record.specs.Limits.{IsWithinLimits};
 ghost use Rattle.turn_rows.specs.Rows.{rows_for};
-ghost use Rattle.base.specs.declared.limits.TheConstants.{CELLS_LIMIT};
-ghost use Rattle.text_control.specs.Texts.{TurnsFit, of_table, of_stay, of_patrol};
+ghost use Rattle.text_control.specs.inside.TextReading.{of_text};
 ghost use Rattle.text_control.specs.Visits.{with_turn};
 ghost use Rattle.text_control.specs.inside.Slopes.{AreSlopes};
 ghost use Rattle.successor_box.specs.Deviations.{HasNoOverflow, deviations_of};
 
+use crate::packed_rows::PackedRows;
 use base::NoMemory;
-use controller_table::{Table, TextKind};
-use game_core::{Answer, Row};
-use packed_rows::PackedRows;
+use controller_table::{RowsText, TextKind};
+use game_core::Row;
 use plant_record::Plant;
 use std::alloc::Global;
 use std::marker::Model;
 use successor_box::{SlopeFault, Slopes, find_slopes};
-use temporal_texts::{PatrolTable, StayTable};
 
 /// What a table, a stay text or a patrol text says, in little memory: its rows take 8 bytes for each stretch of cells with
 /// one row or with none. Of a patrol it keeps which turn is due. For successor boxes it keeps how far the plant's equations move
@@ -50,27 +46,11 @@ impl Model for PackedText {
 }
 
 impl PackedText {
-    /// What a table says.
-    pub fn from_table(alloc: Global, table: Table) -> Result<PackedText, NoMemory>
-        ensures { IfOk result (λ text. text ≡ of_table table) }
+    /// What a text says; of a patrol the first turn is due.
+    pub(crate) fn of(alloc: Global, text: RowsText) -> Result<PackedText, NoMemory>
+        ensures { IfOk result (λ packed. packed ≡ of_text text) }
     {
-        let (version, plant, answer) = table.into_parts();
-        one_turn(alloc, TextKind::Table(version), plant, &answer)
-    }
-
-    /// What a stay text says.
-    pub fn from_stay(alloc: Global, table: StayTable) -> Result<PackedText, NoMemory>
-        ensures { IfOk result (λ text. text ≡ of_stay table) }
-    {
-        let (plant, answer) = table.into_parts();
-        one_turn(alloc, TextKind::Stay, plant, &answer)
-    }
-
-    /// What a patrol text says; the first turn is due.
-    pub fn from_patrol(alloc: Global, table: PatrolTable) -> Result<PackedText, NoMemory>
-        ensures { IfOk result (λ text. text ≡ of_patrol table) }
-    {
-        let (plant, rows) = table.into_parts();
+        let (kind, plant, rows) = text.into_parts();
         let mut turns = Vec::with_capacity(alloc, rows.turns() as usize)?;
         for turn in 0..rows.turns() {
             let rows = PackedRows::new(alloc, rows.turn(turn))?;
@@ -78,7 +58,7 @@ impl PackedText {
         }
         let slopes = slopes_of(alloc, &plant)?;
         Ok(PackedText {
-            kind: TextKind::Patrol,
+            kind,
             plant,
             slopes,
             turns,
@@ -137,31 +117,6 @@ impl PackedText {
     {
         self.turn = turn;
     }
-}
-
-/// A text with the rows of one turn.
-fn one_turn(
-    alloc: Global,
-    kind: TextKind,
-    plant: Plant,
-    answer: &Answer,
-) -> Result<PackedText, NoMemory>
-    requires fit { TurnsFit plant (answer.now ∷ []) }
-    requires cells { length answer.now ≤ CELLS_LIMIT }
-    requires rows { All (λ row. IfSome row FitsWord) answer.now }
-    ensures { IfOk result (λ text. text ≡ record { kind = kind; plant = plant; turns = answer.now ∷ []; turn = 0 }) }
-{
-    let slopes = slopes_of(alloc, &plant)?;
-    let mut turns = Vec::new(alloc);
-    let rows = PackedRows::new(alloc, answer)?;
-    turns.push(rows).map_err(|_| NoMemory)?;
-    Ok(PackedText {
-        kind,
-        plant,
-        slopes,
-        turns,
-        turn: 0,
-    })
 }
 
 /// How far the equations of a plant move within a cell: None where one overflows.

@@ -1,36 +1,30 @@
 //! Reads a text of any kind.
 
-ghost use Rattle.std.specs.Prelude.{◌≡◌, ◌≢◌, ◌↔◌, IsTrue, IfOk, IfErr};
+ghost use Rattle.std.specs.Prelude.{◌≢◌, IfOk, IfErr};
 ghost use Rattle.text_control.specs.declared.text_fault.TextFault.TheVariants.{Memory};
-ghost use Rattle.text_control.specs.Texts.{IsReadFrom, HasFirstLine, IsTextRefusedFor};
+ghost use Rattle.text_control.specs.Texts.{IsReadFrom, IsTextRefusedFor};
 
 use crate::packed_text::PackedText;
 use crate::text_fault::TextFault;
-use controller_table::read_table;
-use row_reading::after_prefix;
+use base::limits::TABLE_LIMIT;
+use controller_table::{read_after, take_kind};
 use std::alloc::Global;
-use temporal_texts::{read_patrol, read_stay};
 
 /// Reads the table, the stay text or the patrol text that the bytes are, or answers why they are none: why they aren't the
-/// text that they begin as.
+/// text that they begin as, which is a table where they begin as none.
 pub fn read_text(alloc: Global, bytes: &[u8]) -> Result<PackedText, TextFault>
     ensures read { IfOk result (IsReadFrom bytes.now) }
     ensures refused { IfErr result (λ fault. fault ≢ Memory → IsTextRefusedFor bytes.now fault) }
 {
-    if has_first_line(bytes, b"stay 1\n") {
-        let stay = read_stay(alloc, bytes)?;
-        return Ok(PackedText::from_stay(alloc, stay)?);
+    let Some((kind, rest)) = take_kind(bytes) else {
+        if bytes.len() > TABLE_LIMIT {
+            return Err(TextFault::Limit);
+        }
+        return Err(TextFault::Malformed { line: 1 });
+    };
+    if bytes.len() > kind.most_bytes() {
+        return Err(TextFault::Limit);
     }
-    if has_first_line(bytes, b"patrol 1\n") {
-        let patrol = read_patrol(alloc, bytes)?;
-        return Ok(PackedText::from_patrol(alloc, patrol)?);
-    }
-    let table = read_table(alloc, bytes)?;
-    Ok(PackedText::from_table(alloc, table)?)
-}
-
-fn has_first_line(bytes: &[u8], line: &[u8]) -> bool
-    ensures { IsTrue result ↔ HasFirstLine line.now bytes.now }
-{
-    after_prefix(bytes, line).is_some()
+    let text = read_after(alloc, kind, rest)?;
+    Ok(PackedText::of(alloc, text)?)
 }

@@ -1,5 +1,4 @@
-use controller_table::TableFault;
-use temporal_texts::PatrolFault;
+use controller_table::TextFault as RowsFault;
 
 /// Why no text was read.
 #[derive(Clone, Copy, Debug, PartialEq, Eq)]
@@ -12,32 +11,17 @@ pub enum TextFault {
     Memory,
 }
 
-impl From<TableFault> for TextFault {
-    ghost use Rattle.std.specs.Prelude.{◌≡◌};
-    ghost use Rattle.text_control.specs.Texts.{fault_of_table};
-
-    ghost from_gives = { λ fault e. e ≡ fault_of_table fault };
-
-    fn from(fault: TableFault) -> TextFault {
-        match fault {
-            TableFault::Malformed { line } => TextFault::Malformed { line },
-            TableFault::Limit { .. } => TextFault::Limit,
-            TableFault::Memory => TextFault::Memory,
-        }
-    }
-}
-
-impl From<PatrolFault> for TextFault {
+impl From<RowsFault> for TextFault {
     ghost use Rattle.std.specs.Prelude.{◌≡◌};
     ghost use Rattle.text_control.specs.Texts.{fault_of_patrol};
 
     ghost from_gives = { λ fault e. e ≡ fault_of_patrol fault };
 
-    fn from(fault: PatrolFault) -> TextFault {
+    fn from(fault: RowsFault) -> TextFault {
         match fault {
-            PatrolFault::Malformed { line } => TextFault::Malformed { line },
-            PatrolFault::Limit { .. } | PatrolFault::Turns => TextFault::Limit,
-            PatrolFault::Memory => TextFault::Memory,
+            RowsFault::Malformed { line } => TextFault::Malformed { line },
+            RowsFault::Limit { .. } | RowsFault::Turns => TextFault::Limit,
+            RowsFault::Memory => TextFault::Memory,
         }
     }
 }

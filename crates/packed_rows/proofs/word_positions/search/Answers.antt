@@ -1,5 +1,0 @@
-use Rattle.packed_rows.proofs.Told.{last_at}
-use Rattle.packed_rows.proofs.word_positions.search.Goals as goal
-
-pub returns : goal.returns
-returns c = last_at c.args.words.now c.args.cell c.requires.rising c.loop-size.position c.loop-size.size c.loop-size.invariant c.loop-size-test.false

@@ -1,0 +1,91 @@
+-- What is read from bytes, and why they are refused, by the kind whose first line they begin with.
+use Rattle.std.proofs.Common.{inl, inr, ◌≡◌, ℕ, ◌≤◌, List, ◌++◌, length, Option, refl, sym, ap, subst, ◌∙◌}
+use Rattle.base.specs.declared.limits.TheConstants.{TABLE_LIMIT}
+use Rattle.game_core.specs.declared.game.Row.{Row}
+use Rattle.plant_record.specs.declared.limit_kind.LimitKind.TheVariants.{TableText}
+use Rattle.plant_record.specs.Description.{Description}
+use Rattle.row_runs.specs.declared.run.TableVersion.{TableVersion}
+use Rattle.controller_table.specs.declared.table_fault.TableFault.{TableFault}
+use Rattle.controller_table.specs.declared.table_fault.TableFault.TheVariants as tables
+use Rattle.controller_table.specs.declared.text_fault.TextFault.{TextFault as RowsFault}
+use Rattle.controller_table.specs.declared.text_fault.TextFault.TheVariants as rows
+use Rattle.controller_table.specs.declared.text_kind.TextKind.{TextKind}
+use Rattle.controller_table.specs.declared.text_kind.TextKind.TheVariants.{Table, Stay, Patrol}
+use Rattle.controller_table.specs.declared.text_kind.TheConstants.{PATROL_LIMIT}
+use Rattle.controller_table.specs.TextKinds.{first_line, most_bytes, turn_rules}
+use Rattle.controller_table.specs.KindTexts.{IsTextOf}
+use Rattle.controller_table.specs.HeadedTexts.{IsTextRefusedFor as IsRefusedAmong, alone, text_fault}
+use Rattle.controller_table.specs.inside.TextReading.{IsBegun, IsRefusedAfter}
+use Rattle.controller_table.proofs.EachKind.{one_kind}
+use Rattle.controller_table.proofs.TableTexts.{only_turn, as_table}
+use Rattle.controller_table.proofs.TextsRead.{refused_among}
+use Rattle.temporal_texts.proofs.OneStayText.{text_as_stay}
+use Rattle.temporal_texts.proofs.OnePatrolText.{text_as_patrol}
+use Rattle.text_control.specs.declared.text_fault.TextFault.TheVariants.{Malformed, Limit}
+use Rattle.text_control.specs.Texts.{TextModel, IsReadFrom, HasFirstLine, IsTextRefusedFor, fault_of_table, fault_of_patrol}
+
+-- ---- what is read
+
+pub read_from : (kind : TextKind) (bytes : List ℕ) (p : Description) (turns : List (List (Option Row))) (t : TextModel) → t ≡ record { kind = kind; plant = p; turns = turns; turn = 0 } → IsTextOf kind bytes p turns → IsReadFrom bytes t
+read_from (Table version) bytes p turns t says text =
+    let only = only_turn (turn_rules (Table version) p) turns refl text.within in
+    inl (
+      record { version = version; plant = p; rows = only.0 },
+      says ∙ ap (λ (x : List (List (Option Row))). record { kind = Table version; plant = p; turns = x; turn = 0 }) only.1,
+      as_table version bytes p only.0 (subst (λ (x : List (List (Option Row))). IsTextOf (Table version) bytes p x) only.1 text),
+    )
+read_from Stay bytes p turns t says text =
+    let only = only_turn (turn_rules Stay p) turns refl text.within in
+    inr (inl (
+      record { plant = p; rows = only.0 },
+      says ∙ ap (λ (x : List (List (Option Row))). record { kind = Stay; plant = p; turns = x; turn = 0 }) only.1,
+      text_as_stay bytes p only.0 (subst (λ (x : List (List (Option Row))). IsTextOf Stay bytes p x) only.1 text),
+    ))
+read_from Patrol bytes p turns t says text = inr (inr (record { plant = p; rows = turns }, says, text_as_patrol bytes p turns text))
+
+-- ---- why bytes are refused
+
+-- a reason other than the number of turns is one of a table
+without_turns : (Refuses : RowsFault → Type 0) (fault : RowsFault) → (Refuses rows.Turns → ⊥) → (fault ≡ rows.Memory → ⊥) → Refuses fault → (f : TableFault) × (fault_of_patrol fault ≡ fault_of_table f) × Refuses (text_fault f)
+without_turns Refuses (rows.Malformed line) few some refused = (tables.Malformed line, refl, refused)
+without_turns Refuses (rows.Limit what) few some refused = (tables.Limit what, refl, refused)
+without_turns Refuses rows.Turns few some refused = absurd (few refused)
+without_turns Refuses rows.Memory few some refused = absurd (some refl)
+
+-- a table begins as no other text
+no_table : (kind : TextKind) (version : TableVersion) (bytes rest : List ℕ) → bytes ≡ first_line (Table version) ++ rest → (Table version ≡ kind → ⊥) → HasFirstLine (first_line kind) bytes → ⊥
+no_table kind version bytes rest begun other first = other (one_kind (Table version) kind rest first.0 (sym begun ∙ first.1)).0
+
+no_stay : (version : TableVersion) → Table version ≡ Stay → ⊥
+no_stay version e = absurd (cc)
+
+no_patrol : (version : TableVersion) → Table version ≡ Patrol → ⊥
+no_patrol version e = absurd (cc)
+
+module _ (bytes : List ℕ) where
+  pub refused_after : (kind : TextKind) (rest : List ℕ) (fault : RowsFault) → bytes ≡ first_line kind ++ rest → length bytes ≤ most_bytes kind → (fault ≡ rows.Memory → ⊥) → IsRefusedAfter kind rest fault → IsTextRefusedFor bytes (fault_of_patrol fault)
+  refused_after (Table version) rest fault begun short some refused = inr (inr (
+    no_table Stay version bytes rest begun (no_stay version),
+    no_table Patrol version bytes rest begun (no_patrol version),
+    without_turns (IsRefusedAmong Table TABLE_LIMIT bytes) fault (λ h. h.1.many tt) some (refused_among Table version TABLE_LIMIT bytes rest short begun fault some refused),
+  ))
+  refused_after Stay rest fault begun short some refused = inl (
+    (rest, begun),
+    without_turns (IsRefusedAmong (alone Stay) TABLE_LIMIT bytes) fault (λ h. h.1.many tt) some (refused_among (alone Stay) tt TABLE_LIMIT bytes rest short begun fault some refused),
+  )
+  refused_after Patrol rest fault begun short some refused = inr (inl ((rest, begun), (fault, refl, refused_among (alone Patrol) tt PATROL_LIMIT bytes rest short begun fault some refused)))
+
+  pub too_long : (kind : TextKind) (rest : List ℕ) → bytes ≡ first_line kind ++ rest → (length bytes ≤ most_bytes kind → ⊥) → IsTextRefusedFor bytes Limit
+  too_long (Table version) rest begun long = inr (inr (no_table Stay version bytes rest begun (no_stay version), no_table Patrol version bytes rest begun (no_patrol version), (tables.Limit TableText, refl, long)))
+  too_long Stay rest begun long = inl ((rest, begun), (tables.Limit TableText, refl, long))
+  too_long Patrol rest begun long = inr (inl ((rest, begun), (rows.Limit TableText, refl, long)))
+
+  module _ (none : (y : TextKind × List ℕ) → IsBegun bytes y → ⊥) where
+    no_first_line : (kind : TextKind) → HasFirstLine (first_line kind) bytes → ⊥
+    no_first_line kind first = none (kind, first.0) first.1
+
+    pub none_too_long : (length bytes ≤ TABLE_LIMIT → ⊥) → IsTextRefusedFor bytes Limit
+    none_too_long long = inr (inr (no_first_line Stay, no_first_line Patrol, (tables.Limit TableText, refl, long)))
+
+    pub none_begins : length bytes ≤ TABLE_LIMIT → IsTextRefusedFor bytes (Malformed 1)
+    none_begins short = inr (inr (no_first_line Stay, no_first_line Patrol, (tables.Malformed 1, refl, (short, inl (refl, λ version rest begun. none (Table version, rest) begun)))))
