@@ -122,15 +122,6 @@ impl Table {
         })
     }
 
-    /// The version, the plant and the rows alone.
-    pub fn into_parts(self) -> (TableVersion, Plant, Answer)
-        ensures parts { record { version = result.0; plant = result.1; rows = result.2 } ≡ self }
-        ensures limits { IsWithinLimits result.1 }
-        ensures fit { RowsFit result.1 result.2 }
-    {
-        (self.version, self.plant, self.answer)
-    }
-
     pub(crate) fn answer(&self) -> &Answer
         ensures rows { result.now ≡ self.now.rows }
         ensures fit { RowsFit self.now.plant result.now }

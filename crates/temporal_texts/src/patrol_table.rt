@@ -80,14 +80,4 @@ impl PatrolTable {
     {
         self.rows.row(turn, cell)
     }
-
-    /// The plant and the rows alone.
-    pub fn into_parts(self) -> (Plant, PatrolRows)
-        ensures parts { record { plant = result.0; rows = result.1 } ≡ self }
-        ensures limits { IsWithinLimits result.0 }
-        ensures few { HasFewTurns result.0 }
-        ensures fit { PatrolRowsFit result.0 result.1 }
-    {
-        (self.plant, self.rows)
-    }
 }

@@ -71,13 +71,4 @@ impl StayTable {
     {
         self.answer.row(cell)
     }
-
-    /// The plant and the rows alone.
-    pub fn into_parts(self) -> (Plant, Answer)
-        ensures parts { record { plant = result.0; rows = result.1 } ≡ self }
-        ensures limits { IsWithinLimits result.0 }
-        ensures fit { StayRowsFit result.0 result.1 }
-    {
-        (self.plant, self.answer)
-    }
 }
