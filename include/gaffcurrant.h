@@ -54,7 +54,7 @@ extern "C" {
 
 /* Bytes of stack that gaffcurrant_open takes at most (measured over the deepest texts that the limits allow). Threads of some
    C libraries have less. */
-#define GAFFCURRANT_STACK (384 * 1024)
+#define GAFFCURRANT_STACK (128 * 1024)
 
 /* What the calls answer. */
 #define GAFFCURRANT_OPEN 0         /* gaffcurrant_open: the text is open */
