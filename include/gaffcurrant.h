@@ -54,7 +54,7 @@ extern "C" {
 
 /* Bytes of stack that gaffcurrant_open takes at most (measured over the deepest texts that the limits allow). Threads of some
    C libraries have less. */
-#define GAFFCURRANT_STACK (384 * 1024)
+#define GAFFCURRANT_STACK (128 * 1024)
 
 /* What the calls answer. */
 #define GAFFCURRANT_OPEN 0         /* gaffcurrant_open: the text is open */
@@ -148,7 +148,8 @@ int32_t gaffcurrant_follows(struct gaffcurrant *controller, const int64_t *state
 /* The version of the library: GAFFCURRANT_VERSION where it is that of this header. */
 uint32_t gaffcurrant_version(void);
 
-/* Frees the text (tested; no proved clause says so). A controller that holds none stays as it is, so it may be closed twice; it may be opened again. */
+/* Closes the controller: it holds no text then, and may be closed once more or opened again (proved). The text's memory is
+   freed (tested: no clause says so). */
 void gaffcurrant_close(struct gaffcurrant *controller);
 
 #ifdef __cplusplus

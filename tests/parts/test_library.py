@@ -59,6 +59,9 @@ DEEP = {
     "sums of products in minimums": (False, "min(0, 0 + 0 + 1 * 1 * " * 63 + "x" + ")" * 63),
     "signs in minimums": (False, "----min(0, " * 64 + "x" + ")" * 64),
     "signs before minimums": (False, "-" * 256 + "min(0, " * 64 + "x" + ")" * 64),
+    "a sum of 63 refused in minimums": (False, "0 + 1 * min(0, " * 64 + "x" + " + 0" * 62 + " + " + ")" * 64),
+    "signs refused in minimums": (False, "0 + 1 * -min(0, " * 63 + "-" * 62 + "x + " + ")" * 63),
+    "a sum of 63 refused in tables": (False, "0 + 1 * lut(" * 64 + "x" + " + 0" * 62 + " + " + ", 0:0, 14:14)" * 64),
     "sums of products in tables": (False, "lut(0 + 0 + 1 * 1 * " * 63 + "x" + ", 0:0, 14:14)" * 63),
 }
 
@@ -209,7 +212,7 @@ class Library(ToolCase):
         """A thread with the stack that the header tells opens each of the deepest texts."""
         header = (TOP / "include/gaffcurrant.h").read_text()
         told = int(re.search(r"#define GAFFCURRANT_STACK \((\d+) \* 1024\)", header).group(1))
-        for name in ("tools/library", "examples/device/README.md"):
+        for name in ("tools/library", "examples/device/README.md", "docs/CLAIM.md"):
             self.holds(f"the stack in {name}", f"{told} KiB" in (TOP / name).read_text(), f"not {told} KiB")
         for backend, library in self.libraries.items():
             program = self.compiled(f"stack_{backend}", "stack.c", library, THREADS)

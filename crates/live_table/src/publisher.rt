@@ -99,7 +99,8 @@ impl Publisher {
         Ok(Told { copies, prefix })
     }
 
-    /// Ends it. It waits for readers that are reading.
+    /// Ends it. It waits for readers that are reading, and who asks afterwards is refused. No clause says so, since nothing
+    /// is left of it and nothing is answered (tested: `run_tests`).
     pub fn close<R: Wait>(self, rt: &R) {
         let Publisher {
             copies,

@@ -1,14 +1,15 @@
 //! Expressions by recursive descent: a sum is terms, a term is factors, and a factor is a leaf or has brackets.
 //! Numbers and variables are tested here too, so that nothing is asked of the tokens.
 
-ghost use Rattle.std.specs.Prelude.{◌≡◌, ◌≢◌, ◌≤◌, ◌-◌, length, IfOk, Err};
+ghost use Rattle.std.specs.Prelude.{◌≡◌, ◌≢◌, ◌≤◌, ◌-◌, length, get_or, IfOk, Err};
 ghost use Rattle.std.specs.List.{All, AllPairs};
 ghost use Rattle.fixed_expr.specs.Expression.{Expression, expression_of};
 ghost use Rattle.plant_record.specs.Names.{IsName};
 ghost use Rattle.plant_record.specs.Parts.{variable_names};
-ghost use Rattle.plant_reading.specs.inside.ExpressionReading.{Gives, Inside, Signed, RestOfSum, RestOfTerm, after_open, after_close, after_comma, bracketed, pair_of, number_at, negative, minimum, maximum, absolute, looked_up, factor_of, after_term, term_of, after_sum, sum_of, whole, GivesExpression, GivesPair, reader_in, read_in};
+ghost use Rattle.plant_reading.specs.inside.ExpressionReading.{Gives, IsBelow, Inside, after_open, after_close, after_comma, bracketed, pair_of, number_at, negated, minimum, maximum, absolute, looked_up, factor_of, after_term, term_of, after_sum, sum_of, whole, GivesExpression, GivesPair, reader_in, read_in};
 ghost use Rattle.base.specs.declared.limits.TheConstants.{VARIABLES_LIMIT};
 ghost use Rattle.plant_reading.specs.StatementsRead.{SpellsOver};
+ghost use Rattle.plant_reading.specs.declared.token_kind.TokenKind.TheVariants as kind;
 
 use crate::line_fault::LineFault;
 use crate::operand::Operand;
@@ -19,7 +20,7 @@ use fixed_expr::Expr;
 use plant_record::Variables;
 use std::alloc::Global;
 
-/// How deep calls may be nested: one for each node and each open bracket.
+/// How often reading may go on: once for each node and each open bracket.
 const CALLS_LIMIT: u32 = NODES_LIMIT + BRACKETS_LIMIT;
 
 /// What an expression may have.
@@ -27,22 +28,24 @@ const CALLS_LIMIT: u32 = NODES_LIMIT + BRACKETS_LIMIT;
 struct Budget {
     /// How many variables there are.
     variables: u32,
-    /// How deep calls may be nested.
+    /// How often reading may go on, by a sign, an operator or a bracket.
     calls: u32,
     /// How many brackets may be opened.
     brackets: u32,
 }
 
 impl Budget {
-    /// One nested call less.
-    fn below(self) -> Budget
-        requires { 1 ≤ self.calls }
-        ensures { result ≡ record { variables = self.variables; calls = self.calls - 1; brackets = self.brackets } }
+    /// One call less, where one is left.
+    fn below(self) -> Result<Budget, LineFault>
+        ensures { IsBelow self result }
     {
-        Budget {
+        if self.calls == 0 {
+            return Err(LineFault::Malformed);
+        }
+        Ok(Budget {
             calls: self.calls - 1,
             ..self
-        }
+        })
     }
 
     /// One bracket less.
@@ -100,43 +103,32 @@ fn take_sum(
 
 /// What stands after a sum goes on with it.
 #[cycle(descent)]
-#[tactic(auto, unfolding(crate::specs::inside::ExpressionReading::after_sum))]
+#[tactic(auto, using(crate::proofs::lemmas::ReadingSteps::read_none), unfolding(crate::specs::inside::ExpressionReading::after_sum))]
 fn after_sum(
     alloc: Global,
-    budget: Budget,
-    sum: Operand,
-    tokens: &[TokenKind],
+    mut budget: Budget,
+    mut sum: Operand,
+    mut tokens: &[TokenKind],
 ) -> Result<(Operand, &[TokenKind]), LineFault>
     ensures { GivesExpression result (read_in budget after_sum (expression_of sum) tokens.now) }
 {
-    match tokens {
-        [TokenKind::Plus, rest @ ..] => {
-            let (term, rest) = take_term(alloc, budget, rest)?;
-            rest_of_sum(alloc, budget, sum.add(alloc, term)?, rest)
+    loop {
+        match tokens {
+            [TokenKind::Plus, rest @ ..] => {
+                let (term, rest) = take_term(alloc, budget, rest)?;
+                sum = sum.add(alloc, term)?;
+                budget = budget.below()?;
+                tokens = rest;
+            }
+            [TokenKind::Minus, rest @ ..] => {
+                let (term, rest) = take_term(alloc, budget, rest)?;
+                sum = sum.sub(alloc, term)?;
+                budget = budget.below()?;
+                tokens = rest;
+            }
+            _ => return Ok((sum, tokens)),
         }
-        [TokenKind::Minus, rest @ ..] => {
-            let (term, rest) = take_term(alloc, budget, rest)?;
-            rest_of_sum(alloc, budget, sum.sub(alloc, term)?, rest)
-        }
-        _ => Ok((sum, tokens)),
     }
-}
-
-/// The same by a nested call.
-#[cycle(descent)]
-#[tactic(auto, unfolding(crate::specs::inside::ExpressionReading::step))]
-fn rest_of_sum(
-    alloc: Global,
-    budget: Budget,
-    sum: Operand,
-    tokens: &[TokenKind],
-) -> Result<(Operand, &[TokenKind]), LineFault>
-    ensures { GivesExpression result (reader_in budget (RestOfSum budget.brackets (expression_of sum) tokens.now)) }
-{
-    if budget.calls == 0 {
-        return Err(LineFault::Malformed);
-    }
-    after_sum(alloc, budget.below(), sum, tokens)
 }
 
 /// A term at the front.
@@ -155,53 +147,75 @@ fn take_term(
 
 /// What stands after a term goes on with it.
 #[cycle(descent)]
-#[tactic(auto, unfolding(crate::specs::inside::ExpressionReading::after_term))]
+#[tactic(auto, using(crate::proofs::lemmas::ReadingSteps::read_none), unfolding(crate::specs::inside::ExpressionReading::after_term))]
 fn after_term(
     alloc: Global,
-    budget: Budget,
-    term: Operand,
-    tokens: &[TokenKind],
+    mut budget: Budget,
+    mut term: Operand,
+    mut tokens: &[TokenKind],
 ) -> Result<(Operand, &[TokenKind]), LineFault>
     ensures { GivesExpression result (read_in budget after_term (expression_of term) tokens.now) }
 {
-    match tokens {
-        [TokenKind::Star, rest @ ..] => {
-            let (factor, rest) = take_factor(alloc, budget, rest)?;
-            rest_of_term(alloc, budget, term.mul(alloc, factor)?, rest)
+    loop {
+        match tokens {
+            [TokenKind::Star, rest @ ..] => {
+                let (factor, rest) = take_factor(alloc, budget, rest)?;
+                term = term.mul(alloc, factor)?;
+                budget = budget.below()?;
+                tokens = rest;
+            }
+            [TokenKind::Slash, rest @ ..] => {
+                let (k, rest) = take_divisor(rest)?;
+                term = term.div(alloc, k)?;
+                budget = budget.below()?;
+                tokens = rest;
+            }
+            _ => return Ok((term, tokens)),
         }
-        [TokenKind::Slash, rest @ ..] => {
-            let (k, rest) = take_divisor(rest)?;
-            rest_of_term(alloc, budget, term.div(alloc, k)?, rest)
-        }
-        _ => Ok((term, tokens)),
     }
 }
 
-/// The same by a nested call.
+/// A factor at the front, with its signs.
 #[cycle(descent)]
-#[tactic(auto, unfolding(crate::specs::inside::ExpressionReading::step))]
-fn rest_of_term(
-    alloc: Global,
-    budget: Budget,
-    term: Operand,
-    tokens: &[TokenKind],
-) -> Result<(Operand, &[TokenKind]), LineFault>
-    ensures { GivesExpression result (reader_in budget (RestOfTerm budget.brackets (expression_of term) tokens.now)) }
-{
-    if budget.calls == 0 {
-        return Err(LineFault::Malformed);
-    }
-    after_term(alloc, budget.below(), term, tokens)
-}
-
-/// A factor at the front.
-#[cycle(descent)]
-#[tactic(auto, unfolding(crate::specs::inside::ExpressionReading::factor_of))]
+#[tactic(auto, using(crate::proofs::lemmas::ReadingSteps::read_none), unfolding(crate::specs::inside::ExpressionReading::factor_of))]
 fn take_factor(
     alloc: Global,
+    mut budget: Budget,
+    mut tokens: &[TokenKind],
+) -> Result<(Operand, &[TokenKind]), LineFault>
+    ensures { GivesExpression result (read_in budget factor_of tokens.now) }
+{
+    let mut signs = 0;
+    while let [TokenKind::Minus, rest @ ..] = tokens {
+        budget = budget.below()?;
+        signs += 1;
+        tokens = rest;
+    }
+    let (factor, rest) = unsigned_factor(alloc, budget, tokens)?;
+    Ok((negated(alloc, signs, factor)?, rest))
+}
+
+/// A factor negated so often.
+#[tactic(auto, unfolding(crate::specs::inside::ExpressionReading::negated))]
+fn negated(alloc: Global, mut signs: u32, mut factor: Operand) -> Result<Operand, LineFault>
+    ensures { Gives expression_of result (negated signs (expression_of factor)) }
+{
+    while signs > 0 {
+        factor = factor.neg(alloc)?;
+        signs -= 1;
+    }
+    Ok(factor)
+}
+
+/// A factor with no sign at the front.
+#[cycle(descent)]
+#[tactic(auto, unfolding(crate::specs::inside::ExpressionReading::factor_of))]
+fn unsigned_factor(
+    alloc: Global,
     budget: Budget,
     tokens: &[TokenKind],
 ) -> Result<(Operand, &[TokenKind]), LineFault>
+    requires { get_or tokens.now 0 (kind.Number 0) ≢ kind.Minus }
     ensures { GivesExpression result (read_in budget factor_of tokens.now) }
 {
     match tokens {
@@ -210,7 +224,6 @@ fn take_factor(
             Operand::var(alloc, *i)?,
             rest,
         )),
-        [TokenKind::Minus, rest @ ..] => negative(alloc, budget, rest),
         [TokenKind::Open, rest @ ..] => bracketed(alloc, budget, rest),
         [TokenKind::Min, rest @ ..] => minimum(alloc, budget, rest),
         [TokenKind::Max, rest @ ..] => maximum(alloc, budget, rest),
@@ -227,19 +240,6 @@ fn take_number(alloc: Global, tokens: &[TokenKind]) -> Result<(Operand, &[TokenK
 {
     let (k, rest) = take_literal(tokens)?;
     Ok((Operand::num(alloc, k)?, rest))
-}
-
-/// The negative of a factor after a minus.
-#[cycle(descent)]
-fn negative(
-    alloc: Global,
-    budget: Budget,
-    tokens: &[TokenKind],
-) -> Result<(Operand, &[TokenKind]), LineFault>
-    ensures { GivesExpression result (negative (reader_in budget) budget.brackets tokens.now) }
-{
-    let (factor, rest) = signed(alloc, budget, tokens)?;
-    Ok((factor.neg(alloc)?, rest))
 }
 
 /// The lesser of two sums in brackets.
@@ -295,25 +295,9 @@ fn looked_up(
     Ok((sum.lut(alloc, curve)?, rest))
 }
 
-/// A factor after a sign, by a nested call.
-#[cycle(descent)]
-#[tactic(auto, unfolding(crate::specs::inside::ExpressionReading::step))]
-fn signed(
-    alloc: Global,
-    budget: Budget,
-    tokens: &[TokenKind],
-) -> Result<(Operand, &[TokenKind]), LineFault>
-    ensures { GivesExpression result (reader_in budget (Signed budget.brackets tokens.now)) }
-{
-    if budget.calls == 0 {
-        return Err(LineFault::Malformed);
-    }
-    take_factor(alloc, budget.below(), tokens)
-}
-
 /// A sum after a bracket that was opened, by a nested call.
 #[cycle(descent)]
-#[tactic(auto, unfolding(crate::specs::inside::ExpressionReading::step))]
+#[tactic(auto, using(crate::proofs::lemmas::ReadingSteps::read_none), unfolding(crate::specs::inside::ExpressionReading::step))]
 fn inside(
     alloc: Global,
     budget: Budget,
@@ -321,13 +305,10 @@ fn inside(
 ) -> Result<(Operand, &[TokenKind]), LineFault>
     ensures { GivesExpression result (reader_in budget (Inside budget.brackets tokens.now)) }
 {
-    if budget.calls == 0 {
-        return Err(LineFault::Malformed);
-    }
     if budget.brackets == 0 {
         return Err(LineFault::Malformed);
     }
-    take_sum(alloc, budget.below().inside(), tokens)
+    take_sum(alloc, budget.below()?.inside(), tokens)
 }
 
 /// The same with the bracket that closes.
@@ -346,7 +327,7 @@ fn bracketed(
 
 /// Two sums in brackets.
 #[cycle(descent)]
-#[tactic(auto, unfolding(crate::specs::inside::ExpressionReading::pair_of))]
+#[tactic(auto, unfolding(crate::specs::inside::ExpressionReading::pair_of, crate::specs::inside::ExpressionReading::bracketed))]
 fn take_pair(
     alloc: Global,
     budget: Budget,
@@ -355,8 +336,8 @@ fn take_pair(
     ensures { GivesPair result (pair_of (reader_in budget) budget.brackets tokens.now) }
 {
     let (a, rest) = inside(alloc, budget, after_open(tokens)?)?;
-    let (b, rest) = bracketed(alloc, budget, after_comma(rest)?)?;
-    Ok((a, b, rest))
+    let (b, rest) = inside(alloc, budget, after_comma(rest)?)?;
+    Ok((a, b, after_close(rest)?))
 }
 
 /// All tokens as one sum.

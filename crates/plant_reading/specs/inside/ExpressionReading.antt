@@ -200,6 +200,13 @@ looked_up r b ts = do
   e ← kept (LutExpr a.0 points.0)
   Some (e, points.1)
 
+-- an expression negated so often
+unfoldable pub negated : ℕ → Expression → Option Expression
+negated zero a = Some a
+negated (suc n) a = do
+  e ← kept (NegExpr a)
+  negated n e
+
 -- a factor
 unfoldable pub factor_of : ℕ → (Ask → Read) → ℕ → List TokenKind → Read
 factor_of m r b (kind.Number k ∷ ts) = number_at (kind.Number k ∷ ts)
@@ -267,6 +274,11 @@ reader_in budget = read_at budget.variables budget.calls
 -- what a part gives with the variables, the calls and the brackets of a budget
 abbrev pub read_in : {Y : Type 0} → Budget → (ℕ → (Ask → Read) → ℕ → Y) → Y
 read_in budget part = part budget.variables (reader_in budget) budget.brackets
+
+-- a budget that leaves one call less, or none of no calls
+abbrev pub IsBelow : Budget → Result Budget LineFault → Type 0
+IsBelow budget (Ok below) = (budget.calls ≡ suc below.calls) × (budget.variables ≡ below.variables) × (budget.brackets ≡ below.brackets)
+IsBelow budget (Err e) = (budget.calls ≡ 0) × (e ≡ faults.Malformed)
 
 -- all tokens as one sum
 unfoldable pub whole : ℕ → List TokenKind → Option Expression

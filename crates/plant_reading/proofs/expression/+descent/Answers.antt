@@ -1,45 +1,48 @@
-use Rattle.std.proofs.Common.{◌≡◌, ◌≤◌, false, eqb, arith}
+use Rattle.std.proofs.Common.{◌≡◌, ◌∙◌, false, eqb, sym, arith, rules}
 use Rattle.std.proofs.lemmas.Bool.{ne_eqb}
-use Rattle.plant_reading.specs.inside.ExpressionReading.{step}
-use Rattle.plant_reading.proofs.lemmas.ReadingSteps.{read_more, read_none, no_bracket}
+use Rattle.plant_reading.specs.declared.token_kind.TokenKind.TheVariants as kind
+use Rattle.plant_reading.specs.inside.ExpressionReading.{after_sum, after_term, read_at, step}
+use Rattle.plant_reading.proofs.lemmas.ReadingSteps.{no_bracket, headed, rest_of_sum, rest_of_term, no_sign, sign_more}
 use Rattle.plant_reading.proofs.expression.+descent.Goals as goal
 
-pub rest_of_sum-returns-then-budget-eq0 : goal.rest_of_sum-returns-then-budget-eq0
-rest_of_sum-returns-then-budget-eq0 t c = read_none _ _ _ (omega arith)
+pub after_sum-loop-tokens-preserved-in-Plus-1 : goal.after_sum-loop-tokens-preserved-in-Plus-1
+unfolding after_sum
+after_sum-loop-tokens-preserved-in-Plus-1 t c =
+    let is = headed c.loop-tokens.tokens.now kind.Plus (search rules) c.in-Plus.len_at_least in
+    (rw (is, c.in_ok-term-in-Plus.ensures, c.in_ok-sum-in-Plus.ensures, rest_of_sum _ _ _ _ c.in_ok-budget-in-Plus.ensures) at c.loop-tokens.invariant.0, omega arith)
 
-pub rest_of_sum-returns : goal.rest_of_sum-returns
-unfolding step
-rest_of_sum-returns t c =
-    let some : 1 ≤ c.args.budget.calls = omega arith in
-    rw read_more (rw c.below.ensures at c.after_sum.ensures)
+pub after_sum-loop-tokens-preserved : goal.after_sum-loop-tokens-preserved
+unfolding after_sum
+after_sum-loop-tokens-preserved t c =
+    let is = headed c.loop-tokens.tokens.now kind.Minus (search rules) c.in-Minus.len_at_least in
+    (rw (is, c.in_ok-term-in-Minus.ensures, c.in_ok-sum-in-Minus.ensures, rest_of_sum _ _ _ _ c.in_ok-budget-in-Minus.ensures) at c.loop-tokens.invariant.0, omega arith)
 
-pub rest_of_term-returns-then-budget-eq0 : goal.rest_of_term-returns-then-budget-eq0
-rest_of_term-returns-then-budget-eq0 t c = read_none _ _ _ (omega arith)
+pub after_term-loop-tokens-preserved-in-Star-1 : goal.after_term-loop-tokens-preserved-in-Star-1
+unfolding after_term
+after_term-loop-tokens-preserved-in-Star-1 t c =
+    let is = headed c.loop-tokens.tokens.now kind.Star (search rules) c.in-Star.len_at_least in
+    (rw (is, c.in_ok-factor-in-Star.ensures, c.in_ok-term-in-Star.ensures, rest_of_term _ _ _ _ c.in_ok-budget-in-Star.ensures) at c.loop-tokens.invariant.0, omega arith)
 
-pub rest_of_term-returns : goal.rest_of_term-returns
-unfolding step
-rest_of_term-returns t c =
-    let some : 1 ≤ c.args.budget.calls = omega arith in
-    rw read_more (rw c.below.ensures at c.after_term.ensures)
-
-pub signed-returns-then-budget-eq0 : goal.signed-returns-then-budget-eq0
-signed-returns-then-budget-eq0 t c = read_none _ _ _ (omega arith)
-
-pub signed-returns : goal.signed-returns
-unfolding step
-signed-returns t c =
-    let some : 1 ≤ c.args.budget.calls = omega arith in
-    rw read_more (rw c.below.ensures at c.take_factor.ensures)
+pub after_term-loop-tokens-preserved : goal.after_term-loop-tokens-preserved
+unfolding after_term
+after_term-loop-tokens-preserved t c =
+    let is = headed c.loop-tokens.tokens.now kind.Slash (search rules) c.in-Slash.len_at_least in
+    (rw (is, c.in_ok-k-in-Slash.ensures.number, c.in_ok-term-in-Slash.ensures, rest_of_term _ _ _ _ c.in_ok-budget-in-Slash.ensures) at c.loop-tokens.invariant.0, omega arith)
 
 pub inside-returns-then-budget-eq0 : goal.inside-returns-then-budget-eq0
-inside-returns-then-budget-eq0 t c = read_none _ _ _ (omega arith)
-
-pub inside-returns-then-budget-eq0-2 : goal.inside-returns-then-budget-eq0-2
-inside-returns-then-budget-eq0-2 t c = no_bracket _ _ _ _ (omega arith)
+inside-returns-then-budget-eq0 t c = no_bracket _ _ _ _ (omega arith)
 
 pub inside-returns : goal.inside-returns
-unfolding step
+unfolding read_at step
 inside-returns t c =
-    let some : 1 ≤ c.args.budget.calls = omega arith in
+    let below = c.in_ok-below.ensures in
     let opened : eqb c.args.budget.brackets 0 ≡ false = ne_eqb c.args.budget.brackets 0 (λ e. omega arith) in
-    rw (read_more, opened) (rw (c.inside.ensures, c.below.ensures) at c.take_sum.ensures)
+    rw (below.1, below.0, opened, below.2) (rw c.inside.ensures at c.take_sum.ensures)
+
+pub take_factor-loop-tokens-init : goal.take_factor-loop-tokens-init
+take_factor-loop-tokens-init t c = (no_sign _, omega arith)
+
+pub take_factor-loop-tokens-preserved : goal.take_factor-loop-tokens-preserved
+take_factor-loop-tokens-preserved t c =
+    let is = headed c.loop-tokens.tokens.now kind.Minus (search rules) c.in-Minus.len_at_least in
+    (sym (sign_more _ _ _ _ c.in_ok-budget.ensures) ∙ rw is at c.loop-tokens.invariant.0, omega arith)
