@@ -10,14 +10,14 @@ from typing import Any, Callable, Iterable, NamedTuple, Optional
 import numpy
 from numpy.typing import NDArray
 
+from ..plants.array_kinds import Flags, Numbers, Reals, Wholes
 from ..plants.batch import ARRAY_SHAPES, ARRAY_SPANS, BLOCK, ROOM, Batch
 from ..plants.bounds import compiled, compiled_span
 from ..plants.expression import uses_of
+from ..plants.kinds import Interval, Node, Span, Value
 from ..plants.plant import Plant
 from ..plants.units import Units
 from .logs import Log, sampling_of
-from ..plants.array_kinds import Flags, Numbers, Reals, Wholes
-from ..plants.kinds import Interval, Node, Span, Value
 
 # A value counts as at a unit's end from here on, as in arrays.whole_states; and an input as one of its values.
 NEAR, AT_VALUE = 1e-9, 1e-6

@@ -8,8 +8,8 @@ from typing import Callable, Iterator, NamedTuple, Optional, Tuple
 
 import numpy
 
-from .conformity import Conformity, column
 from ..plants.array_kinds import Flags, Numbers, Reals, Wholes
+from .conformity import Conformity, column
 
 # Steps that are looked at, at most; and for few or many input vectors of a sample that is missing.
 LOOKED, VECTORS = 6000, 32

@@ -12,8 +12,8 @@ import numpy
 from numpy.typing import ArrayLike
 
 from ..faults import Trouble
-from ..plants.units import Units
 from ..plants.array_kinds import Flags, Reals, Wholes
+from ..plants.units import Units
 
 TIMES = ("time", "t")
 SEPARATORS = (",", ";", "\t")

@@ -7,11 +7,11 @@ from typing import NamedTuple
 
 import numpy
 
+from ..plants.array_kinds import Flags, Wholes
 from ..texts.arrays import Rows
 from ..texts.promise import has_fallen
 from ..texts.table import Text
 from .conformity import Conformity
-from ..plants.array_kinds import Flags, Wholes
 
 
 class Promises(NamedTuple):

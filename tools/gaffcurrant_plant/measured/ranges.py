@@ -15,12 +15,12 @@ from ..models.arithmetic import Floats
 from ..models.best_plant import planted
 from ..models.formula import value_of
 from ..models.model import Model, read_model
+from ..plants.array_kinds import Flags
+from ..plants.plant import Plant
 from ..plants.reader import read_plant
 from ..plants.units import decimal
 from .conformity import Conformity, conform
 from .logs import Log
-from ..plants.array_kinds import Flags
-from ..plants.plant import Plant
 
 # Rounds in which ranges grow until the log is explained, and the digits of what is written.
 ROUNDS, DIGITS = 16, 3
@@ -149,7 +149,7 @@ class ModelText(Edited):
         self.model: Model = read_model(text.encode())
         self.last = max(self.model.variable_lines.values())
         self.rows = [list(row) for row in self.model.rows["w"]]
-        self.time = self.model.sample if self.model.flows else Fraction(1)
+        self.time = self.model.time if self.model.flows else Fraction(1)
 
     def plant(self) -> Plant:
         """The plant of the text as it is by now."""

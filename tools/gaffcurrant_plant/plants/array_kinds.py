@@ -14,6 +14,7 @@ Reals = NDArray[numpy.floating[Any]]
 Numbers = NDArray[Any]
 # Numbers, or one that holds for all.
 Column = Union[int, Numbers]
+RealColumn = Union[float, Reals]
 Ends = Tuple[Numbers, Numbers]
 # For each state the first and the last indices of boxes.
 Extents = Sequence[Sequence[Wholes]]

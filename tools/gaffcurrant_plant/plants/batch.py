@@ -8,9 +8,9 @@ from typing import TYPE_CHECKING, Any, Iterable, Iterator, Optional, Sequence, U
 import numpy
 
 from ..faults import Overflow
+from .array_kinds import Column, Ends, Extents, Flags, Numbers, Wholes
 from .bounds import SHAPES, SPANS, bounds_of, compiled, compiled_span
 from .expression import walk
-from .array_kinds import Column, Ends, Extents, Flags, Numbers, Wholes
 from .kinds import Box, Cell, Corners, Interval, Node, Points, Vector
 
 if TYPE_CHECKING:

@@ -12,9 +12,9 @@ from ..faults import Overflow, Refused, TooMuch
 from .bounds import TOP, bounds_of, compiled, compiled_span
 from .edge_count import edges_of
 from .expression import text_of, uses_of
+from .kinds import Area, Bounds, Box, Cell, Corners, Input, Interval, Node, Noise, State, Vector
 from .periods import periods_of, rolled_out
 from .units import Units
-from .kinds import Area, Bounds, Box, Cell, Corners, Input, Interval, Node, Noise, State, Value, Vector
 
 if TYPE_CHECKING:
     from .batch import Batch
@@ -61,6 +61,12 @@ class Plant:
 
     def names(self) -> list[str]:
         return names_of(self.states, self.inputs, self.noises)
+
+    def state_names(self) -> list[str]:
+        return [state[0] for state in self.states]
+
+    def input_names(self) -> list[str]:
+        return [name for name, _ in self.inputs]
 
     def text(self) -> str:
         """The canonical text."""

@@ -8,8 +8,8 @@ from typing import Iterable, Optional, Sequence, Sized
 
 from ..faults import Fault, Refused
 from . import expression
-from .plant import Plant, names_of
 from .kinds import Box, Input, Node, Noise, State
+from .plant import Plant, names_of
 
 TEXT_LIMIT = 65536
 MOST = {"state": 6, "input": 3, "noise": 6, "target": 64, "obstacle": 64}

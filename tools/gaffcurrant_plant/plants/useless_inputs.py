@@ -6,8 +6,8 @@ from typing import TYPE_CHECKING, Sequence
 
 import numpy
 
-from .batch import cells_that_meet, cells_within
 from .array_kinds import Flags, Wholes
+from .batch import cells_that_meet, cells_within
 from .kinds import Vector
 
 if TYPE_CHECKING:

@@ -10,13 +10,13 @@ import numpy
 from numpy.typing import ArrayLike, NDArray
 
 from ..faults import Refused
+from ..plants.array_kinds import Flags, Reals, Wholes
 from ..plants.batch import OUTSIDE, cells_at
+from ..plants.kinds import Cell, Input, Row, State
 from ..plants.plant import Plant, holds
 from ..plants.units import Units
 from .promise import turn_after
 from .rows import VERSIONS, Front, front_of
-from ..plants.array_kinds import Flags, Reals, Wholes
-from ..plants.kinds import Cell, Input, Row, State
 
 from .table import Table, Text, Turn, parts_of
 

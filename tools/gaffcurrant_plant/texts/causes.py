@@ -4,14 +4,14 @@ out at once; needs numpy."""
 
 from __future__ import annotations
 
-from typing import TYPE_CHECKING, Dict, List, Optional, Tuple, Union
+from typing import TYPE_CHECKING, Optional, Tuple, Union
 
 import numpy
 
-from ..plants.batch import Sums, cells_that_meet, cells_within, fans, summed
-from .arrays import RowArrays
 from ..plants.array_kinds import Extents, Flags, Wholes
+from ..plants.batch import Sums, cells_that_meet, cells_within, fans, summed
 from ..plants.kinds import Cell, Vector
+from .arrays import RowArrays
 
 if TYPE_CHECKING:
     from ..progress import Progress

@@ -5,10 +5,10 @@ from __future__ import annotations
 from typing import Callable, Iterable, Iterator, Optional, Sequence
 
 from ..faults import Refused
+from ..plants.kinds import Cell, Row
 from ..plants.plant import Plant
 from ..plants.reader import lines_of
 from .promise import turn_after
-from ..plants.kinds import Cell, Row
 
 MULTIPLIER, INCREMENT = 6364136223846793005, 1442695040888963407
 

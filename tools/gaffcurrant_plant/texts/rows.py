@@ -8,9 +8,9 @@ from operator import le, lt
 from typing import Iterator, NoReturn, Optional, Sequence
 
 from ..faults import Refused
-from ..plants.reader import lines_of, read_lines
-from ..plants.plant import Plant
 from ..plants.kinds import Cell, Rank, Row, RowRun, Vector
+from ..plants.plant import Plant
+from ..plants.reader import lines_of, read_lines
 
 NUMBER = re.compile(r"(0|[1-9][0-9]*)\Z")
 # Row lines whose numbers are written as they have to be, of runs of cells and of single cells.

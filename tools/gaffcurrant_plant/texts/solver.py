@@ -7,14 +7,14 @@ import shutil
 import subprocess
 from itertools import repeat
 from pathlib import Path
-from typing import Callable, Iterable, NamedTuple, Optional, Sequence, SupportsInt, Union
+from typing import Callable, Iterable, NamedTuple, Optional, SupportsInt, Union
 
 from ..faults import Refused, Trouble
+from ..plants.plant import Plant
 from ..plants.reader import read_plant
 from ..progress import Progress
 from .loop import noises
 from .table import Patrol, Stay, Table, read_patrol, read_stay, read_table
-from ..plants.plant import Plant
 
 PACKAGE = Path(__file__).resolve().parents[1]
 Disturbance = Callable[[int, tuple[int, ...], tuple[int, ...]], Iterable[SupportsInt]]

@@ -7,10 +7,10 @@ from __future__ import annotations
 import contextlib
 from typing import TYPE_CHECKING, Iterable, Literal, Mapping, Optional, Sequence, SupportsInt, TypeVar, Union
 
+from ..plants.kinds import Box, Cell, Row, RowRun
 from ..plants.plant import Plant, holds
 from .promise import turn_after
 from .rows import Front, Lines, front_of
-from ..plants.kinds import Box, Cell, Row, RowRun
 
 if TYPE_CHECKING:
     from ..plants.units import Units
