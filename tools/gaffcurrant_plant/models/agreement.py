@@ -157,8 +157,8 @@ def check_variables(
     plant: Plant,
 ) -> None:
     for kind, names, others in (
-        ("states", [state[0] for state in states], [state[0] for state in plant.states]),
-        ("inputs", [name for name, _ in inputs], [name for name, _ in plant.inputs]),
+        ("states", [state[0] for state in states], plant.state_names()),
+        ("inputs", [name for name, _ in inputs], plant.input_names()),
     ):
         if names != others:
             raise Trouble(

@@ -80,7 +80,7 @@ class Chooser:
         else:
             self.take_samplings()
         if not self.best:
-            raise next(one for _, one in self.tried if isinstance(one, Failure))
+            raise self.first_fault()
         if self.best.flow and self.best.is_rest_wide() and self.trials <= MOST_TRIALS:
             self.sharpen()
         if self.model.flows or self.best.room.is_nested:
@@ -98,6 +98,10 @@ class Chooser:
         for steps in () if model.steps else STEPS:
             if not self.best or not self.best.is_rest_wide() or not self.take_finer(steps):
                 break
+
+    def first_fault(self) -> Failure:
+        """What is wrong with the first planting that was tried, where each has a fault."""
+        return next(one for _, one in self.tried if isinstance(one, Failure))
 
     def words_of_best(self) -> str:
         return next(words for words, one in self.tried if one is self.best)

@@ -56,7 +56,16 @@ class Model:
         self.variable_lines: dict[str, int] = {}
 
     def names(self) -> list[str]:
-        return [state[0] for state in self.states] + [one[0] for one in self.inputs] + [one[0] for one in self.noises]
+        return self.state_names() + self.input_names() + self.noise_names()
+
+    def state_names(self) -> list[str]:
+        return [state[0] for state in self.states]
+
+    def input_names(self) -> list[str]:
+        return [name for name, *_ in self.inputs]
+
+    def noise_names(self) -> list[str]:
+        return [name for name, *_ in self.noises]
 
     @property
     def time(self) -> Fraction:

@@ -138,21 +138,19 @@ def check_plant(path: str, data: bytes, plant: Plant) -> None:
 def check_model(path: str, model: Model, plant: Plant) -> None:
     """Whether the model has the text's states and inputs, in its units."""
     for what, of_model, of_plant in (
-        ("states", [state[0] for state in model.states], plant.state_names()),
-        ("inputs", [name for name, *_ in model.inputs], plant.input_names()),
+        ("states", model.state_names(), plant.state_names()),
+        ("inputs", model.input_names(), plant.input_names()),
     ):
         names, wanted = (", ".join(some) or "none" for some in (of_model, of_plant))
         if names != wanted:
             raise Trouble(f"{path}: the model's {what} are {names}, those of the text {wanted}")
-    for (name, low, high, width, unit), state in zip(model.states, plant.states):
-        found, due = [low / unit, high / unit - 1, width / unit], [Fraction(one) for one in state[1:]]
-        if found != due:
-            said = (" ".join(map(decimal, some)) for some in (found, due))
-            raise Trouble(
-                "{}: by the model {} has LO HI WIDTH {} in its units, by the text {}".format(path, name, *said)
-            )
+    for (name, low, high, width, unit), (_, *numbers) in zip(model.states, plant.states):
+        found = [low / unit, high / unit - 1, width / unit]
+        if found != numbers:
+            ours, theirs = " ".join(map(decimal, found)), " ".join(map(str, numbers))
+            raise Trouble(f"{path}: by the model {name} has LO HI WIDTH {ours} in its units, by the text {theirs}")
     for (name, unit, values), (_, whole) in zip(model.inputs, plant.inputs):
-        if [value / unit for value in values] != [Fraction(value) for value in whole]:
+        if any(value != number * unit for value, number in zip(values, whole)) or len(values) != len(whole):
             raise Trouble(f"{path}: the values of {name} aren't those of the text")
 
 
@@ -174,7 +172,7 @@ def linear_sides(model: Model) -> list[RealNode]:
     """The sides A x + B u + c of a linear model, as formulas."""
     of_inputs = model.rows["B"] or [[]] * len(model.states)
     constants = model.rows["c"] or [[Fraction(0)]] * len(model.states)
-    names, sides = [state[0] for state in model.states] + [name for name, *_ in model.inputs], []
+    names, sides = model.state_names() + model.input_names(), []
     for of_state, of_input, (constant,) in zip(model.rows["A"], of_inputs, constants):
         side = formula.number(constant)
         for name, factor in zip(names, of_state + of_input):

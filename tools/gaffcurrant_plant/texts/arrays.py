@@ -270,10 +270,23 @@ def columns_of(data: bytes, front: Front, turn: int) -> tuple[Wholes, Wholes, Wh
         or numpy.any(lasts < firsts)
         or firsts[0] < 0
         or lasts[-1] >= front.plant.cells
-        or numpy.any(inputs >= front.plant.vectors)
+        or not are_pairs(front, ranks, inputs)
     ):
         raise Refused(
             f"malformed: line {line}",
-            "the cells of the row lines don't rise below the number of cells, or an input is none",
+            "the cells of the row lines don't rise below the number of cells, or a rank or an input is none",
         )
     return firsts, lasts, ranks, inputs
+
+
+def are_pairs(front: Front, ranks: Wholes, inputs: Wholes) -> bool:
+    """Whether ranks and inputs are those that rows of a text may have, as rows.pair_fault says of each."""
+    plant, least = front.plant, int(front.kind == "patrol")
+    right: Flags = (inputs >= 0) & (inputs < plant.vectors)
+    if front.kind == "table" and plant.goal == "keep":
+        right &= ranks == NONE
+    else:
+        if front.kind == "table":
+            right = numpy.where(ranks == 0, inputs == NONE, right)
+        right &= (ranks >= least) & (ranks < plant.cells + least)
+    return bool(right.all())

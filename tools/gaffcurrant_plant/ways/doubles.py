@@ -95,9 +95,7 @@ class RealPlant:
     def __init__(self, model: Model) -> None:
         need_numpy()
         self.model, self.maths = model, Arrays()
-        self.names = [state[0] for state in model.states]
-        self.input_names = [name for name, *_ in model.inputs]
-        self.noise_names = [name for name, *_ in model.noises]
+        self.names, self.input_names, self.noise_names = model.state_names(), model.input_names(), model.noise_names()
         self.units = column(state[4] for state in model.states)
         self.lows, self.highs = column(state[1] for state in model.states), column(state[2] for state in model.states)
         self.noise_ends = column(low for _, low, _ in model.noises), column(high for *_, high in model.noises)
