@@ -12,7 +12,7 @@ import plain_wheel  # noqa: E402
 
 
 class Build(build_py):
-    def run(self):
+    def run(self) -> None:
         super().run()
         (Path(self.build_lib) / plain_wheel.ORIGIN).write_text(plain_wheel.origin())
 

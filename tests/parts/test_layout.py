@@ -1,6 +1,6 @@
 """The layout of tools/ and tests/: lines of at most 120 columns, two blank lines between definitions, functions that
-aren't too complex, words on what each module is for, and types where a notebook looks; by black and ruff too, where
-they are there."""
+aren't too complex, words on what each module is for, and types of public functions of tools/; by black and ruff too,
+where they are there."""
 
 import ast
 import re
@@ -15,12 +15,8 @@ WIDTH, COMPLEXITY = 120, 12
 SUFFIXES = (".py", ".js", ".css", ".html", ".c")
 # What counts as a decision, beside each part of `and` and `or` and each `if` of a comprehension.
 DECISIONS = (ast.If, ast.IfExp, ast.For, ast.While, ast.ExceptHandler, ast.comprehension)
-# Modules whose public functions all have types, which notebooks use.
-TYPED = ("faults", "progress", "command", "plants/units")
-TYPED += tuple(
-    f"texts/{name}" for name in ("table", "promise", "solver", "real_states", "controller", "monitor", "loop", "arrays")
-)
-TYPED += tuple(f"measured/{name}" for name in ("logs", "conformity", "diagnosis", "ranges", "promises"))
+# The folders of tools/ whose public functions all have types.
+TYPED = ("gaffcurrant_plant", "packaging")
 TOOLS, TESTS = TOP / "tools", TOP / "tests"
 # A file with one fault each.
 PLANTED = {
@@ -29,7 +25,7 @@ PLANTED = {
     "end.py": "'''Words.'''\nFIRST = 1",
     "near.py": "'''Words.'''\nFIRST = 1\ndef second():\n    return 2\n",
     "complex.py": "'''Words.'''\n\n\ndef many(a):\n    return " + " or ".join(["a"] * 14) + "\n",
-    "faults.py": "'''Words.'''\n\n\ndef bare(a):\n    return a\n",
+    "packaging/bare.py": "'''Words.'''\n\n\ndef bare(a):\n    return a\n",
     "silent.py": "FIRST = 1\n",
 }
 
@@ -116,8 +112,7 @@ def faults_of_python(tree, lines, name, named):
 def faults_of_function(node, name, named):
     if complexity_of(node) > COMPLEXITY and f"{Path(name).name}.{node.name}" not in named:
         yield f"{name}:{node.lineno}: {node.name} has a complexity of {complexity_of(node)}"
-    is_typed = name.removeprefix("gaffcurrant_plant/") in TYPED and not node.name.startswith("_")
-    if is_typed and not has_types(node):
+    if Path(name).parts[0] in TYPED and not node.name.startswith("_") and not has_types(node):
         yield f"{name}:{node.lineno}: {node.name} has no types"
 
 

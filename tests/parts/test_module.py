@@ -6,7 +6,6 @@ import doctest
 import os
 import random
 import re
-import shutil
 import sys
 import unittest
 from fractions import Fraction
@@ -29,6 +28,12 @@ DIFF = (
     "table 1\n" + LINE + "rows 5\n0 4 1\n1 3 1\n2 2 1\n3 1 1\n4 0 -\nend\n",
     "table 2\n" + LINE.replace("goal", "obstacle 4 4\ngoal") + "rows 3\n2 2 3 0\n3 3 1 1\n4 4 0 -\nend\n",
 )
+# A stay text, and a table of a plant to be kept; and the first row of a patrol text, with all but its input.
+OTHER_ROWS = (
+    "stay 1\n" + LINE + "rows 1\n0 0 0 0\nend\n",
+    "table 1\n" + LINE.replace("target 12 14\ngoal reach", "goal keep") + "rows 1\n0 - 1\nend\n",
+)
+FIRST_ROW = re.compile(rb"(?<=turn 0 rows 374)(\n\d+ \d+ \d+) \d+\n")
 DIFFERENCES = [
     "5 cells; rows: 5 and 3",
     "the plants differ",
@@ -61,15 +66,6 @@ HALF_FAULTS = [
     ("obstacle 1 < 2", "one or two states"),
     ("obstacle d < y", "`y` is no variable"),
 ]
-USE = """from gaffcurrant_plant import Sample, Table, read_table, read_units, scale, simulate, solve
-text: str = scale("", version=2)
-table: Table = solve(text)
-values = table.choice((1, 2))
-assert values is not None
-first: int = values[0]
-run: list[Sample] = simulate(table, [1, 2], samples=3)
-speeds = table.in_units(read_units("model", b"")).choice([0.5, 1])
-"""
 
 
 class ModuleCase(ToolCase):
@@ -239,6 +235,24 @@ class Arrays(ModuleCase):
         ):
             self.equal(what, "ValueError", fault_of(lambda one=states: self.cells.rank(one)))
 
+    def test_rows_that_are_none(self):
+        docks = (TOP / "examples/docks/docks.patrol").read_bytes()
+        table, stay, keep = (text.encode() for text in (DIFF[0], *OTHER_ROWS))
+        for what, data, old, new in (
+            ("a rank without an input", table, b"\n0 4 1\n", b"\n0 4 -\n"),
+            ("an input in the target", table, b"\n4 0 -\n", b"\n4 0 1\n"),
+            ("an input that is none", table, b"\n0 4 1\n", b"\n0 4 2\n"),
+            ("a rank that is too great", table, b"\n0 4 1\n", b"\n0 5 1\n"),
+            ("a cell of a stay text without an input", stay, b"\n0 0 0 0\n", b"\n0 0 0 -\n"),
+            ("a rank of a table to keep", keep, b"\n0 - 1\n", b"\n0 3 1\n"),
+            ("a row of a patrol without an input", docks, *FIRST_ROW.search(docks).group(0, 1)),
+        ):
+            new = new + b" -\n" if data is docks else new
+            self.holds(f"{what} is put into a right text", old in data and arrays.Cells(data).won.any())
+            for reader in (read_text, arrays.Cells):
+                fault = fault_of(lambda one=reader, text=data.replace(old, new): one(text))
+                self.equal(f"{what} by {reader.__name__}", "Refused", fault)
+
     def test_run(self):
         samples = simulate(self.table, [350, 0])
         run = arrays.run_of(samples)
@@ -256,26 +270,6 @@ class Arrays(ModuleCase):
         for what, units, wanted in (("", self.units, [35.05, 0.005]), (", one of them exact", exact, [35.0, 0.005])):
             first = arrays.run_of(samples, units, self.table.plant).states[0]
             self.equal(f"a run in units{what}", wanted, first.round(6).tolist())
-
-
-@unittest.skipUnless(shutil.which("mypy"), "mypy isn't there (apt-get install mypy), so type hints aren't tried")
-class Types(ToolCase):
-    """Type hints."""
-
-    def mypy(self, use, *files):
-        """Status and output over a use of the module and files of it."""
-        words = ["--cache-dir", self.folder / "cache", "--config-file", TOP / "tools/pyproject.toml"]
-        used = self.placed("use.py", use)
-        return ran("mypy", *words, used, *files, env=os.environ | {"MYPYPATH": str(TOP / "tools")})[:2]
-
-    def test_module_and_use(self):
-        files = [TOP / "tools/gaffcurrant_plant/texts" / name for name in ("table.py", "solver.py", "real_states.py")]
-        status, output = self.mypy(USE, *files)
-        self.holds("mypy on the module and a use of it", status == 0, output)
-
-    def test_wrong_use(self):
-        status, output = self.mypy(USE + "wrong: int = table.choice([1])\n")
-        self.holds("mypy sees a wrong use", status == 1 and "Incompatible types" in output, output)
 
 
 class Install(ToolCase):

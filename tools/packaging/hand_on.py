@@ -9,6 +9,8 @@ PROOF
 FOLDER/PROCESSOR of --made holds the program, the library and what the proofs said; the file of --verdicts, the lines of
 the crates in the current folder."""
 
+from __future__ import annotations
+
 import argparse
 import hashlib
 import os
@@ -16,6 +18,7 @@ import subprocess
 import sys
 import tempfile
 from pathlib import Path
+from typing import Sequence
 
 sys.dont_write_bytecode = True
 
@@ -30,12 +33,12 @@ class Trouble(Exception):
     """What is wrong, in one line."""
 
 
-def below_destdir(prefix):
+def below_destdir(prefix: str) -> Path:
     """The folder to write to, as DESTDIR asks."""
     return Path(os.environ.get("DESTDIR", "") + os.path.abspath(prefix))
 
 
-def install(top, entries):
+def install(top: Path, entries: tree.Tree) -> None:
     """Puts a tree below a folder, in the place of one that was put there before, with a list of its files and of the
     folders that were made for them."""
     if (top / tree.LIST).is_file():
@@ -50,7 +53,7 @@ def install(top, entries):
     tree.write(entries, top)
 
 
-def uninstall(top):
+def uninstall(top: Path) -> None:
     """Takes away what the list names: files, what Python compiled of them, and the folders that were made for them,
     where these are then empty."""
     names = listed(top)
@@ -64,14 +67,14 @@ def uninstall(top):
             folder.rmdir()
 
 
-def remove(path):
+def remove(path: Path) -> None:
     """Takes away a file, and what Python compiled of it."""
     path.unlink()
     for compiled in (path.parent / "__pycache__").glob(f"{path.stem}.*.pyc") if path.suffix == ".py" else ():
         compiled.unlink()
 
 
-def listed(top):
+def listed(top: Path) -> list[str]:
     """The names in the list of what was installed below a folder."""
     try:
         names = (top / tree.LIST).read_text().splitlines()
@@ -83,13 +86,13 @@ def listed(top):
     return names
 
 
-def time_of(known):
+def time_of(known: tree.About) -> str:
     """The time of the files in an archive: that of the commit, or of the version."""
     of_commit = tree.git("log", "-1", "--format=%ct")
     return f"@{of_commit.strip()}" if of_commit else f"{known.date} 00:00 UTC"
 
 
-def archive(folder, entries, name, time):
+def archive(folder: Path, entries: tree.Tree, name: str, time: str) -> None:
     """Writes FOLDER/NAME.tar.xz: the same bytes for the same tree."""
     with tempfile.TemporaryDirectory() as room:
         top = Path(room) / name
@@ -111,12 +114,13 @@ def archive(folder, entries, name, time):
         with open(folder / f"{name}.tar.xz", "wb") as file:
             packed = subprocess.Popen(pack, cwd=room, stdout=subprocess.PIPE, env=os.environ | {"LC_ALL": "C"})
             pressed = subprocess.run(press, stdin=packed.stdout, stdout=file, check=False)
-            packed.stdout.close()
+            if packed.stdout is not None:
+                packed.stdout.close()
             if packed.wait() or pressed.returncode:
                 raise Trouble(f"{name}.tar.xz couldn't be written")
 
 
-def archives(folder, made, known, page):
+def archives(folder: Path, made: Path, known: tree.About, page: str) -> list[str]:
     """Makes an archive for each processor, the list of their sums, and the page; answers the files' names."""
     folder.mkdir(parents=True, exist_ok=True)
     names = []
@@ -131,12 +135,12 @@ def archives(folder, made, known, page):
     return [*names, SUMS]
 
 
-def processors_of(made):
+def processors_of(made: Path) -> list[str]:
     """x86_64 first, on which the program is proved."""
     return sorted((path.name for path in made.iterdir()), reverse=True)
 
 
-def main(words):
+def main(words: Sequence[str]) -> int:
     reader = argparse.ArgumentParser(description=__doc__, formatter_class=argparse.RawDescriptionHelpFormatter)
     reader.add_argument("word", choices=("install", "uninstall", "archive"))
     reader.add_argument("folder")
@@ -147,7 +151,7 @@ def main(words):
         if given.word == "uninstall":
             uninstall(below_destdir(given.folder))
             return 0
-        known = tree.about(verdicts.kit())
+        known = tree.about(verdicts.kit() or "not known: there is no `rt`")
         page = proof.page(known, given.made, processors_of(given.made), verdicts.known(Path(), given.verdicts))
         if given.word == "install":
             top = below_destdir(given.folder)

@@ -1,6 +1,11 @@
 """Writes manual pages: of a program by what its --help prints, of the C library by its header."""
 
+from __future__ import annotations
+
 import re
+from typing import Iterable, Sequence
+
+from plain_wheel import found_in
 
 # What stands between a name and what it is.
 DASH = "\\-"
@@ -15,23 +20,23 @@ class Pages:
     """Pages of one version, for the programs gaffcurrant-NAME by their names: each method answers them as texts by
     their files' names."""
 
-    def __init__(self, version, date, programs):
+    def __init__(self, version: str, date: str, programs: Sequence[str]) -> None:
         self.version, self.date = version, date
         self.programs = programs
 
-    def title(self, name, section):
+    def title(self, name: str, section: int) -> str:
         return f'.TH {plain(name.upper())} {section} "{self.date}" "gaffcurrant {self.version}" "Gaffcurrant"'
 
     @staticmethod
-    def head(name, about):
+    def head(name: str, about: str) -> list[str]:
         return [".SH NAME", f"{plain(name)} {DASH} {plain(lowered(about))}", ".SH SYNOPSIS"]
 
-    def of_installed(self, text):
+    def of_installed(self, text: str) -> str:
         """A text that names programs of the repository names those that are installed."""
         named = re.sub(rf"\btools/({'|'.join(self.programs)})\b", r"gaffcurrant-\1", text)
         return named.replace("./gaffcurrant", "gaffcurrant")
 
-    def launcher(self, forms):
+    def launcher(self, forms: str) -> dict[str, str]:
         """The page of the program, by its forms."""
         head, *rest = forms.rstrip("\n").split("\n")
         pairs = [re.split(r" {2,}", line.strip(), maxsplit=1) for line in rest if line.startswith("  ")]
@@ -44,7 +49,7 @@ class Pages:
         others = [f"gaffcurrant-{name}(1)" for name in self.programs]
         return {"gaffcurrant.1": joined(lines + see_also([*others, "gaffcurrant(3)"]))}
 
-    def tool(self, name, help_text):
+    def tool(self, name: str, help_text: str) -> dict[str, str]:
         """The page of a program of tools/."""
         usage, about, *rest = self.of_installed(help_text).rstrip("\n").split("\n\n")
         usage = usage.replace("usage: ", "").replace("\n" + " " * len("usage: "), "\n" + " " * len("gaffcurrant-"))
@@ -60,9 +65,9 @@ class Pages:
             lines += [".SH NOTES", *verbatim("\n\n".join(rest))]
         return {f"{name}.1": joined(lines + see_also(["gaffcurrant(1)"]))}
 
-    def library(self, header):
+    def library(self, header: str) -> dict[str, str]:
         """A page of the whole header, and one of each call, by the comment that stands before it."""
-        whole, *_ = re.match(r"/\* gaffcurrant\.h: (.*?)\*/", header, re.DOTALL).groups()
+        whole = found_in(r"\A/\* gaffcurrant\.h: (.*?)\*/", header)[1]
         comment = r"^/\* ((?:(?!\*/).)*)\*/\n"
         calls = re.findall(
             rf"{comment}((?:u?int32_t|void) (gaffcurrant_\w+)\([^;]*\);)", header, re.DOTALL | re.MULTILINE
@@ -104,7 +109,7 @@ class Pages:
         return pages
 
 
-def plain(text):
+def plain(text: str) -> str:
     """Text as troff prints it: backslashes, signs that it would make others of, and lines that it would take for its
     own."""
     for sign, name in SIGNS.items():
@@ -112,27 +117,27 @@ def plain(text):
     return re.sub(r"^(?=\.)", r"\\&", text, flags=re.MULTILINE)
 
 
-def verbatim(text):
+def verbatim(text: str) -> list[str]:
     return [".nf", *(plain(line) for line in text.split("\n")), ".fi"]
 
 
-def lowered(text):
+def lowered(text: str) -> str:
     return text[0].lower() + text[1:]
 
 
-def separated(lines, between):
+def separated(lines: Iterable[str], between: str) -> list[str]:
     return [part for line in lines for part in (between, line)][1:]
 
 
-def joined(lines):
+def joined(lines: Iterable[str]) -> str:
     return "\n".join(lines) + "\n"
 
 
-def see_also(others):
+def see_also(others: Sequence[str]) -> list[str]:
     return [".SH SEE ALSO", ", ".join(plain(other) for other in others)] if others else []
 
 
-def options(part):
+def options(part: str) -> list[str]:
     """The arguments of a --help, one after another, each with what it says of it."""
     lines = []
     for line in part.split("\n")[1:]:
@@ -144,13 +149,13 @@ def options(part):
     return lines
 
 
-def paragraphs(comment):
+def paragraphs(comment: str) -> list[str]:
     """The paragraphs of a comment; a line that begins with `- ` begins one too."""
     text = "\n".join(line.strip() for line in comment.split("\n"))
     return [" ".join(part.split()) for part in re.split(r"\n\n|\n(?=- )", text) if part.strip()]
 
 
-def told(parts):
+def told(parts: Iterable[str]) -> list[str]:
     lines = []
     for part in parts:
         lines += [".IP \\(bu 2", plain(part[2:])] if part.startswith("- ") else [".PP", plain(part)]

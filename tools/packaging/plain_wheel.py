@@ -1,12 +1,15 @@
 """Makes a wheel of the module and of the programs by Python's standard library alone. setup.py takes the version from
 here."""
 
+from __future__ import annotations
+
 import base64
 import hashlib
 import re
 import tarfile
 import zipfile
 from pathlib import Path
+from typing import Optional
 
 TOOLS = Path(__file__).resolve().parents[1]
 MODULE, NAME = "gaffcurrant_plant", "gaffcurrant_plant"
@@ -14,25 +17,34 @@ MODULE, NAME = "gaffcurrant_plant", "gaffcurrant_plant"
 ORIGIN = f"{MODULE}/ORIGIN"
 
 
-def version():
+def version() -> str:
     """The program's version."""
     citation = TOOLS.parent / "CITATION.cff"
     found = re.search(r"^version: (\S+)$", citation.read_text(), re.M) if citation.exists() else None
     return found.group(1) if found else "0"
 
 
-def origin():
+def origin() -> str:
     return f"{TOOLS.parent}\n"
 
 
-def section(name):
+def section(name: str) -> dict[str, str]:
     """The lines of a section of pyproject.toml, by what stands before the sign."""
     text = (TOOLS / "pyproject.toml").read_text()
-    lines = re.search(rf"^\[{re.escape(name)}\]\n(.*?)(?=^\[|\Z)", text, re.M | re.S).group(1).splitlines()
-    return dict(line.split(" = ", 1) for line in lines if " = " in line)
+    lines = found_in(rf"^\[{re.escape(name)}\]\n(.*?)(?=^\[|\Z)", text)[1].splitlines()
+    pairs = (line.partition(" = ") for line in lines if " = " in line)
+    return {key: value for key, _, value in pairs}
 
 
-def programs():
+def found_in(pattern: str, text: str) -> re.Match[str]:
+    """What stands in a text that has to have it; `.` is any sign, `^` and `$` are the ends of lines."""
+    found = re.search(pattern, text, re.M | re.S)
+    if not found:
+        raise LookupError(f"nothing is like {pattern}")
+    return found
+
+
+def programs() -> list[Path]:
     """The programs of tools/: files without an ending that Python runs."""
     return sorted(
         path
@@ -41,7 +53,7 @@ def programs():
     )
 
 
-def metadata():
+def metadata() -> str:
     project = section("project")
     lines = [
         "Metadata-Version: 2.1",
@@ -57,18 +69,18 @@ def metadata():
     return "\n".join(lines) + "\n"
 
 
-def entry_points():
+def entry_points() -> str:
     return "".join(
         ["[console_scripts]\n"] + [f"{name} = {call[1:-1]}\n" for name, call in section("project.scripts").items()]
     )
 
 
-def module_files():
+def module_files() -> list[Path]:
     """The files of the module: its code, and the parts of the page."""
     return sorted(path for path in (TOOLS / MODULE).rglob("*") if path.is_file() and "__pycache__" not in path.parts)
 
 
-def contents():
+def contents() -> tuple[dict[str, bytes], str]:
     """The files of the wheel, by their names in it."""
     files = {str(path.relative_to(TOOLS)): path.read_bytes() for path in module_files()}
     files[ORIGIN] = origin().encode()
@@ -79,7 +91,9 @@ def contents():
     return files, info
 
 
-def build_wheel(wheel_directory, config_settings=None, metadata_directory=None):
+def build_wheel(
+    wheel_directory: str, config_settings: Optional[object] = None, metadata_directory: Optional[str] = None
+) -> str:
     files, info = contents()
     record = []
     for name, data in files.items():
@@ -93,7 +107,7 @@ def build_wheel(wheel_directory, config_settings=None, metadata_directory=None):
     return wheel
 
 
-def build_sdist(sdist_directory, config_settings=None):
+def build_sdist(sdist_directory: str, config_settings: Optional[object] = None) -> str:
     name = f"{NAME}-{version()}"
     with tarfile.open(Path(sdist_directory) / f"{name}.tar.gz", "w:gz") as archive:
         for path in [TOOLS / "pyproject.toml", TOOLS / "setup.py", TOOLS / "packaging", TOOLS / MODULE, *programs()]:

@@ -1,11 +1,15 @@
 """The page PROOF: what was proved, of which sources, by which kit, and what that rests on."""
 
+from __future__ import annotations
+
 import hashlib
 import re
 from pathlib import Path
+from typing import Iterable, Mapping, Sequence
 
 import verdicts
-from tree import TOP
+from plain_wheel import found_in
+from tree import TOP, About
 
 ROOTS = ("synth_cli", "controller_c")
 FILES = ("gaffcurrant", "libgaffcurrant.a", "libgaffcurrant.so")
@@ -54,7 +58,7 @@ all of it again.
 """
 
 
-def page(about, made, processors, lines):
+def page(about: About, made: Path, processors: Sequence[str], lines: Mapping[str, str]) -> str:
     """The page of what lies in made/PROCESSOR, with the verdict lines of the crates by their names."""
     names = verdicts.needed(Path(), ROOTS)
     logs = [
@@ -74,15 +78,15 @@ def page(about, made, processors, lines):
     )
 
 
-def sum_of(path):
+def sum_of(path: Path) -> str:
     return hashlib.sha256(path.read_bytes()).hexdigest()
 
 
-def trusted():
+def trusted() -> str:
     """The part of docs/CLAIM.md."""
     claim = (TOP / "docs/CLAIM.md").read_text()
-    return re.search(r"^## What is trusted\n\n(.*?)(?=^## |\Z)", claim, re.M | re.S).group(1).strip()
+    return found_in(r"^## What is trusted\n\n(.*?)(?=^## |\Z)", claim)[1].strip()
 
 
-def indented(lines):
+def indented(lines: Iterable[str]) -> str:
     return "\n".join(f"    {line}" for line in lines)

@@ -1,15 +1,17 @@
 """The tree that is installed and archived: what lies where below its top, whichever folder that is."""
 
+from __future__ import annotations
+
 import os
 import re
 import subprocess
 import sys
 import tempfile
 from pathlib import Path
-from typing import NamedTuple
+from typing import Dict, Iterable, NamedTuple, Optional, Sequence, Union
 
 from manual import Pages
-from plain_wheel import module_files, programs
+from plain_wheel import found_in, module_files, programs
 
 TOP = Path(__file__).resolve().parents[2]
 TOOLS = TOP / "tools"
@@ -56,6 +58,10 @@ class Link(NamedTuple):
     to: str
 
 
+# Files and links by their paths.
+Tree = Dict[str, Union[File, Link]]
+
+
 class About(NamedTuple):
     """What the tree is made of."""
 
@@ -65,13 +71,13 @@ class About(NamedTuple):
     kit: str
 
 
-def about(kit):
+def about(kit: str) -> About:
     citation = (TOP / "CITATION.cff").read_text()
-    version, date = (re.search(rf"^{key}: (\S+)$", citation, re.M).group(1) for key in ("version", "date-released"))
+    version, date = (found_in(rf"^{key}: (\S+)$", citation)[1] for key in ("version", "date-released"))
     return About(version, date, commit(), kit)
 
 
-def git(*words):
+def git(*words: str) -> Optional[str]:
     try:
         done = subprocess.run(["git", "-C", str(TOP), *words], capture_output=True, check=False)
     except OSError:
@@ -79,14 +85,14 @@ def git(*words):
     return done.stdout.decode() if done.returncode == 0 else None
 
 
-def commit():
+def commit() -> str:
     found = git("rev-parse", "HEAD")
     if not found:
         return "not known: the sources weren't a clone of the repository"
     return found.strip() + (", with changes" if git("status", "--porcelain", "--untracked-files=no") else "")
 
 
-def tree_of(made, known, processor, page):
+def tree_of(made: Path, known: About, processor: str, page: str) -> Tree:
     """The files and links by their paths. In the folder `made` lie the program and the library for the processor;
     `known` is the About, and page is what was proved."""
     names = [path.name for path in programs()]
@@ -101,7 +107,7 @@ def tree_of(made, known, processor, page):
     )
 
 
-def programs_of(made, known, processor, names):
+def programs_of(made: Path, known: About, processor: str, names: Sequence[str]) -> Tree:
     said = "\n".join(
         [
             f"gaffcurrant {known.version}",
@@ -111,7 +117,7 @@ def programs_of(made, known, processor, names):
             "",
         ]
     )
-    tree = {
+    tree: Tree = {
         "bin/gaffcurrant": File(launcher().encode(), 0o755),
         "lib/gaffcurrant/version": File(said.encode()),
         "lib/gaffcurrant/gaffcurrant": File((made / "gaffcurrant").read_bytes(), 0o755),
@@ -120,7 +126,7 @@ def programs_of(made, known, processor, names):
     return tree | {f"bin/gaffcurrant-{name}": Link(f"../lib/gaffcurrant/{name}") for name in names}
 
 
-def launcher():
+def launcher() -> str:
     """The launcher of the program where it is installed, by functions of the repository's."""
     script = (TOP / "gaffcurrant").read_text()
     said, *others = (function(script, name) for name in ("forms", "say", "run_program"))
@@ -130,12 +136,12 @@ def launcher():
     return LAUNCHER % "\n\n".join([said, *others])
 
 
-def function(script, name):
+def function(script: str, name: str) -> str:
     """A function of a script of bash, with the comment before it."""
-    return re.search(rf"^(?:#.*\n)*{name}\(\) \{{(?:.*\}}$|\n(?:.*\n)*?\}}$)", script, re.M).group()
+    return found_in(rf"^(?:#[^\n]*\n)*{name}\(\) \{{(?:[^\n]*\}}$|\n(?:[^\n]*\n)*?\}}$)", script)[0]
 
 
-def library_of(made, known):
+def library_of(made: Path, known: About) -> Tree:
     name = f"libgaffcurrant.so.{known.version}"
     return {
         "lib/libgaffcurrant.a": File((made / "libgaffcurrant.a").read_bytes()),
@@ -147,11 +153,11 @@ def library_of(made, known):
     }
 
 
-def module():
+def module() -> Tree:
     return {f"lib/gaffcurrant/{path.relative_to(TOOLS)}": File(path.read_bytes()) for path in module_files()}
 
 
-def manual_of(known, names):
+def manual_of(known: About, names: Sequence[str]) -> Tree:
     pages = Pages(known.version, known.date, names)
     texts = pages.launcher(installed_forms()) | pages.library((TOP / "include/gaffcurrant.h").read_text())
     for name in names:
@@ -159,7 +165,7 @@ def manual_of(known, names):
     return {f"share/man/man{name[-1]}/{name}": File(text.encode()) for name, text in texts.items()}
 
 
-def installed_forms():
+def installed_forms() -> str:
     """What the installed launcher's --help says."""
     with tempfile.TemporaryDirectory() as room:
         script = Path(room) / "bin/gaffcurrant"
@@ -169,21 +175,21 @@ def installed_forms():
         return said.replace(f"{room}/{DOCUMENTS}/", "")
 
 
-def help_of(name):
+def help_of(name: str) -> str:
     words = [sys.executable, str(TOOLS / name), "--help"]
     return subprocess.run(words, capture_output=True, check=True, env=os.environ | {"COLUMNS": "80"}).stdout.decode()
 
 
-def completion_of(names):
+def completion_of(names: Sequence[str]) -> Tree:
     commands = ["gaffcurrant", *(f"gaffcurrant-{name}" for name in names)]
     script = (TOOLS / "packaging/completion.bash").read_text()
     script += f"complete -o default -F _gaffcurrant {' '.join(commands)}\n"
     folder = "share/bash-completion/completions"
-    links = {f"{folder}/{name}": Link("gaffcurrant") for name in commands[1:]}
-    return {f"{folder}/gaffcurrant": File(script.encode())} | links
+    links: Tree = {f"{folder}/{name}": Link("gaffcurrant") for name in commands[1:]}
+    return links | {f"{folder}/gaffcurrant": File(script.encode())}
 
 
-def documents():
+def documents() -> Tree:
     """The repository's documents and examples; of a clone those that are its own."""
     own = git("ls-files", "-z", *KEPT)
     paths = (
@@ -195,16 +201,16 @@ def documents():
     return {f"{DOCUMENTS}/{path}": document(TOP / path) for path in sorted(paths)}
 
 
-def document(path):
+def document(path: Path) -> File:
     return File(path.read_bytes(), 0o755 if os.access(path, os.X_OK) else 0o644)
 
 
-def folders(tree):
+def folders(tree: Iterable[str]) -> list[str]:
     """The folders of a tree, the outer ones first."""
     return sorted({str(parent) for path in tree for parent in Path(path).parents} - {"."})
 
 
-def write(tree, folder):
+def write(tree: Tree, folder: Path) -> None:
     """Puts a tree below a folder that is there."""
     for name in folders(tree):
         if not (folder / name).is_dir():

@@ -7,19 +7,23 @@ file verdicts.py lacking FILE         prints the crates whose line isn't in the 
 
 No line is kept of a crate whose files have changed meanwhile."""
 
+from __future__ import annotations
+
 import hashlib
+import io
 import os
 import re
 import subprocess
 import sys
 from pathlib import Path
+from typing import Iterable, Optional, Sequence
 
 PARTS = ("src", "specs", "proofs")
 # Lines of older sources stay in the file, for whoever goes back to these, up to so many.
 MOST = 1000
 
 
-def kit():
+def kit() -> Optional[str]:
     """The kit's own line, or None where there is none."""
     try:
         said = subprocess.run(["rt", "version"], stdin=subprocess.DEVNULL, capture_output=True, check=False)
@@ -28,7 +32,7 @@ def kit():
     return said.stdout.decode().strip() or None
 
 
-def crates(top):
+def crates(top: Path) -> dict[str, tuple[str, list[str]]]:
     """The crates of crates.txt, lowest first: each one's line, and the crates that it names."""
     lines = [
         line for line in (top / "crates.txt").read_text().splitlines() if line.strip() and not line.startswith("#")
@@ -38,18 +42,19 @@ def crates(top):
     return {name: (line, [one for one in below[name] if one in named]) for name, line in named.items()}
 
 
-def needed(top, roots):
+def needed(top: Path, roots: Sequence[str]) -> list[str]:
     """The names of these crates and of all below, lowest first."""
-    found, known = set(), crates(top)
+    known = crates(top)
+    found: set[str] = set()
     for name in reversed(known):
         if name in roots or name in found:
             found |= {name, *known[name][1]}
     return [name for name in known if name in found]
 
 
-def sums(top):
+def sums(top: Path) -> dict[str, str]:
     """By each crate's name a sum of what a verdict on it is about."""
-    found = {}
+    found: dict[str, str] = {}
     every = repr((kit(), (top / "HANDLES").read_text()))
     for name, (line, below) in crates(top).items():
         folder = top / "crates" / name
@@ -59,9 +64,10 @@ def sums(top):
     return found
 
 
-def said(log):
+def said(log: str) -> dict[str, str]:
     """The verdict lines of a log of `rt ci`, by the crates' names."""
-    found, name, verdict = {}, None, None
+    found: dict[str, str] = {}
+    name, verdict = "", None
     for line in log.splitlines():
         if line.startswith("== "):
             name, verdict = line[3:], None
@@ -72,19 +78,19 @@ def said(log):
     return found
 
 
-def kept(file):
+def kept(file: Path) -> dict[tuple[str, str], str]:
     """The lines of the file, by name and sum."""
     found = re.findall(r"^(\w+) ([0-9a-f]{64}) (logic=proved .*)$", file.read_text() if file.exists() else "", re.M)
     return {(name, sum_of): line for name, sum_of, line in found}
 
 
-def known(top, file):
+def known(top: Path, file: Path) -> dict[str, str]:
     """The verdict lines of the crates as they stand."""
     lines = kept(file)
     return {name: lines[name, sum_of] for name, sum_of in sums(top).items() if (name, sum_of) in lines}
 
 
-def keep(top, file, log):
+def keep(top: Path, file: Path, log: Iterable[str]) -> None:
     """Hands on the lines of a log, and keeps the verdicts."""
     before, lines = sums(top), []
     for line in log:
@@ -103,13 +109,14 @@ def keep(top, file, log):
         written.replace(file)
 
 
-def main(words):
+def main(words: Sequence[str]) -> int:
     if len(words) != 2 or words[0] not in ("keep", "lacking"):
         print(__doc__)
         return 2
     top, file = Path(), Path(words[1])
     if words[0] == "keep":
-        sys.stdin.reconfigure(errors="replace")
+        if isinstance(sys.stdin, io.TextIOWrapper):
+            sys.stdin.reconfigure(errors="replace")
         keep(top, file, sys.stdin)
         return 0
     found = known(top, file)

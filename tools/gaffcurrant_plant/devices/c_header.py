@@ -1,12 +1,19 @@
 """A text as a C header of constant arrays."""
 
-import zlib
+from __future__ import annotations
 
-from .codes import WHAT, about, broken, target_indices
+import zlib
+from fractions import Fraction
+from typing import Container, Optional, Sequence
+
+from .codes import WHAT, Codes, about, broken, target_indices
 from .sizes import double_of, fraction_of
 
+from ..plants.units import Units
+from ..texts.table import Text
 
-def list_of(values):
+
+def list_of(values: Sequence[object]) -> str:
     """Values in braces; one 0 where there are none, since C knows no empty arrays."""
     return "{" + ", ".join(map(str, values)) + "}" if values else "{0}"
 
@@ -15,7 +22,17 @@ class Header:
     """The lines of a header. Each name has the prefix and `_` before it, where there is one. exact: the states that are
     whole numbers by themselves."""
 
-    def __init__(self, text, codes, checksum, prefix="", in_runs=False, with_ranks=False, units=None, exact=()):
+    def __init__(
+        self,
+        text: Text,
+        codes: Codes,
+        checksum: int,
+        prefix: str = "",
+        in_runs: bool = False,
+        with_ranks: bool = False,
+        units: Optional[Units] = None,
+        exact: Container[str] = (),
+    ) -> None:
         self.text, self.plant, self.codes, self.checksum = text, text.plant, codes, checksum
         self.before = f"{prefix}_" if prefix else ""
         self.in_runs, self.with_ranks, self.units, self.exact = in_runs, with_ranks, units, exact
@@ -25,7 +42,7 @@ class Header:
             [fraction_of(units.size(name)) for name, *_ in self.plant.states + self.plant.inputs] if units else [None]
         )
 
-    def lines(self):
+    def lines(self) -> list[str]:
         for number in (self.codes.none, self.codes.arrived):
             self.bytes += number.to_bytes(4, "little")
         arrays = self.grid() + (self.turns() if self.of_turns else []) + self.rows() + self.unit_lines()
@@ -52,10 +69,10 @@ class Header:
             + arrays
         )
 
-    def define(self, name, value):
+    def define(self, name: str, value: object) -> str:
         return f"#define {self.before}{name} {value}"
 
-    def array(self, kind, name, sizes, values, lines=None):
+    def array(self, kind: str, name: str, sizes: str, values: Sequence[int], lines: Optional[str] = None) -> list[str]:
         """An array, whose values count for the arrays' checksum: 8, 4, 2 or 1 bytes each, the lowest first."""
         size = {"int64_t": 8, "uint32_t": 4, "uint16_t": 2, "uint8_t": 1}[kind]
         for value in values:
@@ -65,14 +82,13 @@ class Header:
             return [f"{head}{lines};"]
         return [head + "{"] + [f"    {line}," for line in broken(values)] + ["};"]
 
-    def sized(self, name):
+    def sized(self, name: str) -> str:
         return f"[{self.before}{name}]"
 
-    def grid(self):
+    def grid(self) -> list[str]:
         """The ranges, cells and values; where an input has fewer values than another, C fills up with 0."""
         plant, lines = self.plant, []
-        for name, k in (("LOW", 1), ("HIGH", 2), ("WIDTH", 3)):
-            values = [state[k] for state in plant.states]
+        for name, values in (("LOW", plant.lows), ("HIGH", plant.highs), ("WIDTH", plant.widths)):
             lines += self.array("int64_t", name, self.sized("STATES"), values, list_of(values))
         lines += self.array("uint32_t", "COUNT", self.sized("STATES"), plant.counts, list_of(plant.counts))
         lengths, most = [len(values) for _, values in plant.inputs], max(
@@ -83,7 +99,7 @@ class Header:
         filled = [value for _, values in plant.inputs for value in values + [0] * (most - len(values))] or [0]
         return lines + self.array("int64_t", "VALUE", f"[][{most}]", filled, "{" + ", ".join(choices) + "}")
 
-    def turns(self):
+    def turns(self) -> list[str]:
         firsts, lasts = target_indices(self.text)
         lines = [self.define("TURNS", len(firsts)), self.define("CELLS", self.plant.cells)]
         for name, indices in (("TARGET_FIRST", firsts), ("TARGET_LAST", lasts)):
@@ -97,7 +113,7 @@ class Header:
             )
         return lines
 
-    def rows(self):
+    def rows(self) -> list[str]:
         """The arrays that hold the rows: one number a cell, or the first cells and the numbers of runs; those of a
         patrol turn by turn."""
         codes, kind, rank_kind = self.codes, f"uint{self.codes.bits}_t", f"uint{self.codes.rank_bits}_t"
@@ -116,25 +132,25 @@ class Header:
             lines += self.array("uint32_t", "TURN", f"[{self.before}TURNS + 1]", begins, list_of(begins))
         return lines
 
-    def unit_lines(self):
+    def unit_lines(self) -> list[str]:
         """What the number 1 of each state and input stands for: a state is floor(value / UNIT), an input's value is
         number * INPUT_UNIT. As doubles, and as fractions where they are numbers of 64 bits."""
-        if not self.units:
+        units = self.units
+        if not units:
             return []
-        words = ", ".join(self.units.label(name) for name in self.plant.names() if name in self.units.words)
+        words = ", ".join(units.label(name) for name in self.plant.names() if name in units.words)
         lines = [f"/* {words} */"] * bool(words)
-        lines += self.sizes("UNIT", self.sized("STATES"), self.plant.states)
-        lines += self.sizes("INPUT_UNIT", "[]", self.plant.inputs)
+        lines += self.sizes("UNIT", self.sized("STATES"), [units.size(name) for name, *_ in self.plant.states])
+        lines += self.sizes("INPUT_UNIT", "[]", [units.size(name) for name, _ in self.plant.inputs] or [Fraction(0)])
         exact = [int(state[0] in self.exact) for state in self.plant.states]
         return lines + self.array("uint8_t", "EXACT", self.sized("STATES"), exact, list_of(exact))
 
-    def sizes(self, name, size, entries):
+    def sizes(self, name: str, size: str, sizes: Sequence[Fraction]) -> list[str]:
         """The arrays of what the number 1 of each state, or of each input, stands for."""
-        sizes = [self.units.size(entry[0]) for entry in entries] or [0]
         doubles = list_of([double_of(one) for one in sizes])
         lines = [f"static const double {self.before}{name}{size} = {doubles};"]
         if None not in self.fractions:
-            pairs = [fraction_of(one) for one in sizes]
+            pairs = [pair for pair in map(fraction_of, sizes) if pair]
             flat, said = [number for pair in pairs for number in pair], f"{{{', '.join(map(list_of, pairs))}}}"
             lines += self.array("int64_t", f"{name}_FRACTION", "[][2]", flat, said)
         return lines

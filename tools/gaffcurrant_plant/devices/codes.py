@@ -1,19 +1,19 @@
 """The rows of a text as numbers for a device: what stands for each cell, cell by cell or in runs, and the indices of a
 patrol's targets."""
 
+from __future__ import annotations
+
+from typing import Sequence
+from ..texts.table import Table, Text, parts_of
+
 LINE = 24
-
-
-def parts_of(text):
-    """What has rows of its own: the turns of a patrol, else the text itself."""
-    return text.turns if text.kind == "patrol" else [text]
 
 
 class Codes:
     """The number that stands for each cell's row, turn by turn: that of the input vector, or one of the two greatest.
     ranks: the rank of each cell's row, 0 where there is none."""
 
-    def __init__(self, text):
+    def __init__(self, text: Text) -> None:
         self.bits = 16 if text.plant.vectors > 254 else 8
         self.none = 2**self.bits - 1
         self.arrived = self.none - 1
@@ -21,20 +21,23 @@ class Codes:
         self.ranks = [ranks_of(part) for part in parts_of(text)]
         self.rank_bits = 16 if max(max(ranks, default=0) for ranks in self.ranks) < 2**16 else 32
 
-    def of_part(self, part):
+    def of_part(self, part: Table) -> list[int]:
         codes = [self.none] * part.plant.cells
         for cell, (_, choice) in part.rows.items():
             codes[cell] = self.arrived if choice is None else choice
         return codes
 
-    def flat(self):
+    def flat(self) -> tuple[list[int], list[int]]:
         """The numbers and the ranks of all cells, turn by turn."""
-        return ([number for part in parts for number in part] for parts in (self.of_parts, self.ranks))
+        return [number for part in self.of_parts for number in part], [rank for part in self.ranks for rank in part]
 
-    def runs(self, with_ranks):
+    def runs(self, with_ranks: bool) -> tuple[list[int], list[int], list[int], list[int]]:
         """The first cell of each run of cells with one number, and where ranks are asked for with one rank; the
         numbers, the ranks, and for each part the number of its first run, and behind all."""
-        firsts, numbers, ranks, begins = [], [], [], [0]
+        firsts: list[int] = []
+        numbers: list[int] = []
+        ranks: list[int] = []
+        begins = [0]
         for codes, of_cells in zip(self.of_parts, self.ranks):
             pairs = list(zip(codes, of_cells if with_ranks else [0] * len(codes)))
             changes = [cell for cell, pair in enumerate(pairs) if cell == 0 or pair != pairs[cell - 1]]
@@ -45,17 +48,18 @@ class Codes:
         return firsts, numbers, ranks, begins
 
 
-def ranks_of(part):
+def ranks_of(part: Table) -> list[int]:
     ranks = [0] * part.plant.cells
     for cell, (rank, _) in part.rows.items():
         ranks[cell] = rank or 0
     return ranks
 
 
-def target_indices(patrol):
+def target_indices(patrol: Text) -> tuple[list[list[int]], list[list[int]]]:
     """The indices that fill each target, from the first to the last along each state; the first is behind the last
     where there are none."""
-    firsts, lasts = [], []
+    firsts: list[list[int]] = []
+    lasts: list[list[int]] = []
     for box in patrol.plant.targets:
         indices = patrol.plant.inner_extents(box)
         whole = all(first <= last for first, last in indices)
@@ -67,7 +71,7 @@ def target_indices(patrol):
 WHAT = {"table": "A table", "stay": "A stay text", "patrol": "A patrol text"}
 
 
-def about(text, checksum):
+def about(text: Text, checksum: int) -> list[str]:
     """Lines on the text, as far as its numbers need words."""
     plant, counts = text.plant, [len(part.rows) for part in parts_of(text)]
     goal = (
@@ -87,7 +91,7 @@ def about(text, checksum):
     return lines + [f"checksum of the text {checksum:08x} (CRC-32)"]
 
 
-def broken(values, size=LINE):
+def broken(values: Sequence[int], size: int = LINE) -> list[str]:
     """Values in lines of so many."""
     said = list(map(str, values))
     return [",".join(said[at : at + size]) for at in range(0, len(said), size)]

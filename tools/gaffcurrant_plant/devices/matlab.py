@@ -1,9 +1,19 @@
 """A text as a function file of MATLAB, which Octave reads too."""
 
+from __future__ import annotations
+
+from argparse import Namespace
+from typing import List, Optional, Sequence, Tuple
+
 from ..faults import Trouble
-from .codes import WHAT, about, broken, target_indices
+from ..plants.plant import Plant
+from ..plants.units import Units
+from ..texts.table import Text, parts_of
+from .codes import WHAT, Codes, about, broken, target_indices
 from .sizes import double_of
 
+# The name, the type and the values of an array.
+Array = Tuple[str, str, List[int]]
 # Whole numbers up to here are exact in doubles.
 TOP = 2**53
 TURN = (
@@ -12,7 +22,7 @@ TURN = (
 )
 
 
-def function_file(text, codes, checksum, given, units):
+def function_file(text: Text, codes: Codes, checksum: int, given: Namespace, units: Optional[Units]) -> list[str]:
     """The lines of NAME.m."""
     plant, of_turns = text.plant, text.kind == "patrol"
     check_size(plant)
@@ -32,11 +42,12 @@ def function_file(text, codes, checksum, given, units):
         head.append(
             "% RANK, where there is a row, falls by one at least from sample to sample; where it doesn't, stop safely."
         )
-    for one in plant.names() if units else ():
-        if one in units.sizes:
-            head.append(
-                f"% the number 1 of {units.label(one)} is {double_of(units.size(one))}, exactly {units.size(one)}"
-            )
+    if units:
+        head += [
+            f"% the number 1 of {units.label(one)} is {double_of(units.size(one))}, exactly {units.size(one)}"
+            for one in plant.names()
+            if one in units.sizes
+        ]
     arrays = rows_of(codes, given)
     kept = (
         ["low", "high", "width", "count"] + ["target_first", "target_last"] * of_turns + [entry[0] for entry in arrays]
@@ -49,7 +60,7 @@ def function_file(text, codes, checksum, given, units):
     return head + body + reader(text, codes, given) + ["end"]
 
 
-def check_size(plant):
+def check_size(plant: Plant) -> None:
     numbers = [end for state in plant.states for end in state[1:3]] + [
         value for _, values in plant.inputs for value in values
     ]
@@ -57,7 +68,7 @@ def check_size(plant):
         raise Trouble("a range or a value doesn't fit into the whole numbers of doubles, of 53 bits; coarser units do")
 
 
-def rows_of(codes, given):
+def rows_of(codes: Codes, given: Namespace) -> list[Array]:
     """The arrays that hold the rows: name, type and values."""
     kind, rank_kind = f"uint{codes.bits}", f"uint{codes.rank_bits}"
     if given.runs:
@@ -69,7 +80,7 @@ def rows_of(codes, given):
     return arrays + [("ranks", rank_kind, ranks)] * given.ranks
 
 
-def constants(text, arrays):
+def constants(text: Text, arrays: list[Array]) -> list[str]:
     plant, lines = text.plant, []
     for name, values in (
         ("low", [state[1] for state in plant.states]),
@@ -91,11 +102,11 @@ def constants(text, arrays):
     return lines
 
 
-def listed(values):
+def listed(values: Sequence[int]) -> str:
     return "[" + " ".join(map(str, values)) + "]"
 
 
-def reader(text, codes, given):
+def reader(text: Text, codes: Codes, given: Namespace) -> list[str]:
     """The lines that look for the row of a state."""
     plant, of_turns = text.plant, text.kind == "patrol"
     lines = (
@@ -120,7 +131,7 @@ def reader(text, codes, given):
     ]
     if of_turns:
         inner = (
-            ["after = mod(turn + 1, " + str(len(text.turns)) + ");"]
+            ["after = mod(turn + 1, " + str(len(parts_of(text))) + ");"]
             + looked_up("after", plant, given, True)
             + [f"if number ~= {codes.none}", "    turn = after;", "end"]
         )
@@ -146,7 +157,7 @@ def reader(text, codes, given):
     return lines + ["status = 1;"]
 
 
-def looked_up(turn, plant, given, of_turns):
+def looked_up(turn: str, plant: Plant, given: Namespace, of_turns: bool) -> list[str]:
     last = ["number = double(row(place + 1));"]
     if not given.runs:
         return [f"place = {f'{turn} * {plant.cells} + ' if of_turns else ''}cell_number;"] + last

@@ -1,8 +1,16 @@
 """A text as a function block in structured text of IEC 61131-3, for programmable controllers: numbers of 32 bits, no
 pointers, no library but the conversions of numbers."""
 
+from __future__ import annotations
+
+from argparse import Namespace
+from typing import Iterable, Iterator, Optional, Sequence
+
 from ..faults import Trouble
-from .codes import WHAT, about, broken, target_indices
+from ..plants.plant import Plant
+from ..plants.units import Units
+from ..texts.table import Text, parts_of
+from .codes import WHAT, Codes, about, broken, target_indices
 from .sizes import double_of
 
 TOP = 2**31
@@ -11,7 +19,7 @@ TOP = 2**31
 class Block:
     """The lines of a function block."""
 
-    def __init__(self, text, codes, checksum, given, units):
+    def __init__(self, text: Text, codes: Codes, checksum: int, given: Namespace, units: Optional[Units]) -> None:
         self.text, self.plant, self.codes, self.checksum, self.units = text, text.plant, codes, checksum, units
         self.name, self.in_runs, self.with_ranks = given.prefix or "CONTROLLER", given.runs, given.ranks
         self.of_turns = text.kind == "patrol"
@@ -19,7 +27,7 @@ class Block:
         self.most = max([len(values) for _, values in self.plant.inputs], default=1)
         check_size(self.plant)
 
-    def lines(self):
+    def lines(self) -> list[str]:
         return (
             self.comment()
             + [f"FUNCTION_BLOCK {self.name}"]
@@ -29,7 +37,7 @@ class Block:
             + ["END_FUNCTION_BLOCK"]
         )
 
-    def comment(self):
+    def comment(self) -> list[str]:
         lines = [f"(* {WHAT[self.text.kind]} of Gaffcurrant, made by tools/header --st."] + [
             f"   {line}" for line in about(self.text, self.checksum)
         ]
@@ -46,15 +54,15 @@ class Block:
                 "   FALLS is FALSE where the rank hasn't fallen as promised since the call before: a disturbance "
                 "outside of its range, or a sensor."
             )
-        for name in self.plant.names() if self.units else ():
-            if name in self.units.sizes:
-                lines.append(
-                    f"   the number 1 of {self.units.label(name)} is {double_of(self.units.size(name))}, exactly "
-                    f"{self.units.size(name)}"
-                )
+        if units := self.units:
+            lines += [
+                f"   the number 1 of {units.label(name)} is {double_of(units.size(name))}, exactly {units.size(name)}"
+                for name in self.plant.names()
+                if name in units.sizes
+            ]
         return lines[:-1] + [lines[-1] + " *)"]
 
-    def variables(self):
+    def variables(self) -> list[str]:
         own = (
             ["I, CELL, PLACE, NUMBER : DINT;"]
             + ["LOWEST, HIGHEST, MIDDLE : DINT;"] * self.in_runs
@@ -72,7 +80,7 @@ class Block:
             + section("VAR", own)
         )
 
-    def constants(self):
+    def constants(self) -> list[str]:
         """The arrays; of a patrol the rows of one turn behind those of the other."""
         lines = [line for entry in self.grid() for line in array(entry[0], "DINT", entry[1])]
         if self.of_turns:
@@ -80,16 +88,16 @@ class Block:
                 lines += array(name, "DINT", [index for one in indices for index in one])
         return section("VAR CONSTANT", lines + self.rows())
 
-    def grid(self):
+    def grid(self) -> Iterator[tuple[str, list[int]]]:
         """The ranges, cells and values by their arrays' names; where an input has fewer values than another, 0 is
         filled in."""
-        states, inputs = self.plant.states, [values for _, values in self.plant.inputs]
-        yield from ((name, [state[k] for state in states]) for name, k in (("LOW", 1), ("HIGH", 2), ("WIDTH", 3)))
+        inputs = [values for _, values in self.plant.inputs]
+        yield from (("LOW", self.plant.lows), ("HIGH", self.plant.highs), ("WIDTH", self.plant.widths))
         yield "COUNT", self.plant.counts
         yield "VALUES", [len(values) for values in inputs] or [1]
         yield "VALUE", [value for values in inputs for value in values + [0] * (self.most - len(values))] or [0]
 
-    def rows(self):
+    def rows(self) -> list[str]:
         """The arrays that hold the rows."""
         codes, lines = self.codes, []
         if self.in_runs:
@@ -102,7 +110,7 @@ class Block:
             lines += array("RANKS", "UINT" if codes.rank_bits == 16 else "DINT", ranks)
         return lines
 
-    def body(self):
+    def body(self) -> list[str]:
         head = ["STATUS := -1;"] + ["FALLS := FALSE;"] * self.with_ranks
         if self.of_turns:
             head += ["IS_FIRST := NOT HAS_BEGUN;", "HAS_BEGUN := TRUE;"]
@@ -124,10 +132,10 @@ class Block:
             + self.answer()
         )
 
-    def visit(self):
+    def visit(self) -> list[str]:
         """The next turn begins where the target of the turn was reached, and the cell has a row for it."""
         inner = (
-            ["AFTER := (TURN + 1) MOD " + str(len(self.text.turns)) + ";"]
+            ["AFTER := (TURN + 1) MOD " + str(len(parts_of(self.text))) + ";"]
             + self.lookup("AFTER")
             + [f"IF NUMBER <> {self.codes.none} THEN", "    TURN := AFTER;"]
             + ["    LAST_RANK := -1;"] * self.with_ranks
@@ -149,7 +157,7 @@ class Block:
             + ["END_IF;"]
         )
 
-    def lookup(self, turn):
+    def lookup(self, turn: str) -> list[str]:
         """Sets PLACE and NUMBER to the row of CELL."""
         kind = "USINT" if self.codes.bits == 8 else "UINT"
         last = [f"NUMBER := {kind}_TO_DINT(ROW[PLACE]);"]
@@ -170,7 +178,7 @@ class Block:
             "PLACE := LOWEST;",
         ] + last
 
-    def monitor(self):
+    def monitor(self) -> list[str]:
         rank = "UINT_TO_DINT(RANKS[PLACE])" if self.codes.rank_bits == 16 else "RANKS[PLACE]"
         return [
             f"RANK := {rank};",
@@ -181,7 +189,7 @@ class Block:
             "END_IF;",
         ]
 
-    def answer(self):
+    def answer(self) -> list[str]:
         lines = [f"IF NUMBER = {self.codes.arrived} THEN", "    STATUS := 0;", "    RETURN;", "END_IF;"]
         if self.inputs:
             lines += [
@@ -193,7 +201,7 @@ class Block:
         return lines + ["STATUS := 1;"]
 
 
-def check_size(plant):
+def check_size(plant: Plant) -> None:
     """Raises Trouble where a number doesn't fit into 32 bits."""
     for name, low, high, _ in plant.states:
         if not -TOP <= low <= high < TOP or high - low >= TOP:
@@ -205,11 +213,11 @@ def check_size(plant):
             raise Trouble(f"the values of {name} don't fit into numbers of 32 bits; coarser units do")
 
 
-def section(head, lines):
+def section(head: str, lines: Iterable[str]) -> list[str]:
     return [head] + [f"    {line}" for line in lines] + ["END_VAR"]
 
 
-def array(name, kind, values):
+def array(name: str, kind: str, values: Sequence[int]) -> list[str]:
     said = broken(values)
     head = f"{name} : ARRAY[0..{len(values) - 1}] OF {kind} := ["
     if len(said) == 1:
@@ -217,5 +225,5 @@ def array(name, kind, values):
     return [head] + [f"    {line}," for line in said[:-1]] + [f"    {said[-1]}];"]
 
 
-def function_block(text, codes, checksum, given, units):
+def function_block(text: Text, codes: Codes, checksum: int, given: Namespace, units: Optional[Units]) -> list[str]:
     return Block(text, codes, checksum, given, units).lines()

@@ -5,13 +5,16 @@ the state's cell. Needs numpy."""
 from __future__ import annotations
 
 from fractions import Fraction
-from typing import Any, Callable, NamedTuple, Optional, Sequence
+from typing import Any, Callable, Iterable, NamedTuple, Optional
 
 import numpy
+from numpy.typing import NDArray
 
+from ..plants.array_kinds import Flags, Numbers, Reals, Wholes
 from ..plants.batch import ARRAY_SHAPES, ARRAY_SPANS, BLOCK, ROOM, Batch
 from ..plants.bounds import compiled, compiled_span
 from ..plants.expression import uses_of
+from ..plants.kinds import Interval, Node, Span, Value
 from ..plants.plant import Plant
 from ..plants.units import Units
 from .logs import Log, sampling_of
@@ -27,9 +30,9 @@ class Equation(NamedTuple):
     """One equation: value: its value over arrays; ends: the ends of what its noises add beside their being 0, where
     they are only added, else None, and then span gives the ends of its value over the noises' ranges."""
 
-    value: Callable[[Sequence[Any]], Any]
-    ends: Optional[tuple[int, int]]
-    span: Callable[[Sequence[Any]], Any]
+    value: Value
+    ends: Optional[Interval]
+    span: Span
 
 
 class Equations:
@@ -45,16 +48,15 @@ class Equations:
             )
             for node in nodes
         ]
-        self.low, self.high = (column([state[k] for state in plant.states]) for k in (1, 2))
-        self.sizes, self.input_sizes = (
-            column([float(units.size(entry[0])) for entry in entries]) for entries in (plant.states, plant.inputs)
-        )
+        self.low, self.high = column(plant.lows), column(plant.highs)
+        self.sizes = column(float(units.size(state[0])) for state in plant.states)
+        self.input_sizes = column(float(units.size(name)) for name, _ in plant.inputs)
         self.exact = column([state[0] in units.exact for state in plant.states])
         self.periods = plant.periods
         self.values = [numpy.array(sorted(values)) for _, values in plant.inputs]
         self.indices = [numpy.array([values.index(value) for value in sorted(values)]) for _, values in plant.inputs]
 
-    def whole_states(self, states: numpy.ndarray, near: float = NEAR) -> numpy.ndarray:
+    def whole_states(self, states: Reals, near: float = NEAR) -> Reals:
         """The whole numbers of real states, as doubles, those of states that come round within their range; NaN stays.
         A value this near below a unit counts as in it."""
         scaled = states / self.sizes
@@ -66,11 +68,12 @@ class Equations:
                 whole[i] = self.low[i] + (whole[i] - self.low[i]) % period
         return whole
 
-    def are_inside(self, whole: numpy.ndarray) -> numpy.ndarray:
+    def are_inside(self, whole: Numbers) -> Flags:
         """Which columns lie in the domain."""
-        return numpy.all((whole >= self.low) & (whole <= self.high), axis=0)
+        inside: Flags = numpy.all((whole >= self.low) & (whole <= self.high), axis=0)
+        return inside
 
-    def vectors(self, inputs: numpy.ndarray) -> numpy.ndarray:
+    def vectors(self, inputs: Reals) -> Wholes:
         """The input vectors of columns of real inputs, -1 where a value is none of those of its input."""
         vectors = numpy.zeros(inputs.shape[1], dtype=numpy.int64)
         good = numpy.ones(inputs.shape[1], dtype=bool)
@@ -81,9 +84,7 @@ class Equations:
             vectors = vectors * len(values) + indices[at]
         return numpy.where(good, vectors, -1)
 
-    def needed(
-        self, whole: numpy.ndarray, inputs: numpy.ndarray, after: numpy.ndarray
-    ) -> tuple[numpy.ndarray, numpy.ndarray]:
+    def needed(self, whole: Numbers, inputs: Numbers, after: Numbers) -> tuple[Numbers, Numbers]:
         """For each state, a row, what would have to be added to its equation with noises of 0 to give the next state,
         and by how much that lies beyond what the noises' ranges give: above 0 over them, below 0 under them. Arrays of
         whole numbers, or of doubles."""
@@ -103,11 +104,11 @@ class Equations:
             needed[i], beyond[i] = away, numpy.maximum(away - high, 0) + numpy.minimum(away - low, 0)
         return needed, beyond
 
-    def stated(self) -> list[Optional[tuple[int, int]]]:
+    def stated(self) -> list[Optional[Interval]]:
         """For each state what its noises may add, None where they aren't only added."""
         return [equation.ends for equation in self.equations]
 
-    def are_followed(self, whole: numpy.ndarray, vectors: numpy.ndarray, after: numpy.ndarray) -> numpy.ndarray:
+    def are_followed(self, whole: Numbers, vectors: Wholes, after: Numbers) -> Flags:
         """Which next states lie in the domain, in a cell of the box of their state's cell, the box being in the domain:
         what `Controller.follows` says."""
         indices = [(row - state[1]) // state[3] for row, state in zip(whole, self.plant.states)]
@@ -119,13 +120,13 @@ class Equations:
         return numpy.broadcast_to(followed, vectors.shape)
 
 
-def added_noise(node: tuple, plant: Plant) -> Optional[tuple[int, int]]:
+def added_noise(node: Node, plant: Plant) -> Optional[Interval]:
     """The least and the greatest sum of the noises of an equation that only adds them, each once; None of another
     one."""
     first = len(plant.states) + len(plant.inputs)
     signs: dict[int, int] = {}
 
-    def is_plain(one: tuple, sign: int) -> bool:
+    def is_plain(one: Node, sign: int) -> bool:
         kind = one[0]
         if kind == "var" and one[1] >= first:
             is_new = one[1] not in signs
@@ -143,8 +144,8 @@ def added_noise(node: tuple, plant: Plant) -> Optional[tuple[int, int]]:
     return sum(low for low, _ in ends), sum(high for _, high in ends)
 
 
-def column(values: Sequence[Any]) -> numpy.ndarray:
-    return numpy.array(values).reshape(-1, 1)
+def column(values: Iterable[float]) -> NDArray[Any]:
+    return numpy.array(list(values)).reshape(-1, 1)
 
 
 class Conformity:
@@ -181,11 +182,12 @@ class Conformity:
         self.judge_again()
         self.explained = ~self.beyond.any(axis=0)
 
-    def judged(self, at: numpy.ndarray, whole: numpy.ndarray) -> tuple[numpy.ndarray, numpy.ndarray, numpy.ndarray]:
+    def judged(self, at: Wholes, whole: Reals) -> tuple[Numbers, Numbers, Flags]:
         """What the steps from these samples need, how far beyond the ranges that lies, and whether they are followed,
         by the samples' whole numbers."""
         kind, equations = self.equations.batch.kind, self.equations
-        before, after = (whole[:, one].astype(numpy.int64).astype(kind) for one in (at, at + 1))
+        before: Numbers = whole[:, at].astype(numpy.int64).astype(kind)
+        after: Numbers = whole[:, at + 1].astype(numpy.int64).astype(kind)
         needed, beyond = equations.needed(before, self.values[:, self.vectors[at]].astype(kind), after)
         return needed, beyond, equations.are_followed(before, self.vectors[at], after)
 
@@ -208,7 +210,7 @@ class Conformity:
         self.needed[:, chosen], self.beyond[:, chosen] = needed[:, better], beyond[:, better]
         self.followed[chosen] = True
 
-    def chosen(self, missing: numpy.ndarray) -> tuple[numpy.ndarray, numpy.ndarray, dict[str, int]]:
+    def chosen(self, missing: Flags) -> tuple[Wholes, Wholes, dict[str, int]]:
         """The steps with all numbers; those of them that are judged; and how many aren't, by the reason."""
         log, equations = self.log, self.equations
         has_state = numpy.isfinite(log.states).all(axis=0)
@@ -232,7 +234,7 @@ class Conformity:
         """The share of the judged steps that are explained."""
         return float(self.explained.mean()) if self.steps.size else 0.0
 
-    def stated(self) -> list[tuple[int, int]]:
+    def stated(self) -> list[Interval]:
         """For each state what its noises may add, in whole units; where they aren't only added, the most that they
         added at a step."""
         return [
@@ -240,7 +242,7 @@ class Conformity:
             for ends, needed, beyond in zip(self.equations.stated(), self.needed, self.beyond)
         ]
 
-    def ranges(self, share: Fraction = Fraction(1)) -> list[tuple[int, int]]:
+    def ranges(self, share: Fraction = Fraction(1)) -> list[Interval]:
         """For each state a range, in whole units, of which at least this share of the steps needs a number: as many of
         them lie below as above."""
         left = self.steps.size - -(-self.steps.size * share.numerator // share.denominator)
@@ -254,7 +256,7 @@ class Conformity:
         return [int(at) for at in order if far[at] > 0]
 
 
-def middle_of(numbers: numpy.ndarray, left: int) -> tuple[int, int]:
+def middle_of(numbers: Wholes, left: int) -> Interval:
     """The ends of numbers without so many of them, half below and half above."""
     if not numbers.size:
         return 0, 0

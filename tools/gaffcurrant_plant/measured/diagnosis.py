@@ -4,10 +4,11 @@ and told where the steps are explained clearly better without it. Needs numpy.""
 from __future__ import annotations
 
 import math
-from typing import Callable, Iterator, NamedTuple, Optional
+from typing import Callable, Iterator, NamedTuple, Optional, Tuple
 
 import numpy
 
+from ..plants.array_kinds import Flags, Numbers, Reals, Wholes
 from .conformity import Conformity, column
 
 # Steps that are looked at, at most; and for few or many input vectors of a sample that is missing.
@@ -28,7 +29,7 @@ LISTED = 4
 
 
 # States before, inputs and states after by a number.
-Moved = Callable[[float], "tuple[numpy.ndarray, numpy.ndarray, numpy.ndarray]"]
+Moved = Callable[[float], Tuple[Reals, Reals, Reals]]
 
 
 class Cause(NamedTuple):
@@ -44,13 +45,11 @@ class Cause(NamedTuple):
 class Looked:
     """Steps of a log as doubles: states before and after, and the inputs that act, in the model's units."""
 
-    def __init__(self, conformity: Conformity, at: numpy.ndarray) -> None:
+    def __init__(self, conformity: Conformity, at: Wholes) -> None:
         self.equations, log = conformity.equations, conformity.log
         self.at, self.states, self.after, self.inputs = at, log.states[:, at], log.states[:, at + 1], log.inputs[:, at]
 
-    def beyond(
-        self, states: numpy.ndarray, inputs: numpy.ndarray, after: numpy.ndarray
-    ) -> tuple[numpy.ndarray, numpy.ndarray]:
+    def beyond(self, states: Reals, inputs: Reals, after: Reals) -> tuple[Numbers, Numbers]:
         """What would have to be added to the equations, and how far that lies beyond the ranges, in whole units as
         doubles."""
         equations = self.equations
@@ -59,15 +58,14 @@ class Looked:
                 equations.whole_states(states), inputs / equations.input_sizes, equations.whole_states(after)
             )
 
-    def are_explained(
-        self, states: numpy.ndarray, acting: numpy.ndarray, after: numpy.ndarray, inputs: Optional[numpy.ndarray] = None
-    ) -> numpy.ndarray:
+    def are_explained(self, states: Reals, acting: Reals, after: Reals, inputs: Optional[Reals] = None) -> Flags:
         """Which steps the equations explain from states in the domain, under inputs that may act otherwise than they
         are given."""
         equations = self.equations
         listed = equations.vectors(acting if inputs is None else inputs) >= 0
         _, beyond = self.beyond(states, acting, after)
-        return listed & equations.are_inside(equations.whole_states(states)) & (abs(beyond) < 1).all(axis=0)
+        explained: Flags = (abs(beyond) < 1).all(axis=0)
+        return listed & equations.are_inside(equations.whole_states(states)) & explained
 
 
 class Diagnosis:
@@ -103,7 +101,7 @@ class Diagnosis:
         gained = cause.share - cause.before
         return 1 - cause.share <= LEFT * (1 - cause.before) and gained >= GAINED and gained * cause.steps > FEWEST - 0.5
 
-    def cause(self, said: str, explained: numpy.ndarray, among: Optional[numpy.ndarray] = None) -> Cause:
+    def cause(self, said: str, explained: Flags, among: Optional[Flags] = None) -> Cause:
         before = self.explained if among is None else self.explained[among]
         return Cause(said, float(explained.mean()), float(before.mean()), explained.size)
 
@@ -120,7 +118,7 @@ class Diagnosis:
             for name, scaled in self.scalings(factor):
                 yield self.cause(f"{name} {said} in the log as in the model: other units", scaled)
 
-    def scalings(self, factor: float) -> Iterator[tuple[str, numpy.ndarray]]:
+    def scalings(self, factor: float) -> Iterator[tuple[str, Flags]]:
         """Which steps are explained with one variable, with all states and with all variables divided by a factor."""
         looked, none = self.looked, list[int]()
         every, all_inputs = list(range(len(self.names))), list(range(len(self.input_names)))
@@ -202,7 +200,7 @@ class Diagnosis:
         looked = self.looked
         return lambda value: (raised(looked.states, i, -value), looked.inputs, raised(looked.after, i, -value))
 
-    def best(self, moved: Moved, start: float, step: float) -> tuple[float, Optional[numpy.ndarray]]:
+    def best(self, moved: Moved, start: float, step: float) -> tuple[float, Optional[Flags]]:
         """The number with which most steps are explained, near what least squares give, and which these are; None where
         the equations don't depend on it."""
         fitted = self.fitted(moved, start, step)
@@ -253,7 +251,7 @@ class Diagnosis:
             bad = bad[~skipped]
         return said + self.jumps(bad)
 
-    def wraps(self, bad: numpy.ndarray) -> tuple[numpy.ndarray, list[str]]:
+    def wraps(self, bad: Wholes) -> tuple[Flags, list[str]]:
         """Which unexplained steps are explained with a state a turn on, and what is said of them."""
         conformity, done, said = self.conformity, numpy.zeros(bad.size, dtype=bool), []
         for i, (name, low, high, _) in enumerate(self.plant.states):
@@ -275,7 +273,7 @@ class Diagnosis:
                     )
         return done, said
 
-    def skips(self, bad: numpy.ndarray) -> numpy.ndarray:
+    def skips(self, bad: Wholes) -> Flags:
         """Which of the first unexplained steps are explained by two samples, under the step's input and then any other
         one, and lie farther beyond the ranges than these samples' noises reach."""
         done = numpy.zeros(bad.size, dtype=bool)
@@ -305,7 +303,7 @@ class Diagnosis:
                 done[: some.size] |= (away <= reach).all(axis=0) & is_far
         return done
 
-    def jumps(self, bad: numpy.ndarray) -> list[str]:
+    def jumps(self, bad: Wholes) -> list[str]:
         """A state that jumps at few steps, far beyond its range."""
         said, judged = [], self.conformity.steps.size
         for i, (name, low, high, width) in enumerate(self.plant.states):
@@ -320,13 +318,13 @@ class Diagnosis:
                 )
         return said
 
-    def lines_said(self, steps: numpy.ndarray) -> str:
+    def lines_said(self, steps: Wholes) -> str:
         """The first lines of steps, in words."""
         lines = self.conformity.log.lines[self.conformity.steps[steps[:LISTED]] + 1].tolist()
         return f"line{'s' * (len(lines) > 1)} {', '.join(map(str, lines))}" + " .." * (steps.size > LISTED)
 
 
-def raised(rows: numpy.ndarray, at: int, more: float = 0.0, factor: float = 1.0) -> numpy.ndarray:
+def raised(rows: Reals, at: int, more: float = 0.0, factor: float = 1.0) -> Reals:
     """Rows of which one is multiplied and raised."""
     moved = numpy.array(rows)
     moved[at] = moved[at] * factor + more

@@ -9,8 +9,10 @@ import warnings
 from typing import NamedTuple, Optional, Sequence
 
 import numpy
+from numpy.typing import ArrayLike
 
 from ..faults import Trouble
+from ..plants.array_kinds import Flags, Reals, Wholes
 from ..plants.units import Units
 
 TIMES = ("time", "t")
@@ -37,24 +39,26 @@ class Log(NamedTuple):
     has no number; times: of the samples, None without such a column; lines: their line numbers in the file; goes_on:
     whether the next sample belongs to the same run; path: what the log is called."""
 
-    states: numpy.ndarray
-    inputs: numpy.ndarray
-    times: Optional[numpy.ndarray]
-    lines: numpy.ndarray
-    goes_on: numpy.ndarray
+    states: Reals
+    inputs: Reals
+    times: Optional[Reals]
+    lines: Wholes
+    goes_on: Flags
     path: str = "the log"
 
     def runs(self) -> int:
         return int(self.lines.size - self.goes_on.sum())
 
-    def run_numbers(self) -> numpy.ndarray:
+    def run_numbers(self) -> Wholes:
         """For each sample the number of its run, from 0."""
         return (
             numpy.concatenate([[0], numpy.cumsum(~self.goes_on[:-1])]) if self.lines.size else numpy.zeros(0, dtype=int)
         )
 
 
-def log_of(states: object, inputs: object, times: object = None, begins: Sequence[int] = (0,)) -> Log:
+def log_of(
+    states: ArrayLike, inputs: ArrayLike, times: Optional[ArrayLike] = None, begins: Sequence[int] = (0,)
+) -> Log:
     """A Log of arrays in the model's units with a line for each sample, as a notebook has them; begins has the samples
     with which runs begin. Its `lines` are the samples' numbers from 0."""
     rows, values = (numpy.atleast_2d(numpy.asarray(one, dtype=float)) for one in (states, inputs))
@@ -122,7 +126,7 @@ def columns_of(
 
 def numbers_of(
     path: str, body: bytes, first: int, separator: str, wide: int, looked_at: Sequence[int]
-) -> tuple[numpy.ndarray, numpy.ndarray, numpy.ndarray]:
+) -> tuple[Reals, Wholes, Flags]:
     """The numbers of the lines below a heading, which begin with this line, in the columns that are looked at; their
     line numbers; and whether the next one belongs to the same run."""
     text = b"\n" + body + b"\n" * (not body.endswith(b"\n"))
@@ -163,7 +167,7 @@ def with_nan(text: bytes, wide: int) -> bytes:
     return text
 
 
-def parsed(text: bytes, count: int) -> Optional[numpy.ndarray]:
+def parsed(text: bytes, count: int) -> Optional[Reals]:
     """The numbers of a text that has so many and nothing else; None of another one."""
     with warnings.catch_warnings():
         warnings.simplefilter("error")
@@ -174,7 +178,7 @@ def parsed(text: bytes, count: int) -> Optional[numpy.ndarray]:
     return numbers if numbers.size == count else None
 
 
-def parsed_by_line(path: str, rows: Sequence[bytes], lines: numpy.ndarray, looked_at: Sequence[int]) -> numpy.ndarray:
+def parsed_by_line(path: str, rows: Sequence[bytes], lines: Wholes, looked_at: Sequence[int]) -> Reals:
     """The numbers of lines in the columns that are looked at, NaN in the others, whatever stands there; raises Trouble
     with the first line that has something else."""
     table = numpy.full((len(rows), rows[0].count(b",") + 1), numpy.nan)
@@ -204,7 +208,7 @@ def check_times(log: Log) -> None:
         )
 
 
-def sampling_of(log: Log, sample: Optional[float]) -> tuple[Optional[float], numpy.ndarray]:
+def sampling_of(log: Log, sample: Optional[float]) -> tuple[Optional[float], Flags]:
     """The sampling time of a log, None where it has no times, and whether samples are missing behind each sample.
     Raises Trouble where it isn't the model's."""
     gaps = numpy.zeros(log.lines.size, dtype=bool)

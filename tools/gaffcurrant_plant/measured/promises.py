@@ -3,12 +3,14 @@ has a row, and the rank falls. Needs numpy."""
 
 from __future__ import annotations
 
-from typing import Any, NamedTuple
+from typing import NamedTuple
 
 import numpy
 
+from ..plants.array_kinds import Flags, Wholes
 from ..texts.arrays import Rows
 from ..texts.promise import has_fallen
+from ..texts.table import Text
 from .conformity import Conformity
 
 
@@ -16,11 +18,11 @@ class Promises(NamedTuple):
     """Of the judged steps of a Conformity: applied: at which the row's input was applied; broken: at which it was, and
     the next state has no row, or its rank hasn't fallen as it is promised."""
 
-    applied: numpy.ndarray
-    broken: numpy.ndarray
+    applied: Flags
+    broken: Flags
 
 
-def promises_of(conformity: Conformity, text: Any, turn: int = 0) -> Promises:
+def promises_of(conformity: Conformity, text: Text, turn: int = 0) -> Promises:
     """The Promises of a Table, a Stay or a Patrol; each run of a log by a patrol begins in this turn."""
     rows, steps = Rows(text), conformity.steps
     whole = numpy.nan_to_num(conformity.whole, nan=-(2.0**52)).astype(numpy.int64)
@@ -38,7 +40,7 @@ def promises_of(conformity: Conformity, text: Any, turn: int = 0) -> Promises:
     return Promises(applied, applied & ~good)
 
 
-def turns_of(conformity: Conformity, rows: Rows, cells: numpy.ndarray, turn: int) -> numpy.ndarray:
+def turns_of(conformity: Conformity, rows: Rows, cells: Wholes, turn: int) -> Wholes:
     """The turn at each sample: the next one begins where a sample behind a run's first lies in an arrival of the
     turn."""
     count = len(rows.won)

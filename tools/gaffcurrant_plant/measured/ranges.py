@@ -15,6 +15,8 @@ from ..models.arithmetic import Floats
 from ..models.best_plant import planted
 from ..models.formula import value_of
 from ..models.model import Model, read_model
+from ..plants.array_kinds import Flags
+from ..plants.plant import Plant
 from ..plants.reader import read_plant
 from ..plants.units import decimal
 from .conformity import Conformity, conform
@@ -77,7 +79,7 @@ def is_plant(text: str) -> bool:
     )
 
 
-def with_steps(conformity: Conformity, chosen: numpy.ndarray) -> Log:
+def with_steps(conformity: Conformity, chosen: Flags) -> Log:
     """A log of some of the judged steps alone."""
     log, at = conformity.log, conformity.steps[chosen]
     pairs = numpy.stack([at, at + 1], axis=1).ravel()
@@ -102,7 +104,7 @@ class Edited:
     def widen_state(self, i: int, low: int, high: int) -> None:
         raise NotImplementedError
 
-    def plant(self) -> Any:
+    def plant(self) -> Plant:
         raise NotImplementedError
 
     def fresh(self, state: str, taken: list[str]) -> str:
@@ -147,9 +149,9 @@ class ModelText(Edited):
         self.model: Model = read_model(text.encode())
         self.last = max(self.model.variable_lines.values())
         self.rows = [list(row) for row in self.model.rows["w"]]
-        self.time = self.model.sample if self.model.flows else Fraction(1)
+        self.time = self.model.time if self.model.flows else Fraction(1)
 
-    def plant(self) -> Any:
+    def plant(self) -> Plant:
         """The plant of the text as it is by now."""
         return planted(read_model(self.text().encode())).plant
 
@@ -220,7 +222,7 @@ class PlantText(Edited):
         super().__init__(text)
         self.first = read_plant(text.encode())
 
-    def plant(self) -> Any:
+    def plant(self) -> Plant:
         return read_plant(self.text().encode())
 
     def widen_state(self, i: int, low: int, high: int) -> None:
@@ -250,7 +252,7 @@ class PlantText(Edited):
         return [line.replace(f"  {NOTE}", "") for line in super().new_lines()]
 
 
-def is_added(plant: Any, i: int, variable: int) -> bool:
+def is_added(plant: Plant, i: int, variable: int) -> bool:
     """Whether an equation adds a noise, with a plus and no factor."""
     node = plant.rolled.equations[i]
     while node[0] in ("add", "sub"):

@@ -1,20 +1,29 @@
 """Whether a table is of a model, or of a plant text: names, order, ranges, cells and values."""
 
+from __future__ import annotations
+
 import importlib.util
 import math
 import random
 import re
 from fractions import Fraction
+from typing import List, Sequence, Tuple, Union
 
 from ..command import read_bytes
 from ..faults import Refused, Trouble
 from ..plants.bounds import span_of
+from ..plants.kinds import Input, Noise, State
+from ..plants.plant import Plant
 from ..plants.reader import read_plant
 from ..plants.units import short
 from .best_plant import planted
-from .model import read_model
+from .kinds import Real
+from .model import Model, read_model
 from .trial import Point, around, real_steps
 
+# A state and an input of a model in units, which a table's plant has as whole numbers.
+RealState = Tuple[str, Fraction, Fraction, Fraction]
+RealInput = Tuple[str, List[Fraction]]
 # The comment of tools/scale on a state that its model calls exact.
 EXACT = re.compile(rb"^# unit ([A-Za-z][A-Za-z0-9_]*) .*: a whole number by itself$", re.M)
 # Random states whose step is looked at, and units by which it may lie beside the table's: older tools rounded in other
@@ -22,16 +31,16 @@ EXACT = re.compile(rb"^# unit ([A-Za-z][A-Za-z0-9_]*) .*: a whole number by itse
 TRIED, BESIDE = 40, 2
 
 
-def states_of(model):
+def states_of(model: Model) -> list[RealState]:
     """The states of a model's plant: (name, least, greatest, width) in units."""
     return [(name, low / unit, high / unit - 1, width / unit) for name, low, high, width, unit in model.states]
 
 
-def inputs_of(model):
+def inputs_of(model: Model) -> list[RealInput]:
     return [(name, [value / unit for value in values]) for name, unit, values in model.inputs]
 
 
-def model_at(path):
+def model_at(path: str) -> Model:
     """The model in a file; raises Trouble."""
     data = read_bytes(path)
     try:
@@ -40,12 +49,12 @@ def model_at(path):
         raise Trouble(f"{path}: {trouble}", trouble.status) from None
 
 
-def check_model(path, model, plant):
+def check_model(path: str, model: Model, plant: Plant) -> None:
     """Raises Trouble where a model's states and inputs aren't those of a table's plant."""
     check_variables(path, "model", states_of(model), inputs_of(model), plant)
 
 
-def check_equations(path, model, plant):
+def check_equations(path: str, model: Model, plant: Plant) -> None:
     """Raises Trouble where a model's equations and noises in whole units aren't a table's, as where all its units are
     ten times those. Where mpmath is missing, which they may need, they aren't compared."""
     if importlib.util.find_spec("mpmath") is None:
@@ -60,7 +69,7 @@ def check_equations(path, model, plant):
             )
 
 
-def check_steps(path, model, plant):
+def check_steps(path: str, model: Model, plant: Plant) -> None:
     """Raises Trouble where the step of a model from a random state isn't one that a table's plant allows, as where all
     its units are ten times those."""
     draws = random.Random(1)
@@ -72,11 +81,11 @@ def check_steps(path, model, plant):
                 plant.equations[i],
                 [(value, value) for value in point.whole + point.inputs] + [ends[1:] for ends in plant.noises],
             )
-            beside = value / float(unit) - low
+            beside: Real = value / float(unit) - low
             beside = around(beside, model, state) if name in model.wraps else beside
             if not -BESIDE <= beside <= high - low + 1 + BESIDE:
                 away = (
-                    f"{short(Fraction(abs(beside)) * unit)} away from where"
+                    f"{short(abs(Fraction(beside)) * unit)} away from where"
                     if math.isfinite(beside)
                     else "elsewhere than"
                 )
@@ -86,7 +95,7 @@ def check_steps(path, model, plant):
                 )
 
 
-def equations_of(plant):
+def equations_of(plant: Plant) -> list[tuple[str, list[Noise]]]:
     """For each state the line of its equation, and the ranges of the noises that it names."""
     names, lines = plant.names(), [line for line in plant.text().splitlines() if line.startswith("next ")]
     return [
@@ -95,14 +104,14 @@ def equations_of(plant):
     ]
 
 
-def check_plant(path, other, plant):
+def check_plant(path: str, other: Plant, plant: Plant) -> None:
     """Raises Trouble where a plant text isn't that of a table."""
     check_variables(path, "plant text", other.states, other.inputs, plant)
     if other.text() != plant.text():
         raise Trouble(f"{path}: the table is of another plant: equations, noises, targets or obstacles differ")
 
 
-def check_units(path, data, plant):
+def check_units(path: str, data: bytes, plant: Plant) -> set[str]:
     """Raises Trouble where a file with units, a model or a plant text that tools/scale made of one, isn't that of a
     table's plant. Answers the names of the exact states."""
     if not is_plant_text(data):
@@ -117,7 +126,7 @@ def check_units(path, data, plant):
     return {name.decode() for name in EXACT.findall(data)}
 
 
-def check_variables_of(path, data, plant):
+def check_variables_of(path: str, data: bytes, plant: Plant) -> None:
     """Raises Trouble where the states and inputs of a model, or of a plant text that tools/scale made of one, aren't
     those of a table's plant."""
     if not is_plant_text(data):
@@ -134,15 +143,24 @@ def check_variables_of(path, data, plant):
         raise Trouble(f"{path}: the table is of another plant: equations or noises differ")
 
 
-def is_plant_text(data):
+def is_plant_text(data: bytes) -> bool:
     lines = [line.split() for line in data.decode("utf-8", "replace").lstrip("\ufeff").splitlines()]
     first = next((words for words in lines if words and not words[0].startswith("#")), [""])
     return first[0] in ("plant", "table")
 
 
-def check_variables(path, what, states, inputs, plant):
-    for kind, ours, theirs in (("states", states, plant.states), ("inputs", inputs, plant.inputs)):
-        if (names := [one[0] for one in ours]) != (others := [one[0] for one in theirs]):
+def check_variables(
+    path: str,
+    what: str,
+    states: Sequence[Union[State, RealState]],
+    inputs: Sequence[Union[Input, RealInput]],
+    plant: Plant,
+) -> None:
+    for kind, names, others in (
+        ("states", [state[0] for state in states], plant.state_names()),
+        ("inputs", [name for name, _ in inputs], plant.input_names()),
+    ):
+        if names != others:
             raise Trouble(
                 f"{path}: the {what} isn't the table's: its {kind} are {', '.join(names) or 'none'}, those of "
                 f"the table {', '.join(others) or 'none'}"
@@ -161,5 +179,5 @@ def check_variables(path, what, states, inputs, plant):
             )
 
 
-def words(values):
+def words(values: Sequence[object]) -> str:
     return " ".join(map(str, values[:12])) + " .." * (len(values) > 12)

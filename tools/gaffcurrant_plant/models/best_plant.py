@@ -1,9 +1,12 @@
 """Chooses the plant of a model: the order and the steps of its sampling, the form of its polynomials and the number of
 straight pieces, by the size of the boxes that come out."""
 
+from __future__ import annotations
+
 import math
 import random
 from fractions import Fraction
+from typing import Hashable, Iterable, Optional, Sequence
 
 from ..faults import Failure, Trouble
 from ..plants.expression import NODES
@@ -12,8 +15,8 @@ from .arithmetic import Floats, is_exact
 from .curves import intervals
 from .formula import is_smooth, value_of
 from .linear import Block
-from .model import at_line
-from .plant_text import Planting
+from .model import Model, at_line
+from .plant_text import Planting, Tried
 from .taylor_sampling import Flow, held_names
 
 # Straight pieces that are tried, most first: as many as a lut has, and as many as fit into an equation.
@@ -30,7 +33,7 @@ MOST_TRIALS = 10_000
 COARSE, FINE = (96, 12), (288, 64)
 
 
-def planted(model):
+def planted(model: Model) -> Planting:
     """The plant of a model whose boxes are the least beside the cells; raises Trouble with the model's line, where what
     is wrong belongs to one."""
     try:
@@ -50,7 +53,7 @@ def planted(model):
     return planting
 
 
-def needs_mpmath(model):
+def needs_mpmath(model: Model) -> bool:
     """Whether sampling or functions of a model need intervals."""
     if model.flows:
         return not Block(model).is_whole()
@@ -61,28 +64,30 @@ class Chooser:
     """Tries plantings of a model, and keeps the best one. tried: what was tried, in words, and the planting or what is
     wrong with it."""
 
-    def __init__(self, model):
-        self.model, self.best, self.tried = model, None, []
+    def __init__(self, model: Model) -> None:
+        self.model = model
+        self.best: Optional[Planting] = None
+        self.tried: list[Tried] = []
         self.block = Block(model) if model.flows else None
         self.trials = 0
         # Whether polynomials as they are, and those about the middles of the ranges, are tried.
         self.forms = [False, True]
 
-    def chosen(self):
+    def chosen(self) -> Planting:
         """The best planting, whose text tells what else was tried."""
-        if not self.model.flows or self.block.is_whole():
+        if self.block is None or self.block.is_whole():
             self.take("as the equations are", None)
         else:
             self.take_samplings()
         if not self.best:
-            raise self.tried[0][1]
+            raise self.first_fault()
         if self.best.flow and self.best.is_rest_wide() and self.trials <= MOST_TRIALS:
             self.sharpen()
         if self.model.flows or self.best.room.is_nested:
             self.best.tell(self.words_of_best(), [pair for pair in self.tried if pair[1] is not self.best])
         return self.best
 
-    def take_samplings(self):
+    def take_samplings(self) -> None:
         """Tries the orders and the steps that the model allows."""
         model = self.model
         is_free = not model.order and all(is_smooth(node, held_names(model)) for node in model.flows)
@@ -94,25 +99,33 @@ class Chooser:
             if not self.best or not self.best.is_rest_wide() or not self.take_finer(steps):
                 break
 
-    def words_of_best(self):
+    def first_fault(self) -> Failure:
+        """What is wrong with the first planting that was tried, where each has a fault."""
+        return next(one for _, one in self.tried if isinstance(one, Failure))
+
+    def words_of_best(self) -> str:
         return next(words for words, one in self.tried if one is self.best)
 
-    def take_finer(self, steps):
+    def take_finer(self, steps: int) -> bool:
         """Tries one step more, by the orders that may fit; whether the boxes become less by enough."""
         before = self.best
+        if before is None or before.flow is None:
+            return False
         orders = [before.flow.order - 1] * (before.flow.order > 1 and not self.model.order) + [before.flow.order]
         self.take_orders([order for order in orders if self.may_fit(order, steps)], steps, WORTH)
         return self.best is not before
 
-    def may_fit(self, order, steps):
+    def may_fit(self, order: int, steps: int) -> bool:
         """Whether an expression of so many steps may have few enough nodes, by what those of one step have: each names
         the ones before it."""
         plantings = [
-            one for _, one in self.tried if isinstance(one, Planting) and (one.flow.order, one.flow.count) == (order, 1)
+            one
+            for _, one in self.tried
+            if isinstance(one, Planting) and one.flow and (one.flow.order, one.flow.count) == (order, 1)
         ]
         return not plantings or min(one.nodes_in(steps) for one in plantings) <= 2 * NODES
 
-    def take_orders(self, orders, steps, worth=1):
+    def take_orders(self, orders: Iterable[int], steps: int, worth: Fraction = Fraction(1)) -> None:
         """Tries orders in so many steps; another planting is kept where its boxes are less than the best one's by a
         factor."""
         bound = box_size(self.best) * worth if self.best else None
@@ -129,7 +142,7 @@ class Chooser:
             if bound is None or rest_size(self.model, flow) < bound:
                 self.take(words, flow, bound)
 
-    def take(self, words, flow, bound=None):
+    def take(self, words: str, flow: Optional[Flow], bound: Optional[float] = None) -> None:
         """Tries one sampling, with polynomials as they are and, where there are products, about the middles of the
         ranges."""
         plain = self.tried_with(words, flow, False) if False in self.forms else None
@@ -146,7 +159,7 @@ class Chooser:
         ):
             self.best = found
 
-    def tried_with(self, words, flow, is_nested):
+    def tried_with(self, words: str, flow: Optional[Flow], is_nested: bool) -> Optional[Planting]:
         try:
             planting = with_pieces(self.model, flow, self.block, is_nested)
         except Failure as failure:
@@ -155,9 +168,11 @@ class Chooser:
         self.tried.append((words, planting))
         return planting
 
-    def sharpen(self):
+    def sharpen(self) -> None:
         """Makes the best planting once more, with what its formulas leave out looked at in more and smaller boxes."""
         best = self.best
+        if best is None or best.flow is None:
+            return
         try:
             sharper = with_pieces(
                 self.model,
@@ -172,15 +187,15 @@ class Chooser:
             self.tried = [(words, sharper if one is best else one) for words, one in self.tried]
 
 
-FLOWS = {}
+FLOWS: dict[tuple[Hashable, ...], Flow] = {}
 
 
-def flow_of(model, order, steps, block, boxes=COARSE):
+def flow_of(model: Model, order: int, steps: int, block: Optional[Block], boxes: tuple[int, int] = COARSE) -> Flow:
     """The Flow of a model by an order and in steps, which doesn't rest on its cells: the same one is made once."""
     key = (
         *(tuple(state[:3]) for state in model.states),
         *((name, tuple(values)) for name, _, values in model.inputs),
-        *map(tuple, model.noises),
+        *model.noises,
         *model.flows,
         model.sample,
         order,
@@ -192,12 +207,13 @@ def flow_of(model, order, steps, block, boxes=COARSE):
     return FLOWS[key]
 
 
-def rest_size(model, flow):
+def rest_size(model: Model, flow: Flow) -> Fraction:
     """The share of the cells that a Flow's formulas leave out: less than the boxes that come of it."""
-    return sum((high - low) / 2 / state[3] for (low, high), state in zip(flow.rests(flow.count), model.states))
+    shares = ((high - low) / 2 / state[3] for (low, high), state in zip(flow.rests(flow.count), model.states))
+    return sum(shares, Fraction(0))
 
 
-def box_size(planting):
+def box_size(planting: Planting) -> float:
     """The sum of the greatest deviations beside the widths of cells; of a state that comes round the noise's share of
     it."""
     if planting.size is None:
@@ -211,24 +227,25 @@ def box_size(planting):
     return planting.size
 
 
-def with_pieces(model, flow, block, is_nested):
-    """The plant with as many straight pieces as fit; raises a Failure."""
-    pieces = [model.pieces] if model.pieces else PIECES[model.version]
-    for number in pieces:
-        try:
-            return Planting(model, number, flow, block, is_nested)
-        except Trouble:
-            raise
-        except Failure as failure:
-            # The points of a lut are no nodes.
-            is_helped = (
-                failure.said().startswith("limit: plant text") or model.version == 1 and "nodes" in failure.said()
-            )
-            if number == pieces[-1] or not is_helped:
-                raise told(failure) from None
+def with_pieces(
+    model: Model, flow: Optional[Flow], block: Optional[Block], is_nested: bool, pieces: Sequence[int] = ()
+) -> Planting:
+    """The plant with as many straight pieces as fit, of these numbers or those that the model allows; raises a
+    Failure."""
+    number, *fewer = pieces or ([model.pieces] if model.pieces else PIECES[model.version])
+    try:
+        return Planting(model, number, flow, block, is_nested)
+    except Trouble:
+        raise
+    except Failure as failure:
+        # The points of a lut are no nodes.
+        is_helped = failure.said().startswith("limit: plant text") or model.version == 1 and "nodes" in failure.said()
+        if not fewer or not is_helped:
+            raise told(failure) from None
+    return with_pieces(model, flow, block, is_nested, fewer)
 
 
-def told(failure):
+def told(failure: Failure) -> Trouble:
     """The Trouble of a plant that would be refused, with the model's line."""
     reason = getattr(failure, "reason", failure.said())
     if failure.model_line:
@@ -239,7 +256,7 @@ def told(failure):
     return Trouble(f"the plant would be refused, {failure.said()}")
 
 
-def check_wraps(model):
+def check_wraps(model: Model) -> None:
     """Whether the equations are the same a turn on for each state that comes round and isn't exact, at some random
     points by floats."""
     draws = random.Random(1)
@@ -251,24 +268,22 @@ def check_wraps(model):
                 raise Trouble(f"`wrap {name}` needs a plant of version 2, whose boxes lie within the spans")
             ((low, high),) = [state[1:3] for state in model.states if state[0] == name]
             for _ in range(20):
-                values = {
-                    one: float(least + (most - least) * draws.random())
-                    for one, least, most, *_ in model.states + model.noises
-                }
+                ranges = [state[:3] for state in model.states] + model.noises
+                values = {one: float(least + (most - least) * draws.random()) for one, least, most in ranges}
                 values |= {one: float(draws.choice(choices)) for one, _, choices in model.inputs}
                 ends = [sides_at(model, values | {name: float(end)}) for end in (low, high)]
                 check_turn(model, name, float(high - low), *ends)
 
 
-def sides_at(model, values):
+def sides_at(model: Model, values: dict[str, float]) -> list[float]:
     """The right sides of all equations at a point, by floats."""
     return [
-        float(polynomial.value_of(side, values)) if isinstance(side, dict) else value_of(side, values, Floats)
+        float(polynomial.value_of(side, values) if isinstance(side, dict) else value_of(side, values, Floats()))
         for side in model.flows or model.equations
     ]
 
 
-def check_turn(model, name, turn, before, after):
+def check_turn(model: Model, name: str, turn: float, before: Sequence[float], after: Sequence[float]) -> None:
     """Whether right sides a turn apart are the same, but for a turn that a `next` line itself adds to the state."""
     for (state, *_), one, other in zip(model.states, before, after):
         difference = other - one

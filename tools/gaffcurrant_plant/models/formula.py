@@ -6,11 +6,14 @@ A node is a tuple whose first place is its kind: ('num', fraction), ('var', name
 slope ('slope', points), ('min', a, b), ('max', a, b), ('atan2', a, b), ('abs', a), ('sign', a). Nodes are made by
 `made`, each once, so that what stands more than once is worked out once."""
 
+from __future__ import annotations
+
 import re
 from fractions import Fraction
-from typing import Any
+from typing import Any, Callable, Iterable, Mapping, Optional, Sequence, Union
 
 from ..faults import Fault
+from .kinds import Function, Maths, Node, Polynomial, Value
 from .polynomial import added, multiplied, number_of
 
 TOKEN = re.compile(r"\s*([A-Za-z][A-Za-z0-9_]*|(?:[0-9]+\.?[0-9]*|\.[0-9]+)(?:[eE][+-]?[0-9]+)?|.)", re.DOTALL)
@@ -37,20 +40,20 @@ INSTEAD = {
 _MADE: dict[tuple[Any, ...], tuple[Any, ...]] = {}
 
 
-def made(kind, *parts):
+def made(kind: str, *parts: object) -> Node:
     """The node with this kind and these parts; equal nodes are one."""
     key = kind, *(id(part) if isinstance(part, tuple) and part[0] not in WITH_NUMBERS else part for part in parts)
     return _MADE.setdefault(key, (kind, *parts))
 
 
-def number(value):
+def number(value: Union[int, Fraction]) -> Node:
     return made("num", Fraction(value))
 
 
 ZERO, ONE = number(0), number(1)
 
 
-def add(a, b):
+def add(a: Node, b: Node) -> Node:
     if a == ZERO or b == ZERO:
         return b if a == ZERO else a
     if a[0] == b[0] == "num":
@@ -58,7 +61,7 @@ def add(a, b):
     return made("add", a, b)
 
 
-def mul(a, b):
+def mul(a: Node, b: Node) -> Node:
     if ZERO in (a, b):
         return ZERO
     if a == ONE or b == ONE:
@@ -68,11 +71,11 @@ def mul(a, b):
     return made("mul", a, b)
 
 
-def minus(a):
+def minus(a: Node) -> Node:
     return mul(number(-1), a)
 
 
-def power(a, exponent):
+def power(a: Node, exponent: Fraction) -> Node:
     """A power by a number: products for small whole exponents, else a function."""
     if exponent.denominator == 1 and 0 <= exponent <= MOST_POWER:
         result = ONE
@@ -85,19 +88,19 @@ def power(a, exponent):
 
 
 class _Reader:
-    def __init__(self, text, names, parameters):
+    def __init__(self, text: str, names: Sequence[str], parameters: Mapping[str, Fraction]) -> None:
         self.tokens = [token for token in TOKEN.findall(text.strip())]
         self.names, self.parameters, self.at, self.open = names, parameters, 0, 0
 
-    def peek(self):
+    def peek(self) -> Optional[str]:
         return self.tokens[self.at] if self.at < len(self.tokens) else None
 
-    def take(self):
+    def take(self) -> Optional[str]:
         token = self.peek()
         self.at += 1
         return token
 
-    def sum(self):
+    def sum(self) -> Node:
         total = self.product()
         while self.peek() in ("+", "-"):
             is_minus = self.take() == "-"
@@ -105,7 +108,7 @@ class _Reader:
             total = add(total, minus(other) if is_minus else other)
         return total
 
-    def product(self):
+    def product(self) -> Node:
         total = self.factor()
         while self.peek() in ("*", "/"):
             if self.take() == "*":
@@ -117,7 +120,7 @@ class _Reader:
                 total = mul(total, power(divisor, Fraction(-1)))
         return total
 
-    def factor(self):
+    def factor(self) -> Node:
         if self.peek() == "-":
             self.deeper()
             self.take()
@@ -133,9 +136,9 @@ class _Reader:
             raise Fault("the exponent behind `^` is a number, without variables")
         return power(base, exponent[1])
 
-    def unexpected(self):
+    def unexpected(self) -> str:
         """What to say of the token behind a whole expression."""
-        token, before = self.peek(), self.tokens[self.at - 1]
+        token, before = self.tokens[self.at], self.tokens[self.at - 1]
         if token[0].isalnum() or token == "(":
             return (
                 f"between `{before}` and `{token}` a sign is due, as in {before} * {token if token != '(' else '(..)'}"
@@ -144,12 +147,12 @@ class _Reader:
             return "`,` isn't expected; decimals stand behind a point, as in 0.5"
         return f"`{token}` isn't expected"
 
-    def deeper(self):
+    def deeper(self) -> None:
         self.open += 1
         if self.open > OPEN:
             raise Fault(f"more than {OPEN} brackets are open at once")
 
-    def leaf(self):
+    def leaf(self) -> Node:
         token = self.take()
         if token is None:
             raise Fault("the expression ends where a number, a name or a bracket is due")
@@ -176,13 +179,13 @@ class _Reader:
             )
         raise Fault(f"`{token}` is no variable of this model; they are {', '.join(self.names)}")
 
-    def called(self, name):
+    def called(self, name: str) -> Node:
         if self.take() != "(":
             raise Fault(f"behind `{name}` an opening bracket is due")
         parts = self.bracketed(OTHERS.get(name, 1), name)
         return made(name, *parts) if name in OTHERS else made("call", name, parts[0])
 
-    def lut(self):
+    def lut(self) -> Node:
         """Straight pieces between points: `lut(a, x0, y0, x1, y1, ..)`."""
         if self.take() != "(":
             raise Fault("behind `lut` an opening bracket is due")
@@ -199,7 +202,7 @@ class _Reader:
             raise Fault("the first numbers of the points of `lut` rise from point to point")
         return made("call", ("lut", points), argument)
 
-    def listed(self):
+    def listed(self) -> list[Node]:
         """The expressions up to a closing bracket."""
         self.deeper()
         parts = [self.sum()]
@@ -211,14 +214,14 @@ class _Reader:
         self.open -= 1
         return parts
 
-    def bracketed(self, count, opener):
+    def bracketed(self, count: int, opener: str) -> list[Node]:
         parts = self.listed()
         if len(parts) != count:
             raise Fault(f"`{opener}` takes {count}, here are {len(parts)}")
         return parts
 
 
-def parse(text, names, parameters=None):
+def parse(text: str, names: Sequence[str], parameters: Optional[Mapping[str, Fraction]] = None) -> Node:
     """The node that a text spells over the names, and over parameters, which are numbers; else raises Fault."""
     reader = _Reader(text.replace("**", "^"), names, parameters or {})
     if not reader.tokens:
@@ -231,12 +234,12 @@ def parse(text, names, parameters=None):
     return node
 
 
-def parts_of(node):
+def parts_of(node: Node) -> Sequence[Node]:
     """The nodes right below a node."""
     return {"num": (), "var": (), "call": node[2:]}.get(node[0], node[1:])
 
 
-def polynomial_of(node, other):
+def polynomial_of(node: Node, other: Callable[[Node], Polynomial]) -> Polynomial:
     """The node as a polynomial, where `other` gives that of a node which is no number, variable, sum or product."""
     kind = node[0]
     if kind == "num":
@@ -249,10 +252,10 @@ def polynomial_of(node, other):
     return other(node)
 
 
-_NAMES = {}
+_NAMES: dict[int, tuple[Node, frozenset[str]]] = {}
 
 
-def names_of(node):
+def names_of(node: Node) -> frozenset[str]:
     """The variables that a node names."""
     if id(node) not in _NAMES:
         # The node is kept beside its names, so that no other one gets its number.
@@ -261,14 +264,14 @@ def names_of(node):
     return _NAMES[id(node)][1]
 
 
-def is_smooth(node, held=()):
+def is_smooth(node: Node, held: Iterable[str] = ()) -> bool:
     """Whether it has no min, max, abs and lut but of variables that are held."""
     if node[0] in ("min", "max", "abs") or node[0] == "call" and node[1][0] == "lut":
         return names_of(node) <= set(held)
     return all(is_smooth(part, held) for part in parts_of(node))
 
 
-def replaced(node, nodes):
+def replaced(node: Node, nodes: Mapping[str, Node]) -> Node:
     """The node with others in the place of some variables."""
     if node[0] == "var":
         return nodes.get(node[1], node)
@@ -280,7 +283,7 @@ def replaced(node, nodes):
     return made(*node[: len(node) - len(parts)], *parts)
 
 
-def derivative(node, name):
+def derivative(node: Node, name: str) -> Node:
     """The derivative by a variable; that of abs, min and max has `sign` in it, anything from -1 to 1 where its argument
     may be 0."""
     kind = node[0]
@@ -303,15 +306,15 @@ def derivative(node, name):
     return mul(number(Fraction(1, 2)), add(add(left, right), turned if kind == "max" else minus(turned)))
 
 
-def outer_derivative(function, a):
+def outer_derivative(function: Function, a: Node) -> Node:
     """The derivative of a function at a node."""
-    if function[0] == "power":
-        return mul(number(function[1]), power(a, function[1] - 1))
     if not isinstance(function, str):
+        if function[0] == "power":
+            return mul(number(function[1]), power(a, function[1] - 1))
         # The slope stays as it is along each piece.
         return made("call", ("slope", function[1]), a) if function[0] == "lut" else ZERO
     square, itself = mul(a, a), made("call", function, a)
-    return {
+    derivatives: dict[str, Callable[[], Node]] = {
         "sin": lambda: made("call", "cos", a),
         "cos": lambda: minus(made("call", "sin", a)),
         "tan": lambda: add(ONE, mul(itself, itself)),
@@ -324,16 +327,17 @@ def outer_derivative(function, a):
         "exp": lambda: itself,
         "log": lambda: power(a, Fraction(-1)),
         "sqrt": lambda: mul(number(Fraction(1, 2)), power(a, Fraction(-1, 2))),
-    }[function]()
+    }
+    return derivatives[function]()
 
 
-def text_of(node):
+def text_of(node: Node) -> str:
     """A node as a model writes it, for messages."""
     kind = node[0]
     if kind == "num":
         return f"{float(node[1]):.6g}"
     if kind == "var":
-        return node[1]
+        return str(node[1])
     parts = [text_of(part) for part in parts_of(node)]
     if kind == "add":
         return f"{parts[0]} - {parts[1][1:]}" if parts[1].startswith("-") else f"{parts[0]} + {parts[1]}"
@@ -346,11 +350,13 @@ def text_of(node):
     return f"{node[1] if kind == 'call' else kind}({', '.join(parts)})"
 
 
-def factor_text(node):
+def factor_text(node: Node) -> str:
     return f"({text_of(node)})" if node[0] in ("add", "mul") else text_of(node)
 
 
-def value_of(node, values, maths, known=None):
+def value_of(
+    node: Node, values: Mapping[str, Value], maths: Maths[Value], known: Optional[dict[int, Value]] = None
+) -> Value:
     """The value where `values` has the variables' and `maths` the functions and the numbers: real numbers or intervals.
     `known` has the values that were found before by the same of both."""
     if node[0] == "num":
@@ -363,16 +369,20 @@ def value_of(node, values, maths, known=None):
     return known[id(node)]
 
 
-def worked_out(node, values, maths, known):
+def worked_out(node: Node, values: Mapping[str, Value], maths: Maths[Value], known: dict[int, Value]) -> Value:
     """The value of a node that is no number and no variable."""
     kind = node[0]
     if kind == "call":
         return maths.call(node[1], value_of(node[2], values, maths, known), node[2])
-    parts = [value_of(part, values, maths, known) for part in parts_of(node)]
+    # Each kind of value can be added and multiplied.
+    parts: list[Any] = [value_of(part, values, maths, known) for part in parts_of(node)]
+    value: Value
     if kind == "add":
-        return parts[0] + parts[1]
-    if kind == "mul":
-        return maths.square(parts[0]) if node[1] is node[2] else parts[0] * parts[1]
-    if kind == "atan2":
-        return maths.atan2(*parts, node)
-    return getattr(maths, {"min": "least", "max": "greatest", "abs": "size", "sign": "sign"}[kind])(*parts)
+        value = parts[0] + parts[1]
+    elif kind == "mul":
+        value = maths.square(parts[0]) if node[1] is node[2] else parts[0] * parts[1]
+    elif kind == "atan2":
+        value = maths.atan2(parts[0], parts[1], node)
+    else:
+        value = getattr(maths, {"min": "least", "max": "greatest", "abs": "size", "sign": "sign"}[kind])(*parts)
+    return value

@@ -1,15 +1,19 @@
 """Reads a model with real coefficients, for tools/scale, whose --help gives the lines of its text."""
 
+from __future__ import annotations
+
 import difflib
 import math
 import re
 from contextlib import contextmanager
 from fractions import Fraction
+from typing import Callable, ContextManager, Iterator, NoReturn, Optional, Sequence
 
 from ..faults import Failure, Fault, Trouble
 from ..plants.reader import MOST, NAME, NO_NAMES, VALUES
 from . import formula
 from .half_plane import HalfPlane
+from .kinds import ModelInput, ModelNoise, ModelState, Node, RealBox, Side, Word
 from .linear import add_linear_system
 from .polynomial import number_of
 
@@ -23,29 +27,58 @@ class Model:
     two ends for each state; exact: the states that are whole numbers of units by themselves; between: the word by which
     the ways between samples are to be looked at, or None, has_bounds whether they are to stay in the domain."""
 
-    def __init__(self):
-        self.denominator = self.sample = self.order = self.steps = self.pieces = None
+    def __init__(self) -> None:
+        self.denominator: Optional[int] = None
+        self.sample: Optional[Fraction] = None
+        self.order: Optional[int] = None
+        self.steps: Optional[int] = None
+        self.pieces: Optional[int] = None
         self.version = 2
-        self.states, self.inputs, self.noises = [], [], []
-        self.equations, self.flows, self.rows = [], [], {"A": [], "B": [], "c": [], "w": []}
-        self.boxes, self.half_planes, self.goal = [], [], None
-        self.between, self.has_bounds, self.exact = None, False, set()
+        self.states: list[ModelState] = []
+        self.inputs: list[ModelInput] = []
+        self.noises: list[ModelNoise] = []
+        self.equations: list[Side] = []
+        self.flows: list[Node] = []
+        self.rows: dict[str, list[list[Fraction]]] = {"A": [], "B": [], "c": [], "w": []}
+        self.boxes: list[tuple[str, RealBox]] = []
+        self.half_planes: list[tuple[int, HalfPlane]] = []
+        self.goal: Optional[str] = None
+        self.between: Optional[str] = None
+        self.has_bounds, self.exact = False, set[str]()
         # Units' words; numbers by name; the states that come round, with the line that says so.
-        self.words, self.parameters, self.wraps = {}, {}, {}
+        self.words: dict[str, str] = {}
+        self.parameters: dict[str, Fraction] = {}
+        self.wraps: dict[str, int] = {}
         # The line that is read, and those of the sampling time, the equations, the boxes and the variables.
         self.line, self.sample_line, self.order_line = 0, 0, 0
-        self.equation_lines, self.box_lines, self.variable_lines = [], [], {}
+        self.equation_lines: list[int] = []
+        self.box_lines: list[int] = []
+        self.variable_lines: dict[str, int] = {}
 
-    def names(self):
-        return [entry[0] for entry in self.states + self.inputs + self.noises]
+    def names(self) -> list[str]:
+        return self.state_names() + self.input_names() + self.noise_names()
 
-    def at_equation(self, i):
+    def state_names(self) -> list[str]:
+        return [state[0] for state in self.states]
+
+    def input_names(self) -> list[str]:
+        return [name for name, *_ in self.inputs]
+
+    def noise_names(self) -> list[str]:
+        return [name for name, *_ in self.noises]
+
+    @property
+    def time(self) -> Fraction:
+        """The sampling time; 1, a sample, without one."""
+        return self.sample or Fraction(1)
+
+    def at_equation(self, i: int) -> ContextManager[None]:
         """Says at which line of the model something is wrong with the equation of a state."""
         return at_line(self.equation_lines[i] if i < len(self.equation_lines) else None)
 
 
 @contextmanager
-def at_line(number):
+def at_line(number: Optional[int]) -> Iterator[None]:
     """Puts a line's number, where there is one, before what is wrong."""
     try:
         yield
@@ -58,7 +91,7 @@ def at_line(number):
         raise
 
 
-def read_model(data):
+def read_model(data: bytes) -> Model:
     """The model that a text spells; raises Trouble with the line."""
     model = Model()
     for number, line in enumerate(data.decode("utf-8", "replace").lstrip("\ufeff").splitlines(), 1):
@@ -79,7 +112,7 @@ def read_model(data):
     return model
 
 
-def check_equations(model):
+def check_equations(model: Model) -> None:
     """Whether the lines give one equation for each state, in one of the three forms."""
     if model.flows and (model.equations or model.rows["A"]):
         raise Trouble(
@@ -103,7 +136,7 @@ def check_equations(model):
         )
 
 
-def cover_half_planes(model):
+def cover_half_planes(model: Model) -> None:
     """Boxes for the half-planes, which share the obstacles that are left evenly."""
     left = MOST["obstacle"] - sum(keyword == "obstacle" for keyword, _ in model.boxes)
     for number, (line, half_plane) in enumerate(model.half_planes):
@@ -113,7 +146,7 @@ def cover_half_planes(model):
         model.box_lines += [line] * len(boxes)
 
 
-def half_plane_of(model, words):
+def half_plane_of(model: Model, words: Sequence[str]) -> HalfPlane:
     """The half-plane of an inequality `SUM < SUM` or `SUM > SUM`."""
     text = " ".join(words)
     sides = re.split("[<>]", text)
@@ -126,41 +159,43 @@ def half_plane_of(model, words):
     return HalfPlane(formula.polynomial_of(formula.add(left, formula.minus(right)), no_half_plane), model.states)
 
 
-def no_half_plane(node):
+def no_half_plane(node: Node) -> NoReturn:
     fail("the sides of an inequality are sums of states and numbers, each state times a number")
 
 
-def fail(said):
+def fail(said: str) -> NoReturn:
     raise Fault(said)
 
 
-def read_line(model, words):
+def read_line(model: Model, words: list[str]) -> None:
     keyword, rest = words[0], words[1:]
     if is_inequality(keyword, rest):
         model.half_planes.append((model.line, half_plane_of(model, rest)))
         return
-    if keyword in WITH_NUMBERS:
+    if keyword in NUMBER_READERS:
         named = 1 if keyword in ("state", "input", "noise") else 0
-        rest = rest[:named] + [model.parameters.get(word, negated(model, word)) for word in rest[named:]]
-    if keyword not in READERS or keyword == "end" and rest:
+        with_numbers = [model.parameters.get(word, negated(model, word)) for word in rest[named:]]
+        NUMBER_READERS[keyword](model, keyword, [*rest[:named], *with_numbers])
+    elif keyword not in READERS or keyword == "end" and rest:
         fail(no_line(words))
-    READERS[keyword](model, keyword, rest)
+    else:
+        READERS[keyword](model, keyword, rest)
 
 
-def read_denominator(model, keyword, rest):
+def read_denominator(model: Model, keyword: str, rest: list[Word]) -> None:
     value = numbers(rest, 1, keyword)[0]
     if value.denominator != 1 or value < 1:
         fail("the denominator is a whole number of at least 1")
     model.denominator = int(value)
 
 
-def read_sample(model, keyword, rest):
+def read_sample(model: Model, keyword: str, rest: list[Word]) -> None:
     model.sample, model.sample_line = numbers(rest, 1, keyword)[0], model.line
     if model.sample <= 0:
         fail("a sampling time is above 0")
 
 
-def read_unit(model, _, rest):
+def read_unit(model: Model, _: str, rest: list[str]) -> None:
     if len(rest) != 2 or rest[0] not in model.names() or not re.match(r"[^\s:]{1,16}\Z", rest[1]):
         fail(
             "`unit NAME WORD` has the name of a state or an input, and a word for its unit, of at most 16 characters "
@@ -169,7 +204,7 @@ def read_unit(model, _, rest):
     model.words[rest[0]] = rest[1]
 
 
-def read_row(model, keyword, rest):
+def read_row(model: Model, keyword: str, rest: list[Word]) -> None:
     """A row of the lines A, B, c and w."""
     size = {"A": len(model.states), "B": len(model.inputs), "c": 1, "w": 2}[keyword]
     row = numbers(rest, size, keyword)
@@ -180,20 +215,20 @@ def read_row(model, keyword, rest):
         model.equation_lines.append(model.line)
 
 
-def read_end(_model, _keyword, _rest):
+def read_end(_model: Model, _keyword: str, _rest: list[str]) -> None:
     """`end` stands for nothing."""
 
 
-def is_inequality(keyword, rest):
-    return keyword == "obstacle" and any(isinstance(word, str) and ("<" in word or ">" in word) for word in rest)
+def is_inequality(keyword: str, rest: Sequence[str]) -> bool:
+    return keyword == "obstacle" and any("<" in word or ">" in word for word in rest)
 
 
-def negated(model, word):
+def negated(model: Model, word: str) -> Word:
     """The number of a parameter behind a minus, or the word as it is."""
     return -model.parameters[word[1:]] if word[:1] == "-" and word[1:] in model.parameters else word
 
 
-def read_parameter(model, _, rest):
+def read_parameter(model: Model, _: str, rest: list[str]) -> None:
     """`param NAME VALUE`, a number by a formula of numbers and earlier parameters."""
     if len(rest) < 2:
         fail("`param NAME VALUE` has a name, and a number or a formula of numbers")
@@ -204,7 +239,7 @@ def read_parameter(model, _, rest):
     model.parameters[rest[0]] = node[1]
 
 
-def read_between(model, _, rest):
+def read_between(model: Model, _: str, rest: list[str]) -> None:
     """`between`, with the word that solves the plant, and `bounds`."""
     if rest not in ([], ["stay"], ["patrol"], ["bounds"], ["stay", "bounds"], ["patrol", "bounds"]):
         fail(
@@ -214,7 +249,7 @@ def read_between(model, _, rest):
     model.between, model.has_bounds = rest[0] if rest and rest[0] != "bounds" else "synth", rest[-1:] == ["bounds"]
 
 
-def read_mark(model, keyword, rest):
+def read_mark(model: Model, keyword: str, rest: list[str]) -> None:
     """`exact NAME`, of a state that is a whole number of units by itself; `wrap NAME`, of one that comes round: behind
     its range's end it is at the beginning."""
     if len(rest) != 1 or rest[0] not in [state[0] for state in model.states]:
@@ -225,7 +260,7 @@ def read_mark(model, keyword, rest):
         model.wraps[rest[0]] = model.line
 
 
-def no_line(words):
+def no_line(words: Sequence[str]) -> str:
     """What to say of a line that begins with none of the keywords."""
     keyword = words[0]
     if keyword == "plant":
@@ -239,30 +274,35 @@ def no_line(words):
     return f"`{' '.join(words[:2])[:60]}` begins no line of a model{meant or '; see --help'}"
 
 
-def read_equation(model, keyword, rest):
-    equations = model.equations if keyword == "next" else model.flows
+def read_equation(model: Model, keyword: str, rest: list[str]) -> None:
+    count = len(model.equations) + len(model.flows)
     if model.equations and keyword == "d" or model.flows and keyword == "next":
         fail("a model has `next` lines, `d` lines or a matrix A, and no two of them")
     if len(rest) < 2 or rest[1] != "=":
         fail(f"`{keyword} NAME = EXPRESSION` has the `=` as a word of its own")
-    if len(equations) >= len(model.states):
+    if count >= len(model.states):
         fail(f"each state has one equation, behind the `state` lines; `{keyword} {rest[0]}` is one too many")
-    due = model.states[len(equations)][0]
+    due = model.states[count][0]
     if rest[0] != due:
         fail(
             f"the equations stand in the order of the states, one for each; `{keyword} {due} = ..` is due here, "
             f"not `{keyword} {rest[0]}`"
         )
-    equations.append(formula.parse(" ".join(rest[2:]), model.names(), model.parameters))
+    node = formula.parse(" ".join(rest[2:]), model.names(), model.parameters)
+    if keyword == "next":
+        model.equations.append(node)
+    else:
+        model.flows.append(node)
     model.equation_lines.append(model.line)
 
 
-def read_box(model, keyword, rest):
+def read_box(model: Model, keyword: str, rest: list[Word]) -> None:
     names = [state[0] for state in model.states]
     if not names:
         fail(f"the `state` lines are due before `{keyword}`")
     form = f"{keyword} {' '.join(f'LO_{name} HI_{name}' for name in names)}"
-    box = list(zip(*[iter(numbers(with_any(model, form, rest), 2 * len(names), form))] * 2))
+    ends = numbers(with_any(model, form, rest), 2 * len(names), form)
+    box = list(zip(ends[::2], ends[1::2]))
     for name, (low, high) in zip(names, box):
         if low >= high:
             fail(f"the range of {name} is turned round or empty: LO, {said(low)}, has to be below HI, {said(high)}")
@@ -270,7 +310,7 @@ def read_box(model, keyword, rest):
     model.box_lines.append(model.line)
 
 
-def with_any(model, form, words):
+def with_any(model: Model, form: str, words: list[Word]) -> list[Word]:
     """The words of a box, with the ends of a state's range in the place of `*`."""
     if "*" not in words:
         return words
@@ -280,13 +320,14 @@ def with_any(model, form, words):
             f"the line is `{form}`, with `*` in the place of two numbers for any: {due} words are due, here are "
             f"{len(words)}"
         )
-    left, ends = list(words), []
+    left = list(words)
+    ends: list[Word] = []
     for _, low, high, *_ in model.states:
         ends += [left.pop(0), low, high][1:] if left[0] == "*" else [left.pop(0), left.pop(0)]
     return ends
 
 
-def read_goal(model, _, rest):
+def read_goal(model: Model, _: str, rest: list[str]) -> None:
     if rest not in (["reach"], ["keep"]):
         fail(
             "the goal is `goal reach` or `goal keep`"
@@ -307,8 +348,7 @@ def read_goal(model, _, rest):
 
 # The least and the greatest number behind a keyword.
 CHOICES = {"version": (1, 2), "order": (1, 4), "steps": (1, 8), "pieces": (2, 31)}
-# Keywords of lines in which parameters may stand for numbers.
-WITH_NUMBERS = ("denominator", "sample", "state", "input", "noise", "target", "obstacle", "A", "B", "c", "w")
+
 KEYWORDS = (
     "version",
     "param",
@@ -333,7 +373,7 @@ KEYWORDS = (
 MEANT = {"disturbance": "noise", "avoid": "obstacle"}
 
 
-def read_choice(model, keyword, rest):
+def read_choice(model: Model, keyword: str, rest: list[str]) -> None:
     low, high = CHOICES[keyword]
     value = numbers(rest, 1, keyword)[0]
     if value.denominator != 1 or not low <= value <= high:
@@ -343,7 +383,7 @@ def read_choice(model, keyword, rest):
         model.order_line = model.line
 
 
-def numbers(words, count, form):
+def numbers(words: Sequence[Word], count: Optional[int], form: str) -> list[Fraction]:
     """So many numbers, or any where count is None; form is the keyword before them, or how the line is written."""
     if count is not None and len(words) != count:
         fail(
@@ -354,23 +394,24 @@ def numbers(words, count, form):
     return [word if isinstance(word, Fraction) else number_of(word) for word in words]
 
 
-def read_variable(model, keyword, rest):
-    check_name(model, keyword, rest[0] if rest else None)
-    model.variable_lines[rest[0]] = model.line
-    {"state": read_state, "input": read_input, "noise": read_noise}[keyword](model, *rest)
+def read_variable(model: Model, keyword: str, rest: list[Word]) -> None:
+    name = str(rest[0]) if rest else ""
+    check_name(model, keyword, name)
+    model.variable_lines[name] = model.line
+    {"state": read_state, "input": read_input, "noise": read_noise}[keyword](model, name, *rest[1:])
 
 
-def read_state(model, name, *rest):
+def read_state(model: Model, name: str, *rest: Word) -> None:
     by_number = "cells" in rest[2:3]
     form = "state NAME LO HI WIDTH UNIT"
-    low, high, width, unit = cells_by_number(name, rest) if by_number else numbers(rest, 4, form)
+    low, high, width, unit = cells_by_number(rest) if by_number else numbers(rest, 4, form)
     if unit <= 0 or width <= 0 or low >= high:
         fail("a state has LO below HI, and a WIDTH and a UNIT above 0")
     check_widths(name, low, high, width, unit)
     model.states.append((name, low, high, width, unit))
 
 
-def read_input(model, name, *rest):
+def read_input(model: Model, name: str, *rest: Word) -> None:
     if len(rest) < 2:
         fail("`input NAME UNIT V1 .. Vm` has a unit and at least one value")
     unit, *values = numbers([rest[0], *(value for word in rest[1:] for value in listed(model, word))], None, "input")
@@ -386,16 +427,16 @@ def read_input(model, name, *rest):
     model.inputs.append((name, unit, values))
 
 
-def read_noise(model, name, *rest):
+def read_noise(model: Model, name: str, *rest: Word) -> None:
     low, high = numbers(rest, 2, "noise NAME LO HI")
     if low > high:
         fail("a noise has LO of at most HI")
     model.noises.append((name, low, high))
 
 
-def check_name(model, keyword, name):
+def check_name(model: Model, keyword: str, name: str) -> None:
     """Whether a name may stand behind a keyword, and is new."""
-    if name is None or not NAME.match(name) or name in NO_NAMES:
+    if not NAME.match(name) or name in NO_NAMES:
         fail(
             f"behind `{keyword}` a name is due: a letter, then letters, digits and `_`"
             + (f"; `{name[:60]}` is none" if name else "")
@@ -404,11 +445,11 @@ def check_name(model, keyword, name):
         fail(f"behind `{keyword}` a new name is due; `{name}` is taken by an earlier line")
 
 
-def listed(model, word):
+def listed(model: Model, word: Word) -> Sequence[Word]:
     """The values of a word of an `input` line: one number, or LO:STEP:HI."""
     if isinstance(word, Fraction) or ":" not in word:
         return [word]
-    ends = [model.parameters.get(part, negated(model, part)) for part in word.split(":")]
+    ends: list[Word] = [model.parameters.get(part, negated(model, part)) for part in word.split(":")]
     if len(ends) != 3:
         fail(f"`{word[:60]}` has the form LO:STEP:HI")
     low, step, high = numbers(ends, 3, "LO:STEP:HI")
@@ -423,7 +464,7 @@ def listed(model, word):
     return [low + k * step for k in range(min(int((high - low) / step) + 1, VALUES + 1))]
 
 
-def check_widths(name, low, high, width, unit):
+def check_widths(name: str, low: Fraction, high: Fraction, width: Fraction, unit: Fraction) -> None:
     """Whether cells of a width fill the range, and units a cell; says what would do."""
     for what, value in (("LO", low), ("WIDTH", width)):
         if value % unit:
@@ -442,13 +483,13 @@ def check_widths(name, low, high, width, unit):
         )
 
 
-def common_unit(values):
+def common_unit(values: Sequence[Fraction]) -> Fraction:
     """The greatest number of which all of these are multiples."""
     denominator = math.lcm(*(value.denominator for value in values))
     return Fraction(math.gcd(*(int(value * denominator) for value in values)), denominator)
 
 
-def cells_by_number(name, rest):
+def cells_by_number(rest: Sequence[Word]) -> tuple[Fraction, Fraction, Fraction, Fraction]:
     """Range, width and unit of a state by `LO HI cells N`, with a unit of which a cell has an odd number where that can
     be; or by `LO HI cells N UNIT`."""
     low, high = numbers(rest[:2], 2, "state NAME LO HI cells N")
@@ -462,7 +503,7 @@ def cells_by_number(name, rest):
     return low, high, width, width / (FINENESS * (low / width).denominator)
 
 
-def said(value):
+def said(value: Fraction) -> str:
     """A fraction as a decimal number, exactly where that is short."""
     if value.denominator == 1:
         return str(value.numerator)
@@ -473,19 +514,21 @@ def said(value):
         return "more than 10^300" if value > 0 else "less than -10^300"
 
 
-# By its keyword what reads the rest of a line.
-READERS = {
+# By its keyword what reads the rest of a line; and of a line in which parameters may stand for numbers.
+READERS: dict[str, Callable[[Model, str, list[str]], None]] = {
     "param": read_parameter,
-    "denominator": read_denominator,
-    "sample": read_sample,
     "unit": read_unit,
     "between": read_between,
     "goal": read_goal,
     "end": read_end,
     **dict.fromkeys(("exact", "wrap"), read_mark),
-    **dict.fromkeys(("state", "input", "noise"), read_variable),
     **dict.fromkeys(CHOICES, read_choice),
     **dict.fromkeys(("next", "d"), read_equation),
+}
+NUMBER_READERS: dict[str, Callable[[Model, str, list[Word]], None]] = {
+    "denominator": read_denominator,
+    "sample": read_sample,
+    **dict.fromkeys(("state", "input", "noise"), read_variable),
     **dict.fromkeys(("A", "B", "c", "w"), read_row),
     **dict.fromkeys(("target", "obstacle"), read_box),
 }

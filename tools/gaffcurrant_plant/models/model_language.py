@@ -3,6 +3,8 @@
 `tools/scale --help` ends with `help_text()`, and `tests/write/models_page` writes `page()` to docs/MODELS.md.
 """
 
+from __future__ import annotations
+
 import textwrap
 
 WIDTH = 120
@@ -134,7 +136,7 @@ An example is [rail.model](../examples/rail/rail.model):
 """
 
 
-def help_text():
+def help_text() -> str:
     """The end of `tools/scale --help`."""
     lines = (
         textwrap.fill(meaning, WIDTH, initial_indent=f"  {line:{COLUMN - 2}}", subsequent_indent=" " * COLUMN)
@@ -144,7 +146,7 @@ def help_text():
     return "\n\n".join([INTRODUCTION, "\n".join(lines), *sections]) + "\n"
 
 
-def page(example):
+def page(example: str) -> str:
     """docs/MODELS.md, with a model as the example."""
     rows = "\n".join(f"| `{line.replace('|', chr(92) + '|')}` | {meaning} |" for line, meaning in LINES.items())
     sections = "\n\n".join(f"## {title}\n\n{text}" for title, text in SECTIONS.items())

@@ -1,21 +1,30 @@
 """Makes the plant text of a model, with comments on its units and on what its noises bound."""
 
+from __future__ import annotations
+
 import math
 import re
 from fractions import Fraction
+from typing import Optional, Sequence, Tuple, Union
 
-from ..faults import Refused, Trouble
+from ..faults import Failure, Refused, Trouble
 from ..plants import expression
 from ..plants.bounds import span_of
+from ..plants.kinds import Node as PlantNode
+from ..plants.plant import Plant
 from ..plants.reader import read_plant
 from ..plants.units import decimal, exactly
-from .model import at_line, said
+from .kinds import Ends, ModelState, Node, Polynomial, RealBox, Side
+from .linear import Block
+from .model import Model, at_line, said
 from .nested_equation import Nested
 from .polynomial import added
 from .scaled_equation import NEVER, Scaled, Terms
-from .taylor_sampling import BESIDE
+from .taylor_sampling import BESIDE, Flow
 from .variables import MOST_PLACES, Room, Variable, finest
 
+# What was tried, in words, and the planting or what is wrong with it.
+Tried = Tuple[str, "Union[Planting, Failure]"]
 LIES = "a real value lies between its whole number and the next one"
 # Numbers of units up to which equations come.
 MOST = 10**16
@@ -28,10 +37,13 @@ class Planting:
     is known. flow: of differential equations; block: those of them that are linear; is_nested: whether polynomials are
     about the middles of the ranges."""
 
-    def __init__(self, model, pieces, flow, block, is_nested):
-        self.model, self.flow, self.block, self.size = model, flow, block, None
+    def __init__(
+        self, model: Model, pieces: int, flow: Optional[Flow], block: Optional[Block], is_nested: bool
+    ) -> None:
+        self.model, self.flow, self.block = model, flow, block
+        self.size: Optional[float] = None
         self.room = Room(model, pieces, is_nested)
-        equations = self.sampled() if flow else self.straight()
+        equations = self.sampled(flow) if flow else self.straight()
         for i, equation in enumerate(equations):
             self.check_size(i, equation)
         self.denominator = denominator_of(model, self.room, equations)
@@ -40,7 +52,7 @@ class Planting:
         self.text = self.plant_text()
         self.plant = self.read()
 
-    def check_size(self, i, equation):
+    def check_size(self, i: int, equation: Polynomial) -> None:
         """Raises Trouble where an equation comes to more units than a plant's numbers have."""
         name, *_, unit = self.model.states[i]
         low, high = self.room.range_of(equation)
@@ -53,24 +65,24 @@ class Planting:
                     "what stands in it, do it"
                 )
 
-    def scaled_of(self, state, equation):
+    def scaled_of(self, state: ModelState, equation: Polynomial) -> Scaled:
         """An equation in units, over the denominator that those without products have in common, or over one of its
         own."""
         if self.room.form_of(equation) is Scaled:
             return Scaled(Terms(self.room, equation, state[-1]), self.denominator, state[0])
         return finest(self.room, equation, state[-1], state[0])
 
-    def straight(self):
+    def straight(self) -> list[Polynomial]:
         """The equations of `next` lines, and of `d` lines that are all linear."""
-        model = self.model
-        if not model.flows:
+        model, block = self.model, self.block
+        if block is None:
             return [self.flattened(i, node) for i, node in enumerate(model.equations)]
         return [
-            self.step_of(i, self.block.node(state[0], model.sample), self.block.rest(state[0], model.sample))
+            self.step_of(i, block.node(state[0], model.time), block.rest(state[0], model.time))
             for i, state in enumerate(model.states)
         ]
 
-    def read(self):
+    def read(self) -> Plant:
         """The plant of the text; a refusal says to which line of the model it belongs, where it belongs to one."""
         try:
             return read_plant(self.text.encode())
@@ -78,7 +90,7 @@ class Planting:
             refusal.model_line = self.model_line(refusal)
             raise
 
-    def model_line(self, refusal):
+    def model_line(self, refusal: Refused) -> Optional[int]:
         """The line of the model to which a refusal belongs, or None."""
         overflow = re.match(r"overflow: equation (\d+) ", refusal.answer)
         lines = [line.split() for line in self.text.splitlines()[: refusal.line or 0]]
@@ -90,12 +102,12 @@ class Planting:
             return self.model.equation_lines[int(overflow.group(1)) if overflow else names.index(words[1])]
         return self.model.variable_lines.get(words[1]) if words[:1] in (["state"], ["input"]) else None
 
-    def flattened(self, i, node):
+    def flattened(self, i: int, node: Side) -> Polynomial:
         """A state's equation, or its step, as a polynomial."""
         with self.model.at_equation(i):
             return self.room.flattened(node)
 
-    def noise_of(self, i, state, equation):
+    def noise_of(self, i: int, state: ModelState, equation: Scaled) -> tuple[int, int]:
         """The ends of a state's noise; an exact state has none, and raises Trouble where its next value may lie beside
         a whole number of units."""
         if state[0] not in self.model.exact:
@@ -109,10 +121,10 @@ class Planting:
                 )
         return 0, 0
 
-    def sampled(self):
+    def sampled(self, flow: Flow) -> list[Polynomial]:
         """The equations of the last step of a sample, in which variables stand for the states behind the step before.
         Each has a noise for what its polynomial leaves out."""
-        flow, before = self.flow, {}
+        before: dict[str, Node] = {}
         for step, (_, ends) in enumerate(flow.course, 1):
             equations = [
                 self.step_of(i, *pair) for i, pair in enumerate(zip(flow.nodes(step, before), flow.rests(step)))
@@ -124,26 +136,27 @@ class Planting:
                 }
         return equations
 
-    def behind_step(self, i, step, equation, ends):
+    def behind_step(self, i: int, step: int, equation: Polynomial, ends: Ends) -> Node:
         """The formula of a state behind a step."""
         with self.model.at_equation(i):
             return self.room.behind_step(self.model.states[i], step, equation, ends)
 
-    def step_of(self, i, node, rest):
+    def step_of(self, i: int, node: Node, rest: Ends) -> Polynomial:
         """The polynomial of a state's step, with a noise for what it leaves out."""
         noise = f"@rest {self.model.states[i][0]}"
         self.room.variables[noise] = Variable("noise", Fraction(1), *rest)
         return added(self.flattened(i, node), {(noise,): Fraction(1)})
 
-    def is_rest_wide(self):
+    def is_rest_wide(self) -> bool:
         """Whether a polynomial leaves out much beside a cell."""
-        return any(
+        flow = self.flow
+        return flow is not None and any(
             high - low > WIDE * state[3]
-            for step in range(self.flow.count)
-            for state, (low, high) in zip(self.model.states, self.flow.rests(step + 1))
+            for step in range(flow.count)
+            for state, (low, high) in zip(self.model.states, flow.rests(step + 1))
         )
 
-    def nodes_in(self, steps):
+    def nodes_in(self, steps: int) -> int:
         """How many nodes the longest expression would have with so many steps, each like this one."""
         own = [sum(1 for _ in expression.walk(node)) for node in self.plant.equations]
         nodes = own
@@ -154,12 +167,12 @@ class Planting:
             ]
         return max(nodes)
 
-    def is_curved(self):
+    def is_curved(self) -> bool:
         """Whether polynomials may be about the middles of the ranges: where an equation has products of what varies,
         and the model gives no denominator."""
         return not self.model.denominator and self.room.has_products
 
-    def plant_text(self):
+    def plant_text(self) -> str:
         model = self.model
         taken = set(model.names())
         self.noise_names = names = [noise_name(state[0], taken) for state in model.states]
@@ -179,23 +192,21 @@ class Planting:
                 lines.append(box_text(model, keyword, box))
         return "\n".join(lines + [f"goal {model.goal}", "end", ""])
 
-    def sampling_said(self):
+    def sampling_said(self) -> list[str]:
         """The comments on how differential equations are sampled."""
         model, lines = self.model, []
         if self.flow:
             steps = f", in {self.flow.count} steps" if self.flow.count > 1 else ""
-            lines.append(
-                f"# sampled with {said(model.sample)} by a Taylor polynomial of order {self.flow.order}{steps}"
-            )
+            lines.append(f"# sampled with {said(model.time)} by a Taylor polynomial of order {self.flow.order}{steps}")
         linear = [state[0] for state in model.states if self.block and state[0] in self.block]
         if linear:
             lines.append(
-                f"# sampled with {said(model.sample)} exactly: the linear equation{'s' * (len(linear) > 1)} of "
+                f"# sampled with {said(model.time)} exactly: the linear equation{'s' * (len(linear) > 1)} of "
                 f"{', '.join(linear)}"
             )
         return lines
 
-    def denominators_said(self):
+    def denominators_said(self) -> list[str]:
         """The comments on the denominators of the equations."""
         nested = [
             f"{state[0]} over {equation.denominator}"
@@ -205,7 +216,7 @@ class Planting:
         lines = [f"# coefficients are whole numbers over {self.denominator}"] if len(nested) < len(self.scaled) else []
         return lines + [f"# polynomials about the middles of the ranges: {', '.join(nested)}"] * bool(nested)
 
-    def tell(self, chosen, tried):
+    def tell(self, chosen: str, tried: Sequence[Tried]) -> None:
         """Says in the text what was chosen, and what else was tried with which noise."""
         if not tried:
             return
@@ -219,13 +230,13 @@ class Planting:
         at = self.text.index("\nplant ")
         self.text = self.text[:at] + "".join(f"\n{line}" for line in lines) + self.text[at:]
 
-    def noise_said(self):
+    def noise_said(self) -> str:
         """The noise of each state, in units."""
         return "a noise of " + ", ".join(
             f"{low} to {high} for {state[0]}" for state, (low, high) in zip(self.model.states, self.ranges)
         )
 
-    def wrapped(self, state, text):
+    def wrapped(self, state: ModelState, text: str) -> str:
         """The expression of a state that comes round. Of an exact one it is by a quotient. Else it is `lut` with a
         saw's teeth, of which each is as long as the range and one unit wide where it falls: so a box that lies within a
         turn is moved as it is, and one across the range's end becomes the whole range."""
@@ -254,11 +265,11 @@ class Planting:
         ]
         return text if len(turns) == 1 else f"lut({text}, {', '.join(f'{x}:{y}' for x, y in points)})"
 
-    def parsed(self, name, text, names):
+    def parsed(self, name: str, text: str, names: Sequence[str]) -> PlantNode:
         with at_line(self.model.equation_lines[[state[0] for state in self.model.states].index(name)]):
             return expression.parse(text.split(), names, self.model.version)
 
-    def comments(self, names):
+    def comments(self, names: Sequence[str]) -> list[str]:
         model = self.model
         lines = ["# Made by tools/scale from a model with real coefficients."]
         lines += [
@@ -294,7 +305,7 @@ class Planting:
         return lines
 
 
-def reason_of(failure):
+def reason_of(failure: Failure) -> str:
     """Why something that was tried isn't, without the line."""
     return re.sub(
         r"^(line \d+: )?(the plant would be refused, )?(in what becomes of this line: )?",
@@ -303,7 +314,7 @@ def reason_of(failure):
     )[:160]
 
 
-def denominator_of(model, room, equations):
+def denominator_of(model: Model, room: Room, equations: Sequence[Polynomial]) -> int:
     """The model's denominator; else the least power of ten over which no rounding is more than a tenth of a unit, or
     that of the least rounding."""
     if model.denominator:
@@ -326,7 +337,7 @@ def denominator_of(model, room, equations):
     return best
 
 
-def noise_name(state, taken):
+def noise_name(state: str, taken: set[str]) -> str:
     name = f"r_{state}"[:32]
     while name in taken:
         name = "r" + name[:31]
@@ -334,7 +345,7 @@ def noise_name(state, taken):
     return name
 
 
-def box_text(model, keyword, box):
+def box_text(model: Model, keyword: str, box: RealBox) -> str:
     """A target holds the whole numbers whose unit lies in it, an obstacle those whose unit meets it."""
     words = [keyword]
     for (low, high), (name, least, most, _, unit) in zip(box, model.states):
@@ -356,11 +367,11 @@ def box_text(model, keyword, box):
     return " ".join(words)
 
 
-def about(value):
+def about(value: Union[int, Fraction]) -> str:
     """A number of any size in few digits."""
-    return f"{float(value):.3g}" if abs(value) < 10**300 else "more than 10^300"
+    return f"{float(value):.3g}" if -(10**300) < value < 10**300 else "more than 10^300"
 
 
-def unit_said(model, name, unit):
+def unit_said(model: Model, name: str, unit: Fraction) -> str:
     """The comment by which the other programs know a unit."""
     return f"# unit {name} {exactly(unit)}" + (f" {model.words[name]}" if name in model.words else "")

@@ -8,13 +8,22 @@ value problems for ordinary differential equations, 1999). A disturbance may var
 state is bounded by the linear system whose matrix bounds the derivatives of f (a growth bound, as in the method of the
 program)."""
 
+from __future__ import annotations
+
 import itertools
 import math
 from fractions import Fraction
+from typing import TYPE_CHECKING, Iterable, Iterator, Mapping, Optional, Sequence
 
 from ..faults import Trouble
 from .formula import add, derivative, is_smooth, mul, number, replaced, value_of
+from .kinds import Area, Ends, Interval, Node
 from .linear_sampling import SYSTEM, too_long
+
+if TYPE_CHECKING:
+    from .arithmetic import Intervals
+    from .linear import Block
+    from .model import Model
 
 # How far a measurement may be beside its real value, in units of the state, as by the rounding of doubles.
 BESIDE = Fraction(1, 1000)
@@ -33,10 +42,13 @@ class Flow:
     for each state that of a step, course for each step the ends of what these leave out, and of the states behind
     it."""
 
-    def __init__(self, model, maths, order, count, block, boxes):
+    def __init__(
+        self, model: Model, maths: Intervals, order: int, count: int, block: Optional[Block], boxes: tuple[int, int]
+    ) -> None:
         self.model, self.maths, self.order, self.count, self.block = model, maths, order, count, block
         # How often a box was tried, by which the cost is known.
-        self.time, self.found, self.trials = model.sample / count, {}, 0
+        self.time, self.trials = model.time / count, 0
+        self.found: dict[tuple[int, str], Node] = {}
         self.names = [state[0] for state in model.states]
         self.sides = model.flows
         middles = {name: number((low + high) / 2) for name, low, high in model.noises}
@@ -53,39 +65,42 @@ class Flow:
         self.slopes = [[derivative(node, name) for name in self.names] for node in self.polynomials]
         self.course = [tuple(map(self.hulls, zip(*step))) for step in zip(*map(self.course_from, self.areas(*boxes)))]
 
-    def nodes(self, step, before):
+    def nodes(self, step: int, before: Mapping[str, Node]) -> list[Node]:
         """The formulas of the states behind a step, where others stand for those behind the step before; of those of
         the block since the sample's beginning."""
         time = self.time * step
         return [
-            self.block.node(name, time) if name in self.block else replaced(node, before)
+            self.block.node(name, time) if self.block and name in self.block else replaced(node, before)
             for name, node in zip(self.names, self.polynomials)
         ]
 
-    def rests(self, step):
+    def rests(self, step: int) -> list[Ends]:
         """For each state the ends of what its formula behind a step leaves out."""
         rests, time = self.course[step - 1][0], self.time * step
-        return [self.block.rest(name, time) if name in self.block else rest for name, rest in zip(self.names, rests)]
+        return [
+            self.block.rest(name, time) if self.block and name in self.block else rest
+            for name, rest in zip(self.names, rests)
+        ]
 
-    def along(self, node):
+    def along(self, node: Node) -> Node:
         """The derivative of a node along the solutions."""
         total = number(0)
         for name, side in zip(self.names, self.held):
             total = add(total, mul(derivative(node, name), side))
         return total
 
-    def polynomial(self, i, name):
+    def polynomial(self, i: int, name: str) -> Node:
         """The Taylor polynomial of a state's step."""
-        total = ("var", name)
+        total: Node = ("var", name)
         for k in range(self.order):
             total = add(total, mul(number(self.time ** (k + 1) / math.factorial(k + 1)), self.derivatives[k][i]))
         return total
 
-    def hulls(self, found):
+    def hulls(self, found: Iterable[Sequence[Ends]]) -> list[Ends]:
         """For each state the least and the greatest of the ends that were found from all areas."""
         return [(min(low for low, _ in ends), max(high for _, high in ends)) for ends in zip(*found)]
 
-    def course_from(self, area):
+    def course_from(self, area: Area) -> list[tuple[list[Ends], list[Ends]]]:
         """For each step from an area, with its inputs and disturbances: the ends of what the polynomials leave out, and
         of the states behind it."""
         course = []
@@ -98,12 +113,14 @@ class Flow:
                 course[-1] = rests, [self.ends(name, area[name]) for name in self.names]
         return course
 
-    def narrowed(self, area, end, rests):
+    def narrowed(self, area: Area, end: Area, rests: Sequence[Ends]) -> Area:
         """The common part of a box of the states behind a step and of what the polynomials give from the area, by the
         mean value theorem: the value at the middle, and the derivatives times the way from it."""
         maths = self.maths
-        middle = {name: maths.number(sum(self.ends(name, area[name])) / 2) for name in self.names}
-        at_middle, narrow, known, middle_known = area | middle, dict(end), {}, {}
+        middle = {name: maths.number(sum(self.ends(name, area[name]), Fraction(0)) / 2) for name in self.names}
+        at_middle, narrow = area | middle, dict(end)
+        known: dict[int, Interval] = {}
+        middle_known: dict[int, Interval] = {}
         for polynomial, slopes, name, rest in zip(self.polynomials, self.slopes, self.names, rests):
             moved = self.value(name, polynomial, at_middle, middle_known) + maths.between(*rest)
             for other, slope in zip(self.names, slopes):
@@ -111,30 +128,30 @@ class Flow:
             narrow[name] = maths.common(end[name], moved)
         return narrow
 
-    def slope(self, side, name):
+    def slope(self, side: Node, name: str) -> Node:
         """The derivative of a side, found once."""
         if (id(side), name) not in self.found:
             self.found[id(side), name] = derivative(side, name)
         return self.found[id(side), name]
 
-    def value(self, name, node, area, known):
+    def value(self, name: str, node: Node, area: Area, known: dict[int, Interval]) -> Interval:
         """The value over an area of a node that a state's equation gave; known has those that were found before.
         Trouble names the equation's line."""
         with self.model.at_equation(self.names.index(name)):
             return value_of(node, area, self.maths, known)
 
-    def ends(self, name, interval):
+    def ends(self, name: str, interval: Interval) -> Ends:
         """The ends of an interval that a state's equation gave."""
         with self.model.at_equation(self.names.index(name)):
             return self.maths.ends(interval)
 
-    def bound(self, state, node, box, known, signed=False):
+    def bound(self, state: str, node: Node, box: Area, known: dict[int, Interval], signed: bool = False) -> Fraction:
         """The greatest absolute value of a node over a box; with `signed` the greatest value, or 0 where that is below
         it."""
         low, high = self.ends(state, self.value(state, node, box, known))
         return max(high, Fraction(0)) if signed else max(abs(low), abs(high))
 
-    def areas(self, most_boxes, most_vectors):
+    def areas(self, most_boxes: int, most_vectors: int) -> Iterator[Area]:
         """The domain in boxes, with each input vector, or with the inputs' ranges where these are too many."""
         maths, model = self.maths, self.model
         choices = [[(value, value) for value in values] for _, _, values in model.inputs]
@@ -153,7 +170,7 @@ class Flow:
                 area = {name: maths.between(*ends) for name, ends in zip(self.names, box)}
                 yield area | {name: maths.between(*ends) for (name, *_), ends in zip(model.inputs, vector)} | noises
 
-    def enclosure(self, area):
+    def enclosure(self, area: Area) -> tuple[Area, Area]:
         """A box that holds the solutions from an area up to the end of a step, and one that holds their ends, found in
         one part or in several."""
         for parts in PARTS:
@@ -165,15 +182,15 @@ class Flow:
                 fault = trouble
         raise fault
 
-    def enclosure_in(self, parts, area, time):
+    def enclosure_in(self, parts: int, area: Area, time: Fraction) -> tuple[Area, Area]:
         """The same up to a time, found in so many parts."""
-        box, end = None, area
-        for _ in range(parts):
+        box, end = self.short_enclosure(area, time / parts)
+        for _ in range(parts - 1):
             one, end = self.short_enclosure(end, time / parts)
-            box = one if box is None else {name: self.maths.hull(box[name], one[name]) for name in one}
+            box = {name: self.maths.hull(box[name], one[name]) for name in one}
         return box, end
 
-    def shorter(self, area):
+    def shorter(self, area: Area) -> Trouble:
         """The fault of a sampling time up to which no box was found from an area, with one for which there is a box."""
         said = ": no box was found that holds the solutions up to it"
         for halvings in range(1, HALVINGS):
@@ -184,12 +201,12 @@ class Flow:
                 continue
         return Trouble(f"line {self.model.sample_line}: the sampling time is too long{said}")
 
-    def short_enclosure(self, area, time):
+    def short_enclosure(self, area: Area, time: Fraction) -> tuple[Area, Area]:
         """A box that holds the solutions from an area up to a time, and one that holds their ends."""
         maths, box = self.maths, dict(area)
-        whole, end = maths.between(0, time), maths.number(time)
+        whole, end = maths.between(Fraction(0), time), maths.number(time)
         for _ in range(MOST_TRIALS):
-            known = {}
+            known: dict[int, Interval] = {}
             self.trials += 1
             slopes = {name: self.value(name, side, box, known) for name, side in zip(self.names, self.sides)}
             after = {name: area[name] + whole * slope for name, slope in slopes.items()}
@@ -199,9 +216,9 @@ class Flow:
                 box[name] = one + (one - area[name]) / 20 + maths.between(-TINY, TINY)
         raise NoBox("no box")
 
-    def rests_in(self, box):
+    def rests_in(self, box: Area) -> list[Ends]:
         """For each state the ends of what the polynomial of a step leaves out, where a box holds the solutions."""
-        known = {}
+        known: dict[int, Interval] = {}
         share = number(self.time ** (self.order + 1) / math.factorial(self.order + 1))
         rests = [
             self.ends(name, self.value(name, mul(share, node), box, known))
@@ -210,7 +227,7 @@ class Flow:
         moved = self.disturbed(box, known)
         return [(low - more, high + more) for (low, high), more in zip(rests, moved)]
 
-    def disturbed(self, box, known):
+    def disturbed(self, box: Area, known: dict[int, Interval]) -> list[Fraction]:
         """By how much disturbances move each state within a step. known has the values of nodes over the box."""
         size = len(self.names)
         pushes = [
@@ -229,23 +246,25 @@ class Flow:
             [self.bound(state, self.slope(side, name), box, known, signed=state == name) for name in self.names]
             for state, side in zip(self.names, self.sides)
         ]
-        norm = max(map(sum, matrix))
+        norm = max(sum(row, Fraction(0)) for row in matrix)
         if self.time * norm > FASTEST:
             raise too_long(self.model, self.time * norm / FASTEST, SYSTEM)
         power, total = [push * self.time for push in pushes], [Fraction(0)] * size
         for k in range(2, TERMS + 2 * math.ceil(self.time * norm)):
             total = [rounded_up(a + b) for a, b in zip(total, power)]
-            power = [rounded_up(sum(a * b for a, b in zip(row, power)) * self.time / k) for row in matrix]
+            power = [
+                rounded_up(sum((a * b for a, b in zip(row, power)), Fraction(0)) * self.time / k) for row in matrix
+            ]
         # The terms that are left are below a geometric series of a half; a state that no disturbance has reached by
         # now, none reaches.
         return [a + 2 * max(power) if a else a for a in total]
 
 
-def held_names(model):
+def held_names(model: Model) -> list[str]:
     """The variables that stay as they are within a sample: the inputs."""
     return [name for name, *_ in model.inputs]
 
 
-def rounded_up(value):
+def rounded_up(value: Fraction) -> Fraction:
     """A fraction of few digits that isn't less."""
     return Fraction(math.ceil(value * 10**24), 10**24)

@@ -2,15 +2,20 @@
 sums and products, else by floats, and of differential equations by fine steps of Runge and Kutta's method of order
 four."""
 
+from __future__ import annotations
+
 import importlib.util
 import math
 import random
 from fractions import Fraction
+from typing import Any, Callable, Iterator, Mapping, Protocol, Sequence
 
+from ..plants.plant import Plant
 from ..progress import Progress
-from . import formula
-from . import polynomial
+from . import formula, polynomial
 from .arithmetic import Exact, Floats, is_exact
+from .kinds import Maths, ModelState, Real, Value
+from .model import Model
 
 FINE, STEPS = 10**6, 24
 # What floats may be beside, in units.
@@ -21,21 +26,29 @@ HELD = 6
 BLOCK = 10_000
 
 
+class HeldMaths(Maths[Value], Protocol[Value]):
+    """What `value_of` asks for, and `held`: a value that changes, where there is a new one."""
+
+    def held(self, old: Value, new: Value, /) -> Value:
+        ...
+
+
 class Seen:
     """The least and the greatest difference of the real step, in units, from the plant's without noise, and so of its
     whole number."""
 
-    def __init__(self):
-        self.least = self.greatest = None
-        self.low = self.high = None
+    def __init__(self) -> None:
+        self.least: Real = math.inf
+        self.greatest: Real = -math.inf
+        # The same as whole numbers, rounded down; 0 before anything was seen.
+        self.low = self.high = 0
 
-    def take(self, differences):
+    def take(self, differences: Sequence[Real]) -> None:
         ends = min(differences), max(differences)
-        self.least = ends[0] if self.least is None else min(self.least, ends[0])
-        self.greatest = ends[1] if self.greatest is None else max(self.greatest, ends[1])
+        self.least, self.greatest = min(self.least, ends[0]), max(self.greatest, ends[1])
         self.low, self.high = math.floor(self.least), math.floor(self.greatest)
 
-    def lies_in(self, low, high):
+    def lies_in(self, low: int, high: int) -> bool:
         """Whether each whole number lay within the ends of the noise."""
         near = 0 if isinstance(self.least, Fraction) and isinstance(self.greatest, Fraction) else NEAR
         return self.least >= low - near and self.greatest < high + 1 + near
@@ -44,8 +57,9 @@ class Seen:
 class Point:
     """A random state, whole and real, inputs and disturbances."""
 
-    def __init__(self, model, draws):
-        self.whole, self.values = [], {}
+    def __init__(self, model: Model, draws: random.Random) -> None:
+        self.whole: list[int] = []
+        self.values: dict[str, Fraction] = {}
         for name, low, high, _, unit in model.states:
             steps = int((high - low) / unit)
             at = low / unit + draws.choice([0, steps - 1, draws.randrange(steps), draws.randrange(steps)])
@@ -53,26 +67,26 @@ class Point:
             # A measurement may be a rounding beside.
             share = 0 if name in model.exact else draws.choice([-1, FINE, draws.randrange(FINE)])
             self.values[name] = (at + Fraction(share, FINE)) * unit
-        self.inputs = []
+        self.inputs: list[int] = []
         for name, unit, values in model.inputs:
             self.values[name] = draws.choice(values)
             self.inputs.append(int(self.values[name] / unit))
         self.values |= self.noises(model, draws)
         # What the disturbances become on the way; where they stay as they are, nothing.
-        self.changes = (
+        self.changes: list[dict[str, Fraction]] = (
             [self.noises(model, draws) if model.noises and draws.random() < 0.5 else {} for _ in range(0, STEPS, HELD)]
             if model.flows
             else []
         )
 
-    def noises(self, model, draws):
+    def noises(self, model: Model, draws: random.Random) -> dict[str, Fraction]:
         return {
             name: low + (high - low) * Fraction(draws.choice([0, FINE, draws.randrange(FINE)]), FINE)
             for name, low, high in model.noises
         }
 
 
-def trial(model, plant, count, seed=1):
+def trial(model: Model, plant: Plant, count: int, seed: int = 1) -> list[Seen]:
     """What was seen of each state at so many random points."""
     draws, seen, progress = random.Random(seed), [Seen() for _ in model.states], Progress("scale")
     for begin in range(0, count, BLOCK):
@@ -80,42 +94,41 @@ def trial(model, plant, count, seed=1):
         progress.show(begin / count)
         after = steps_of(plant, points)
         for one, real, whole, state in zip(seen, real_steps(model, points), after, model.states):
-            unit = state[-1] if isinstance(real[0], Fraction) else float(state[-1])
+            unit: Real = state[4] if isinstance(real[0], Fraction) else float(state[4])
             differences = [value / unit - number for value, number in zip(real, whole)]
             one.take([around(each, model, state) for each in differences] if state[0] in model.wraps else differences)
     progress.end()
     return seen
 
 
-def around(difference, model, state):
+def around(difference: Real, model: Model, state: ModelState) -> Real:
     """A difference of a state that comes round, the short way."""
-    turn = (state[2] - state[1]) / state[4]
-    turn = turn if isinstance(difference, Fraction) else float(turn)
+    whole = (state[2] - state[1]) / state[4]
+    turn: Real = whole if isinstance(difference, Fraction) else float(whole)
     return (difference + turn / 2) % turn - turn / 2
 
 
-def steps_of(plant, points):
+def steps_of(plant: Plant, points: Sequence[Point]) -> list[Sequence[int]]:
     """For each state the plant's steps without noise."""
     still = [0] * len(plant.noises)
     return list(zip(*(plant.step(point.whole, point.inputs, still) for point in points)))
 
 
-def real_steps(model, points):
+def real_steps(model: Model, points: Sequence[Point]) -> list[Sequence[Real]]:
     """For each state the real steps: by numpy for all points at once where floats are needed and it is there."""
     if not model.flows and all(isinstance(equation, dict) or is_exact(equation) for equation in model.equations):
         return list(zip(*(exact_step(model, point) for point in points)))
-    step = flow_step if model.flows else float_step
     if importlib.util.find_spec("numpy"):
-        return steps_at_once(model, points, step)
+        return steps_at_once(model, points)
     floats = ((as_floats(point.values), list(map(as_floats, point.changes))) for point in points)
-    return list(zip(*(step(model, *values, Floats) for values in floats)))
+    return list(zip(*(step_of(model, values, changes, Floats()) for values, changes in floats)))
 
 
-def as_floats(values):
+def as_floats(values: Mapping[str, Fraction]) -> dict[str, float]:
     return {name: float(value) for name, value in values.items()}
 
 
-def steps_at_once(model, points, step):
+def steps_at_once(model: Model, points: Sequence[Point]) -> list[Sequence[Real]]:
     """For each state the real steps from all points, by numpy."""
     from ..ways.doubles import Arrays, numpy
 
@@ -126,42 +139,50 @@ def steps_at_once(model, points, step):
         {name: numpy.array([float(change[name]) for change in of_points]) for name in names} for of_points in kinds
     ]
     with numpy.errstate(all="ignore"):
-        return [numpy.broadcast_to(real, len(points)).tolist() for real in step(model, values, changes, Arrays())]
+        return [numpy.broadcast_to(real, len(points)).tolist() for real in step_of(model, values, changes, Arrays())]
 
 
-def exact_step(model, point):
+def exact_step(model: Model, point: Point) -> Iterator[Real]:
     """The real next values of equations that are polynomials, or have min, max and abs beside, as fractions."""
     for equation in model.equations:
         yield polynomial.value_of(equation, point.values) if isinstance(equation, dict) else formula.value_of(
-            equation, point.values, Exact
+            equation, point.values, Exact()
         )
 
 
-def float_step(model, values, _, maths):
-    """The real next values by the equations."""
-    return [formula.value_of(equation, values, maths) for equation in model.equations]
+def step_of(
+    model: Model, values: Mapping[str, Value], changes: Sequence[Mapping[str, Value]], maths: HeldMaths[Value]
+) -> list[Value]:
+    """The real next values of equations that are formulas."""
+    if model.flows:
+        return flow_step(model, values, changes, maths)
+    return [formula.value_of(equation, values, maths) for equation in model.equations if isinstance(equation, tuple)]
 
 
-def flow_step(model, values, changes, maths):
+def flow_step(
+    model: Model, values: Mapping[str, Value], changes: Sequence[Mapping[str, Value]], maths: HeldMaths[Value]
+) -> list[Value]:
     """The real state after a sample, under a disturbance that changes a few times on the way."""
     names = [state[0] for state in model.states]
-    values = dict(values)
-    state, step = [values[name] for name in names], float(model.sample) / STEPS
+    now = dict(values)
+    state, step = [now[name] for name in names], float(model.time) / STEPS
 
-    def slope(at):
-        values.update(zip(names, at))
-        return [formula.value_of(side, values, maths) for side in model.flows]
+    def slope(at: Sequence[Value]) -> list[Value]:
+        now.update(zip(names, at))
+        return [formula.value_of(side, now, maths) for side in model.flows]
 
     for k in range(STEPS):
         if k % HELD == 0:
-            values.update({name: maths.held(values[name], new) for name, new in changes[k // HELD].items()})
+            now.update({name: maths.held(now[name], new) for name, new in changes[k // HELD].items()})
         state = runge_kutta(slope, state, step)
     return state
 
 
-def runge_kutta(slope, state, step):
-    one = slope(state)
-    two = slope([x + step / 2 * k for x, k in zip(state, one)])
-    three = slope([x + step / 2 * k for x, k in zip(state, two)])
-    four = slope([x + step * k for x, k in zip(state, three)])
-    return [x + step / 6 * (a + 2 * b + 2 * c + d) for x, a, b, c, d in zip(state, one, two, three, four)]
+def runge_kutta(slope: Callable[[Sequence[Value]], list[Value]], state: Sequence[Value], step: float) -> list[Value]:
+    # Each kind of value can be added and multiplied.
+    at: Sequence[Any] = state
+    one: Sequence[Any] = slope(state)
+    two: Sequence[Any] = slope([x + step / 2 * k for x, k in zip(at, one)])
+    three: Sequence[Any] = slope([x + step / 2 * k for x, k in zip(at, two)])
+    four: Sequence[Any] = slope([x + step * k for x, k in zip(at, three)])
+    return [x + step / 6 * (a + 2 * b + 2 * c + d) for x, a, b, c, d in zip(at, one, two, three, four)]

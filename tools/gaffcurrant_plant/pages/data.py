@@ -1,16 +1,26 @@
 """What a page gets of a plant, as trees and numbers, and of a model: its units and its differential equations."""
 
+from __future__ import annotations
+
 from fractions import Fraction
+from typing import Any, Callable, Dict, List, Optional, Sequence, Union
 
 from ..faults import Refused, Trouble
 from ..models import formula
 from ..models.agreement import check_steps
-from ..models.model import read_model
+from ..models.kinds import Node as RealNode
+from ..models.model import Model, read_model
 from ..plants.bounds import deviation_of_parts, span_of_parts
 from ..plants.expression import parts_of
+from ..plants.kinds import Area, Bounds, Box, Node
+from ..plants.plant import Plant
 from ..plants.reader import lines_of, read_lines
 from ..plants.units import decimal, read_units
 
+# What JSON has; and what a plant's whole numbers are in it.
+Json = Union[None, bool, int, float, str, List[Any], Dict[str, Any]]
+Data = Dict[str, Json]
+Number = Callable[[int], Json]
 # Doubles count whole numbers up to here.
 EXACT = 2**53
 
@@ -18,7 +28,7 @@ EXACT = 2**53
 # Plants
 
 
-def plant_data(plant):
+def plant_data(plant: Plant) -> Data:
     """A plant for the page. Its numbers are strings where doubles can't count all that steps and bounds come to."""
     number = str if widest(plant) >= EXACT else int
     return {
@@ -34,13 +44,13 @@ def plant_data(plant):
     }
 
 
-def box_data(plant, box, number):
+def box_data(plant: Plant, box: Box, number: Number) -> list[Json]:
     """The ends of a box, cut off a cell outside of the domain."""
     near = [(low - width, high + width) for _, low, high, width in plant.states]
     return [[number(min(max(end, low), high)) for end in ends] for ends, (low, high) in zip(box, near)]
 
 
-def tree(node, number):
+def tree(node: Node, number: Number) -> list[Json]:
     """A node as lists, with its numbers as the page reads them."""
     kind = node[0]
     if kind == "num":
@@ -54,7 +64,7 @@ def tree(node, number):
     return [kind, *(tree(part, number) for part in node[1:])]
 
 
-def widest(plant):
+def widest(plant: Plant) -> int:
     """At least the size of each number that steps from the domain and bounds of successors come to, for any input."""
     ends = [state[1:3] for state in plant.states], [noise[1:] for noise in plant.noises]
     values = [(min(values), max(values)) for _, values in plant.inputs]
@@ -68,9 +78,10 @@ def widest(plant):
     return max(seen)
 
 
-def sized(node, area, radii, seen):
+def sized(node: Node, area: Area, radii: Sequence[int], seen: list[int]) -> Bounds:
     """The span's ends and the deviation of a node; seen gets what its value and its bounds are worked out by."""
     kind = node[0]
+    bounds: Bounds
     if kind == "num":
         bounds = node[1], node[1], 0
     elif kind == "var":
@@ -79,14 +90,14 @@ def sized(node, area, radii, seen):
         parts = [sized(part, area, radii, seen) for part in parts_of(node)]
         bounds = *span_of_parts(node, [part[:2] for part in parts]), deviation_of_parts(node, parts)
         if kind == "div":
-            seen.append(max(map(abs, parts[0])) + node[2])
+            seen.append(max(abs(one) for one in parts[0]) + node[2])
         if kind == "lut":
             seen += [piece_size(*piece, parts[0][2]) for piece in zip(node[2], node[2][1:])]
     seen += map(abs, bounds)
     return bounds
 
 
-def piece_size(point, next_point, moves):
+def piece_size(point: tuple[int, int], next_point: tuple[int, int], moves: int) -> int:
     """At least the size of what a piece of a `lut` is worked out by."""
     (x, y), (next_x, next_y) = point, next_point
     return abs(next_y - y) * max(next_x - x, moves) + max(abs(y), abs(next_y)) + next_x - x
@@ -95,7 +106,7 @@ def piece_size(point, next_point, moves):
 # Models
 
 
-def model_data(path, data, plant):
+def model_data(path: str, data: bytes, plant: Plant) -> Data:
     """The units of a model or of a plant text with comments, and a model's differential equations; raises Trouble where
     it isn't of the plant."""
     units, flow = read_units(path, data), None
@@ -110,12 +121,12 @@ def model_data(path, data, plant):
     return {"units": {"sizes": sizes, "words": units.words, "exact": sorted(units.exact)}, "flow": flow}
 
 
-def first_word(data):
+def first_word(data: bytes) -> str:
     lines = [line.split() for line in data.decode("utf-8", "replace").lstrip("\ufeff").splitlines()]
     return next((words[0] for words in lines if words and not words[0].startswith("#")), "")
 
 
-def check_plant(path, data, plant):
+def check_plant(path: str, data: bytes, plant: Plant) -> None:
     try:
         states = read_lines(lines_of(data)).states
     except Refused as refusal:
@@ -124,23 +135,26 @@ def check_plant(path, data, plant):
         raise Trouble(f"{path}: its `state` lines aren't those of the text")
 
 
-def check_model(path, model, plant):
+def check_model(path: str, model: Model, plant: Plant) -> None:
     """Whether the model has the text's states and inputs, in its units."""
-    for what, of_model, of_plant in (("states", model.states, plant.states), ("inputs", model.inputs, plant.inputs)):
-        names, wanted = (", ".join(entry[0] for entry in some) or "none" for some in (of_model, of_plant))
+    for what, of_model, of_plant in (
+        ("states", model.state_names(), plant.state_names()),
+        ("inputs", model.input_names(), plant.input_names()),
+    ):
+        names, wanted = (", ".join(some) or "none" for some in (of_model, of_plant))
         if names != wanted:
             raise Trouble(f"{path}: the model's {what} are {names}, those of the text {wanted}")
-    for (name, low, high, width, unit), state in zip(model.states, plant.states):
-        found = (low / unit, high / unit - 1, width / unit)
-        if found != state[1:]:
-            said = " ".join(map(decimal, found)), " ".join(map(str, state[1:]))
-            raise Trouble(f"{path}: by the model {name} has LO HI WIDTH {said[0]} in its units, by the text {said[1]}")
-    for (name, unit, values), (_, wanted) in zip(model.inputs, plant.inputs):
-        if [value / unit for value in values] != wanted:
+    for (name, low, high, width, unit), (_, *numbers) in zip(model.states, plant.states):
+        found = [low / unit, high / unit - 1, width / unit]
+        if found != numbers:
+            ours, theirs = " ".join(map(decimal, found)), " ".join(map(str, numbers))
+            raise Trouble(f"{path}: by the model {name} has LO HI WIDTH {ours} in its units, by the text {theirs}")
+    for (name, unit, values), (_, whole) in zip(model.inputs, plant.inputs):
+        if any(value != number * unit for value, number in zip(values, whole)) or len(values) != len(whole):
             raise Trouble(f"{path}: the values of {name} aren't those of the text")
 
 
-def flow_data(model):
+def flow_data(model: Model) -> Optional[Data]:
     """The right sides of a model's differential equations as trees of doubles, and its sampling time; None where it has
     none."""
     sides = model.flows or (linear_sides(model) if model.rows["A"] and model.sample else None)
@@ -148,26 +162,26 @@ def flow_data(model):
         return None
     names = model.names()
     return {
-        "time": float(model.sample),
+        "time": float(model.time),
         "sides": [real_tree(side, names) for side in sides],
         "noises": [float((low + high) / 2) for _, low, high in model.noises],
     }
 
 
-def linear_sides(model):
+def linear_sides(model: Model) -> list[RealNode]:
     """The sides A x + B u + c of a linear model, as formulas."""
     of_inputs = model.rows["B"] or [[]] * len(model.states)
     constants = model.rows["c"] or [[Fraction(0)]] * len(model.states)
-    sides = []
-    for of_state, of_input, (side,) in zip(model.rows["A"], of_inputs, constants):
-        side = formula.number(side)
-        for (name, *_), factor in zip(model.states + model.inputs, of_state + of_input):
+    names, sides = model.state_names() + model.input_names(), []
+    for of_state, of_input, (constant,) in zip(model.rows["A"], of_inputs, constants):
+        side = formula.number(constant)
+        for name, factor in zip(names, of_state + of_input):
             side = formula.add(side, formula.mul(formula.number(factor), ("var", name)))
         sides.append(side)
     return sides
 
 
-def real_tree(node, names):
+def real_tree(node: RealNode, names: Sequence[str]) -> list[Json]:
     """A formula as lists: numbers as doubles, variables by their numbers, a function and a power before their part."""
     kind = node[0]
     if kind == "num":
@@ -177,6 +191,6 @@ def real_tree(node, names):
     if kind == "call" and node[1][0] == "lut":
         return ["lut", real_tree(node[2], names), *(float(end) for point in node[1][1] for end in point)]
     if kind == "call":
-        function = ["call", node[1]] if isinstance(node[1], str) else ["power", float(node[1][1])]
-        return [*function, real_tree(node[2], names)]
+        part = real_tree(node[2], names)
+        return ["call", node[1], part] if isinstance(node[1], str) else ["power", float(node[1][1]), part]
     return [kind, *(real_tree(part, names) for part in node[1:])]

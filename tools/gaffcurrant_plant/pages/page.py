@@ -1,6 +1,8 @@
 """Puts a page together that shows texts: their rows as packed runs, with what page_data makes of their plants and their
 model, and the page's own files, which stand in parts/."""
 
+from __future__ import annotations
+
 import base64
 import html
 import json
@@ -11,10 +13,12 @@ from array import array
 from itertools import islice
 from operator import eq, le, lt, sub
 from pathlib import Path
+from typing import Optional, Sequence
 
 from ..faults import Trouble
-from ..texts.rows import VERSIONS, Lines, front_of
-from .data import plant_data
+from ..plants.kinds import Cell
+from ..texts.rows import VERSIONS, Front, Lines, front_of
+from .data import Data, plant_data
 
 FILES = Path(__file__).resolve().parent / "parts"
 # In this order: a script names what stands in those before it.
@@ -50,7 +54,7 @@ ROWS = re.compile(rf"(?:{CELL} {CELL} {WORD} {WORD}(?:\n|\Z))*\Z")
 class Text:
     """A text to be shown: its front, and for each turn its packed runs. Raises Refused and Trouble."""
 
-    def __init__(self, name, data):
+    def __init__(self, name: str, data: bytes) -> None:
         self.name, self.front = name, front_of(data, tuple(VERSIONS))
         lines, self.plant = Lines(data, self.front), self.front.plant
         self.turns = []
@@ -60,25 +64,25 @@ class Text:
         if not self.turns:
             raise Trouble(f"{name}: the patrol has no target, so there is nothing to show")
 
-    def headings(self):
+    def headings(self) -> list[str]:
         """What stands before the number of row lines, of a patrol of each turn."""
         if self.front.kind != "patrol":
             return ["rows "]
         return [f"turn {number} rows " for number in range(len(self.plant.targets))]
 
-    def data(self):
+    def data(self) -> Data:
         """What the page gets of the text."""
         return {"name": self.name, "kind": self.front.kind, "plant": plant_data(self.plant), "turns": self.turns}
 
 
-def columns_by_line(lines, before):
+def columns_by_line(lines: Lines, before: str) -> list[list[int]]:
     """First and last cells, ranks and inputs of the runs behind a line, -1 for `-`; raises Refused with the first line
     that is wrong."""
     runs = [[-1 if word is None else word for word in run] for run in lines.runs(before)]
     return [list(column) for column in zip(*runs)] or [[], [], [], []]
 
 
-def columns_at_once(lines, before):
+def columns_at_once(lines: Lines, before: str) -> Optional[list[list[int]]]:
     """The same many times as fast; None, and no line taken, where a line is or may be wrong."""
     front, at = lines.front, lines.at
     if not front.in_runs():
@@ -95,7 +99,9 @@ def columns_at_once(lines, before):
     return None
 
 
-def are_runs(front, firsts, lasts, ranks, inputs):
+def are_runs(
+    front: Front, firsts: Sequence[Cell], lasts: Sequence[Cell], ranks: Sequence[int], inputs: Sequence[int]
+) -> bool:
     """Whether cells rise below their number, and no run goes on the one before."""
     if firsts and lasts[-1] >= front.plant.cells or not all(map(le, firsts, lasts)):
         return False
@@ -106,7 +112,7 @@ def are_runs(front, firsts, lasts, ranks, inputs):
     return not any(last + 1 == first and row == other for last, row, (first, other) in zip(lasts, rows, nexts))
 
 
-def are_pairs(front, ranks, inputs):
+def are_pairs(front: Front, ranks: Sequence[int], inputs: Sequence[int]) -> bool:
     """Whether ranks and inputs are those that rows of the text may have."""
     plant, least = front.plant, int(front.kind == "patrol")
     if not ranks:
@@ -122,18 +128,18 @@ def are_pairs(front, ranks, inputs):
     return min(inputs) >= 0
 
 
-def packed(firsts, lasts, ranks, inputs):
+def packed(firsts: Sequence[Cell], lasts: Sequence[Cell], ranks: Sequence[int], inputs: Sequence[int]) -> Data:
     """Runs as four columns, one behind the other: how far each run begins behind the one before, its length less one,
     rank and input plus one."""
     ends = [0, *(last + 1 for last in lasts)]
-    columns = [map(sub, firsts, ends), map(sub, lasts, firsts), map((1).__add__, ranks), map((1).__add__, inputs)]
-    columns = [narrow(list(column)) for column in columns]
+    numbers = map(sub, firsts, ends), map(sub, lasts, firsts), map((1).__add__, ranks), map((1).__add__, inputs)
+    columns = [narrow(list(column)) for column in numbers]
     data = zlib.compress(b"".join(column.tobytes() for column in columns), 9)
     widths = [column.itemsize for column in columns]
     return {"count": len(firsts), "widths": widths, "rows": base64.b64encode(data).decode()}
 
 
-def narrow(numbers):
+def narrow(numbers: Sequence[int]) -> array[int]:
     """Numbers as an array of one, two or four bytes each, the least byte first."""
     most = max(numbers, default=0)
     column = array("B" if most < 2**8 else "H" if most < 2**16 else "I", numbers)
@@ -142,7 +148,7 @@ def narrow(numbers):
     return column
 
 
-def page_of(texts, title, model):
+def page_of(texts: Sequence[Text], title: str, model: Optional[Data]) -> str:
     """The whole page as a text: its files in one, and the data that they show."""
     data = {"texts": [text.data() for text in texts], "units": None, "flow": None} | (model or {})
     parts = {
@@ -151,8 +157,8 @@ def page_of(texts, title, model):
         "@SCRIPT@": "\n".join(file_of(f"{name}.js") for name in SCRIPTS),
         "@DATA@": json.dumps(data, separators=(",", ":")).replace("<", "\\u003c"),
     }
-    return re.sub("@[A-Z]+@", lambda word: parts[word[0]], file_of("page.html"))
+    return re.sub("@[A-Z]+@", lambda word: parts[str(word[0])], file_of("page.html"))
 
 
-def file_of(name):
+def file_of(name: str) -> str:
     return (FILES / name).read_text(encoding="utf-8")

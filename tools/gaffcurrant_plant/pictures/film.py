@@ -1,12 +1,20 @@
 """Makes a film of runs over a picture with matplotlib: FILE.gif by Pillow, FILE.mp4 by ffmpeg where that is there. The
 picture is drawn once, of a patrol once for each turn; each frame adds the ways up to a sample."""
 
+from __future__ import annotations
+
+import contextlib
 import shutil
 import subprocess
+from typing import IO, TYPE_CHECKING, Iterable, Iterator, Optional, Sequence
 
 from ..faults import Trouble
 from ..progress import Progress
 from . import flat as drawing
+from .artists import Axes, Figure, Image
+
+if TYPE_CHECKING:
+    from .flat import Course
 
 FRAMES, RATE = 240, 12
 
@@ -14,7 +22,7 @@ FRAMES, RATE = 240, 12
 class Scene:
     """A drawn figure, and the artists that change from frame to frame."""
 
-    def __init__(self, figure, axes, courses, turn, dpi):
+    def __init__(self, figure: Figure, axes: Axes, courses: Sequence[Course], turn: Optional[int], dpi: int) -> None:
         self.figure, self.axes, self.courses = figure, axes, courses
         self.said = "" if turn is None else f", turn {turn}"
         self.trails = [
@@ -36,9 +44,9 @@ class Scene:
         figure.canvas.draw()
         self.ground = figure.canvas.copy_from_bbox(figure.bbox)
 
-    def frame(self, sample):
+    def frame(self, sample: int) -> Image:
         """The picture with the ways up to a sample, as an image of Pillow."""
-        from PIL import Image
+        from PIL import Image as pillow
 
         self.figure.canvas.restore_region(self.ground)
         for trail, head, course in zip(self.trails, self.heads, self.courses):
@@ -49,12 +57,12 @@ class Scene:
         for artist in self.artists:
             self.axes.draw_artist(artist)
         size = self.figure.canvas.get_width_height()
-        return Image.frombuffer("RGBA", size, bytes(self.figure.canvas.buffer_rgba()), "raw", "RGBA", 0, 1).convert(
+        return pillow.frombuffer("RGBA", size, bytes(self.figure.canvas.buffer_rgba()), "raw", "RGBA", 0, 1).convert(
             "RGB"
         )
 
 
-def write_film(scenes, turns, path):
+def write_film(scenes: Sequence[Scene], turns: Sequence[int], path: str) -> None:
     """Writes the frames of the scenes. turns has for each sample the number of the scene."""
     if len(turns) < 2:
         raise Trouble("--animate shows runs: give --from or --trace, with a run of two samples at least", 2)
@@ -64,7 +72,7 @@ def write_film(scenes, turns, path):
     samples = sorted({*range(0, len(turns), step), len(turns) - 1})
     progress = Progress("picture")
 
-    def frames():
+    def frames() -> Iterator[Image]:
         for number, sample in enumerate(samples):
             progress.show(number / len(samples))
             yield scenes[turns[sample]].frame(sample)
@@ -73,28 +81,28 @@ def write_film(scenes, turns, path):
     progress.end()
 
 
-def palette_of(scenes, turns):
+def palette_of(scenes: Sequence[Scene], turns: Sequence[int]) -> Image:
     """An image whose colours are those of all scenes, each with its last frame."""
-    from PIL import Image
+    from PIL import Image as pillow
 
     lasts = [
         scene.frame(max(sample for sample, turn in enumerate(turns) if turn == number))
         for number, scene in enumerate(scenes)
         if number in turns
     ]
-    whole = Image.new("RGB", (max(image.width for image in lasts), sum(image.height for image in lasts)))
+    whole = pillow.new("RGB", (max(image.width for image in lasts), sum(image.height for image in lasts)))
     for number, image in enumerate(lasts):
         whole.paste(image, (0, sum(other.height for other in lasts[:number])))
     return whole.quantize(256, dither=0)
 
 
-def write_gif(frames, palette, path):
+def write_gif(frames: Iterable[Image], palette: Image, path: str) -> None:
     images = [frame.quantize(palette=palette, dither=0) for frame in frames]
     durations = [1000 // RATE] * (len(images) - 1) + [1000]
     images[0].save(path, save_all=True, append_images=images[1:], duration=durations, loop=0)
 
 
-def write_by_ffmpeg(frames, _, path):
+def write_by_ffmpeg(frames: Iterator[Image], _: object, path: str) -> None:
     """Hands frames to ffmpeg, the last one for a second. Sides of an odd number of pixels get one more."""
     first = next(frames)
     command = [
@@ -121,14 +129,18 @@ def write_by_ffmpeg(frames, _, path):
     with subprocess.Popen(
         command, stdin=subprocess.PIPE, stdout=subprocess.DEVNULL, stderr=subprocess.DEVNULL
     ) as ffmpeg:
-        try:
-            last = first
-            ffmpeg.stdin.write(first.tobytes())
-            for last in frames:
-                ffmpeg.stdin.write(last.tobytes())
-            ffmpeg.stdin.write(last.tobytes() * RATE)
-            ffmpeg.stdin.close()
-        except BrokenPipeError:
-            pass
+        if ffmpeg.stdin is not None:
+            put_frames(ffmpeg.stdin, first, frames)
     if ffmpeg.returncode:
         raise Trouble(f"{path}: ffmpeg couldn't write the film")
+
+
+def put_frames(pipe: IO[bytes], first: Image, others: Iterable[Image]) -> None:
+    """Writes frames as long as something reads them, which ffmpeg may not do to the end."""
+    with contextlib.suppress(BrokenPipeError):
+        last = first
+        pipe.write(first.tobytes())
+        for last in others:
+            pipe.write(last.tobytes())
+        pipe.write(last.tobytes() * RATE)
+        pipe.close()

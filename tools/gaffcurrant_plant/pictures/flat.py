@@ -1,10 +1,20 @@
 """Draws a table with matplotlib along one or two states: the cells' colours, targets, obstacles, runs and successor
 boxes."""
 
+from __future__ import annotations
+
 import math
 from fractions import Fraction
+from typing import TYPE_CHECKING, Iterable, Iterator, Optional, Sequence
 
 from ..faults import Trouble
+from .artists import Artist, Axes, Colours, Figure, Limits, Place, States
+
+if TYPE_CHECKING:
+    from ..plants.array_kinds import Flags, Numbers
+    from ..plants.kinds import Box, Cell, Vector
+    from ..texts.arrays import Cells, Masked
+    from .view import View
 
 NAN = math.nan
 
@@ -34,7 +44,7 @@ MANY = (
 )
 
 
-def sequence(count=256):
+def sequence(count: int = 256) -> Colours:
     """Colours from light to dark that keep their order in grey, none as light as the background."""
     import numpy
     from matplotlib import colormaps, colors
@@ -42,7 +52,7 @@ def sequence(count=256):
     return colors.ListedColormap(colormaps["viridis"](numpy.linspace(0.93, 0.0, max(count, 2))))
 
 
-def distinct(count):
+def distinct(count: int) -> Colours:
     from matplotlib import colors
 
     return colors.ListedColormap((FEW if count <= len(FEW) else MANY)[: max(count, 1)])
@@ -54,7 +64,7 @@ class Colouring:
     that have none, and known what the colours are of: few values or vectors have a colour of their own each, which
     is_named tells."""
 
-    def __init__(self, cells, view, by_input, variable=None):
+    def __init__(self, cells: Cells, view: View, by_input: bool, variable: Optional[int] = None) -> None:
         import numpy
 
         self.view, self.plant = view, cells.plant
@@ -64,19 +74,20 @@ class Colouring:
         self.is_share = cells.plant.goal == "keep" and not by_input and bool(view.projected())
         if self.is_share:
             share = cells.share(view.axes, view.fixed)
-            self.shown = numpy.ma.masked_where(share <= 0, share)
+            self.shown = masked(share, share <= 0)
         else:
             shown = inputs if self.by_input else self.ranks
-            self.shown = numpy.ma.masked_where(~self.won | (shown < 0), shown)
+            self.shown = masked(shown, ~self.won | (shown < 0))
         if self.by_input and not self.is_share and self.variable is not None:
             values = numpy.array(
                 [self.plant.vector(number)[self.variable] for number in range(self.plant.vectors)], dtype=float
             )
-            self.shown = numpy.ma.masked_array(values[self.shown.filled(0)], self.shown.mask)
-        self.present = [] if self.is_share else sorted(int(value) for value in numpy.unique(self.shown.compressed()))
+            self.shown = masked(values[filled(self.shown)], self.shown.mask)
+        shown_values = numpy.unique(self.shown.data[~self.shown.mask])
+        self.present = [] if self.is_share else sorted(int(value) for value in shown_values)
         self.take(self.present)
 
-    def take(self, vectors):
+    def take(self, vectors: Iterable[int]) -> None:
         """Takes the input vectors of which one of all panels shows each, so that a colour means one vector in all of
         them."""
         self.known = sorted(set(vectors)) if self.variable is None else sorted(set(self.plant.inputs[self.variable][1]))
@@ -84,24 +95,24 @@ class Colouring:
             self.by_input and not self.is_share and len(self.known) <= (NAMED if self.variable is None else DISTINCT)
         )
 
-    def numbers(self):
+    def numbers(self) -> Masked:
         """What is shown as numbers between the limits: of named values their indices in the list."""
         import numpy
 
         if not self.is_named:
-            return self.shown * self.size()
-        return numpy.ma.masked_array(numpy.searchsorted(self.known, self.shown.filled(0)), self.shown.mask)
+            return masked(self.shown.data * self.size(), self.shown.mask)
+        return masked(numpy.searchsorted(self.known, filled(self.shown)), self.shown.mask)
 
-    def size(self):
+    def size(self) -> float:
         """What the number 1 of a scale stands for in the units of the picture."""
         if self.variable is None or not self.by_input or self.is_share or not self.view.units.sizes:
             return 1
         return float(self.view.units.size(self.plant.inputs[self.variable][0]))
 
-    def palette(self):
+    def palette(self) -> Colours:
         return distinct(len(self.known)) if self.is_named else sequence()
 
-    def limits(self):
+    def limits(self) -> Limits:
         """The least and the greatest number that has a colour."""
         if self.is_share:
             return 0, 1
@@ -111,18 +122,18 @@ class Colouring:
             return self.known[0] * self.size(), self.known[-1] * self.size()
         return 0, max(self.present[-1] if self.present else 1, 1)
 
-    def is_whole(self):
+    def is_whole(self) -> bool:
         """Whether a scale has whole numbers alone."""
         return not self.is_share and self.size() == 1
 
-    def label(self):
+    def label(self) -> str:
         if self.is_share:
             return "share that is kept"
         if self.by_input and self.variable is not None:
             return self.view.units.label(self.plant.inputs[self.variable][0])
         return "number of the input" if self.by_input else "rank: samples that suffice"
 
-    def entries(self):
+    def entries(self) -> list[Artist]:
         """The legend's entries for the values or vectors that have a colour each, as far as they are shown."""
         from matplotlib.patches import Patch
 
@@ -133,13 +144,27 @@ class Colouring:
             if value in self.present
         ]
 
-    def said(self, value):
+    def said(self, value: int) -> str:
         if self.variable is None:
             return self.view.input_said(value)
         return self.view.units.said(self.plant.inputs[self.variable][0], value)
 
 
-def draw_cells(figure, axes, view, colouring, equal=False):
+def masked(values: Numbers, mask: Flags) -> Masked:
+    """An array of which some values aren't to be shown."""
+    from ..texts import arrays
+
+    return arrays.masked(values, mask)
+
+
+def filled(values: Masked) -> Numbers:
+    """An array with 0 in the place of what isn't to be shown."""
+    import numpy
+
+    return numpy.where(values.mask, 0, values.data)
+
+
+def draw_cells(figure: Figure, axes: Axes, view: View, colouring: Colouring, equal: bool = False) -> list[Artist]:
     """The cells' colours; answers the legend's entries for few inputs, and draws a bar for all else."""
     palette, limits = colouring.palette(), colouring.limits()
     if len(view.axes) == 2:
@@ -164,7 +189,7 @@ def draw_cells(figure, axes, view, colouring, equal=False):
     return []
 
 
-def draw_columns(axes, view, colouring, palette, limits):
+def draw_columns(axes: Axes, view: View, colouring: Colouring, palette: Colours, limits: Limits) -> None:
     """Along one state: the rank as the height, in one colour; or with goal keep columns of one height, coloured."""
     import numpy
 
@@ -177,11 +202,13 @@ def draw_columns(axes, view, colouring, palette, limits):
     heights = numpy.where(colouring.won, numpy.maximum(colouring.ranks, 0) + 0.4 if has_heights else 1.0, 0.0)[chosen]
     span = (limits[1] - limits[0]) or 1
     is_plain = not colouring.by_input
-    colour = PLAIN if is_plain else palette((colouring.numbers().filled(0)[chosen] - limits[0]) / span)
+    colour = PLAIN if is_plain else palette((filled(colouring.numbers())[chosen] - limits[0]) / span)
     axes.bar(at, heights, (end - low) / columns, align="edge", color=colour, linewidth=0, zorder=1)
 
 
-def draw_bar(figure, axes, limits, label, is_whole, gap=0.02, beside=False):
+def draw_bar(
+    figure: Figure, axes: Axes, limits: Limits, label: str, is_whole: bool, gap: float = 0.02, beside: bool = False
+) -> None:
     """The colours' bar: in room taken from the axes, or, where these don't fill theirs, right beside them."""
     from matplotlib import cm, colors
 
@@ -193,7 +220,7 @@ def draw_bar(figure, axes, limits, label, is_whole, gap=0.02, beside=False):
         bar.ax.yaxis.get_major_locator().set_params(integer=True)
 
 
-def frame(axes, view, cells, equal):
+def frame(axes: Axes, view: View, cells: Cells, equal: bool) -> None:
     """The ranges and labels of the axes. Along one state of a plant to be kept there is no second axis."""
     axes.set_xlim(*view.range(0))
     axes.set_xlabel(view.label(0))
@@ -213,7 +240,7 @@ def frame(axes, view, cells, equal):
         spine.set_zorder(10)
 
 
-def rectangle(axes, view, box, **style):
+def rectangle(axes: Axes, view: View, box: Box, **style: object) -> None:
     """A box of whole numbers, from its least number to the one behind its greatest."""
     from matplotlib.patches import Rectangle
 
@@ -222,7 +249,7 @@ def rectangle(axes, view, box, **style):
     axes.add_patch(Rectangle((left, low), right - left, high - low, **style))
 
 
-def draw_boxes(axes, view, turn=None):
+def draw_boxes(axes: Axes, view: View, turn: Optional[int] = None) -> list[Artist]:
     """Targets and obstacles, and the legend's entries for them; in a turn of a patrol its target stands out."""
     from matplotlib.patches import Patch
 
@@ -253,7 +280,7 @@ class Course:
     joined, NAN between the edges at which a state that comes round leaves and comes in; ends: for each sample the
     number of its point."""
 
-    def __init__(self, view, cells, states):
+    def __init__(self, view: View, cells: Cells, states: States) -> None:
         self.places = along(view, cells, states)
         periods = [view.period(axis) for axis in range(len(view.axes))] + [None] * (len(self.places) - len(view.axes))
         ranges = [view.range(axis) if period else None for axis, period in enumerate(periods)]
@@ -266,12 +293,14 @@ class Course:
             points.append(sample)
         self.line = [list(column) for column in zip(*points)]
 
-    def upto(self, sample):
+    def upto(self, sample: int) -> list[list[float]]:
         """The line up to a sample."""
         return [column[: self.ends[sample] + 1] for column in self.line]
 
 
-def crossings(start, end, periods, ranges):
+def crossings(
+    start: Place, end: Place, periods: Sequence[Optional[float]], ranges: Sequence[Optional[Limits]]
+) -> Iterator[tuple[Place, Place]]:
     """The points at which the way between two samples leaves the range of a state that comes round, each with that at
     which it comes in. The way is the shorter one round."""
     ways = [
@@ -279,18 +308,18 @@ def crossings(start, end, periods, ranges):
         for move, period in zip((b - a for a, b in zip(start, end)), periods)
     ]
     cuts = []
-    for i, (way, span) in enumerate(zip(ways, ranges)):
-        if span and not span[0] <= start[i] + way <= span[1]:
-            edge = span[way > 0]
-            cuts.append(((edge - start[i]) / way, i))
+    for i, (way, span, period) in enumerate(zip(ways, ranges, periods)):
+        if span and period and not span[0] <= start[i] + way <= span[1]:
+            edge, other_edge = span[way > 0], span[way < 0]
+            cuts.append(((edge - start[i]) / way, i, other_edge, math.copysign(period, way)))
     shifts = [0.0] * len(start)
-    for share, i in sorted(cuts):
+    for share, i, other_edge, turn in sorted(cuts):
         left = [a + share * way + shift for a, way, shift in zip(start, ways, shifts)]
-        shifts[i] -= math.copysign(periods[i], ways[i])
-        yield tuple(left), tuple(left[:i] + [ranges[i][ways[i] < 0]] + left[i + 1 :])
+        shifts[i] -= turn
+        yield tuple(left), tuple(left[:i] + [other_edge] + left[i + 1 :])
 
 
-def along(view, cells, states):
+def along(view: View, cells: Cells, states: States) -> list[list[float]]:
     """The places of a run's states on the axes: the middles of their units."""
     places = [[view.at(axis, state[i] + Fraction(1, 2)) for state in states] for axis, i in enumerate(view.axes)]
     if len(places) > 1:
@@ -300,7 +329,7 @@ def along(view, cells, states):
     return places + [[rank_at(cells, state, is_first=k == 0) for k, state in enumerate(states)]]
 
 
-def rank_at(cells, state, is_first):
+def rank_at(cells: Cells, state: Sequence[int], is_first: bool) -> float:
     """The rank at a state of a run; 0 where a patrol has arrived."""
     cell = cells.plant.cell_of(state)
     if cell is None:
@@ -310,14 +339,14 @@ def rank_at(cells, state, is_first):
     return max(int(cells.ranks[cell]), 0)
 
 
-def halo():
+def halo() -> list[Artist]:
     """What sets a line apart from dark cells."""
     from matplotlib.patheffects import withStroke
 
     return [withStroke(linewidth=2.0, foreground="white", alpha=0.6)]
 
 
-def draw_runs(axes, view, cells, runs, asked):
+def draw_runs(axes: Axes, view: View, cells: Cells, runs: Sequence[States], asked: int) -> list[Artist]:
     """Runs as lines; of a long one only some samples are marked. So many are asked for, of which some may be shown in
     other panels alone."""
     from matplotlib.lines import Line2D
@@ -355,7 +384,7 @@ def draw_runs(axes, view, cells, runs, asked):
     return [Line2D([], [], **style, label=label)] if runs else []
 
 
-def draw_successors(axes, view, cell, vectors):
+def draw_successors(axes: Axes, view: View, cell: Cell, vectors: Sequence[Vector]) -> list[Artist]:
     """The successor boxes of one cell, each with the number of its input at its upper corner."""
     from matplotlib.patches import Patch
 
@@ -380,8 +409,10 @@ def draw_successors(axes, view, cell, vectors):
         rectangle(
             axes, view, list(zip(low, high)), facecolor="none", edgecolor=BOX, linewidth=1.5, linestyle=style, zorder=8
         )
-        second = view.axes[1] if len(view.axes) == 2 else None
-        middle = view.at(1, (low[second] + high[second] + 1) / 2) if len(view.axes) == 2 else axes.get_ylim()[1] * 0.9
+        middle = axes.get_ylim()[1] * 0.9
+        if len(view.axes) == 2:
+            second = view.axes[1]
+            middle = view.at(1, (low[second] + high[second] + 1) / 2)
         labels.append((view.at(0, high[view.axes[0]] + 1), middle, str(vector)))
     put_labels(axes, labels)
     return [
@@ -390,9 +421,9 @@ def draw_successors(axes, view, cell, vectors):
     ]
 
 
-def put_labels(axes, labels):
+def put_labels(axes: Axes, labels: Iterable[tuple[float, float, str]]) -> None:
     """Labels to the right of their points; those that would cover each other become one."""
-    kept = []
+    kept: list[tuple[tuple[float, float], tuple[float, float], list[str]]] = []
     for x, y, text in labels:
         at = axes.transData.transform((x, y))
         near = [other for other in kept if abs(other[0][0] - at[0]) < 30 and abs(other[0][1] - at[1]) < 16]
@@ -415,7 +446,7 @@ def put_labels(axes, labels):
         )
 
 
-def put_legend(figure, entries, width, height):
+def put_legend(figure: Figure, entries: Sequence[Artist], width: float, height: float) -> None:
     """The legend below all panels, in as many columns as fit, with the room that it takes kept free."""
     if not entries:
         return

@@ -3,18 +3,20 @@ numpy."""
 
 from __future__ import annotations
 
-from typing import Any
+from typing import Union
 
 import numpy
 
 from ..measured.conformity import Conformity
+from ..plants.array_kinds import Flags, Numbers, Reals, Wholes
+from .artists import Axes, Figure
 from .flat import OBSTACLE, PLAIN, RUN, TARGET
 
 # Columns in which so many steps are drawn, bars of a histogram, and unexplained steps that are marked.
 COLUMNS, BARS, MARKED = 1500, 80, 4000
 
 
-def draw_residuals(figure: Any, conformity: Conformity) -> None:
+def draw_residuals(figure: Figure, conformity: Conformity) -> None:
     """Fills a figure: for each state what its equation leaves unexplained, over the samples and as a histogram, in the
     model's units; a band is the stated range."""
     plant, units = conformity.plant, conformity.plant.units
@@ -43,7 +45,7 @@ def draw_residuals(figure: Any, conformity: Conformity) -> None:
     panels[0][0].set_title(said, fontsize=9)
 
 
-def times_of(conformity: Conformity) -> tuple[numpy.ndarray, str]:
+def times_of(conformity: Conformity) -> tuple[Union[Wholes, Reals], str]:
     """Where along the axis the steps stand: at their times, where the log is one run with times, else at their
     samples."""
     log = conformity.log
@@ -52,7 +54,7 @@ def times_of(conformity: Conformity) -> tuple[numpy.ndarray, str]:
     return conformity.steps, "sample of the log"
 
 
-def draw_course(axes: Any, at: numpy.ndarray, values: numpy.ndarray, is_beyond: numpy.ndarray) -> None:
+def draw_course(axes: Axes, at: Union[Wholes, Reals], values: Numbers, is_beyond: Flags) -> None:
     """The values over the log: of many steps the least and the greatest in each column; those beyond the range are
     marked."""
     if at.size > 2 * COLUMNS:

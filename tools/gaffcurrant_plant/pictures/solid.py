@@ -1,22 +1,33 @@
 """Draws a table with matplotlib in three dimensions, along three states: blocks of cells with a row, cut open at one
 corner so that the inside is seen, the targets' edges, and runs."""
 
+from __future__ import annotations
+
 import itertools
 import math
+from typing import TYPE_CHECKING, Iterable, Sequence
 
 from . import flat as drawing
+from .artists import Artist, Axes, Figure, States
+
+if TYPE_CHECKING:
+    from ..plants.array_kinds import Flags, Reals
+    from ..texts.arrays import Cells
+    from .flat import Colouring
+    from .view import View
 
 BLOCKS = 18
 ELEVATION, AZIMUTH = 26, -52
 
 
-def blocks_of(colouring, counts):
+def blocks_of(colouring: Colouring, counts: Sequence[int]) -> tuple[list[int], Reals, Flags]:
     """How many indices a block has along each state, and for each block its colour's number and whether half of its
     cells have a row."""
     import numpy
 
     sizes = [-(-count // BLOCKS) for count in counts]
-    shown = colouring.numbers().astype(float).filled(numpy.nan)
+    numbered = colouring.numbers()
+    shown = numpy.where(numbered.mask, numpy.nan, numbered.data)
     padded = numpy.full([-(-count // size) * size for count, size in zip(counts, sizes)], numpy.nan)
     padded[tuple(slice(count) for count in counts)] = shown
     shape = [number for count, size in zip(padded.shape, sizes) for number in (count // size, size)]
@@ -27,7 +38,7 @@ def blocks_of(colouring, counts):
     return sizes, numbers, filled
 
 
-def draw_solid(figure, axes, view, colouring):
+def draw_solid(figure: Figure, axes: Axes, view: View, colouring: Colouring) -> list[Artist]:
     """The blocks with a row but for the corner towards the viewer; answers the legend's entries."""
     import numpy
 
@@ -55,7 +66,7 @@ def draw_solid(figure, axes, view, colouring):
     return []
 
 
-def ends_of(view, axis, edge):
+def ends_of(view: View, axis: int, edge: Iterable[int]) -> Reals:
     """The ends of blocks along an axis, in its units, by the indices at which they begin."""
     import numpy
 
@@ -63,13 +74,13 @@ def ends_of(view, axis, edge):
     return numpy.array([view.at(axis, low + int(number) * width) for number in edge], dtype=float)
 
 
-def towards_viewer():
+def towards_viewer() -> tuple[float, float, float]:
     """The direction from the middle to the viewer."""
     elevation, azimuth = map(math.radians, (ELEVATION, AZIMUTH))
     return math.cos(elevation) * math.cos(azimuth), math.cos(elevation) * math.sin(azimuth), math.sin(elevation)
 
 
-def frame_solid(axes, view):
+def frame_solid(axes: Axes, view: View) -> None:
     for axis, set_range, set_label in zip(
         range(3), (axes.set_xlim, axes.set_ylim, axes.set_zlim), (axes.set_xlabel, axes.set_ylabel, axes.set_zlabel)
     ):
@@ -81,7 +92,7 @@ def frame_solid(axes, view):
     axes.view_init(elev=ELEVATION, azim=AZIMUTH)
 
 
-def draw_edges(axes, view):
+def draw_edges(axes: Axes, view: View) -> list[Artist]:
     """The edges of targets and obstacles, as far as they lie in the domain."""
     from matplotlib.lines import Line2D
 
@@ -108,7 +119,7 @@ def draw_edges(axes, view):
     return entries
 
 
-def draw_solid_runs(axes, view, cells, runs):
+def draw_solid_runs(axes: Axes, view: View, cells: Cells, runs: Sequence[States]) -> list[Artist]:
     from matplotlib.lines import Line2D
 
     for states in runs:

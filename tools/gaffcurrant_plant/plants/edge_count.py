@@ -1,14 +1,24 @@
 """Counts the edges of a plant exactly, axis by axis: how many indices a box meets along an axis rests on the variables
 of that state's equation alone, and the sum over all pairs of the products is taken variable by variable."""
 
+from __future__ import annotations
+
 import itertools
+from typing import TYPE_CHECKING, Dict, List, Sequence, Tuple
 
 from ..faults import TooMuch
+from .kinds import Area, Vector
+
+if TYPE_CHECKING:
+    from .plant import Plant
 
 WORK = 1_200_000
+# The indices of some variables, and for these variables a number for each of their indices.
+Indices = Tuple[int, ...]
+Table = Tuple[List[int], Dict[Indices, int]]
 
 
-def edges_of(plant):
+def edges_of(plant: Plant) -> int:
     """The number of successors of all pairs, or raises TooMuch."""
     sizes = plant.counts + [len(values) for _, values in plant.inputs]
     tables = [_axis_table(plant, axis, sizes) for axis in range(len(plant.states))]
@@ -20,7 +30,7 @@ def edges_of(plant):
     return total
 
 
-def _axis_table(plant, axis, sizes):
+def _axis_table(plant: Plant, axis: int, sizes: Sequence[int]) -> Table:
     """For the indices and inputs that an equation names, how many indices the box meets along its axis; 0 left out."""
     names = [i for i in sorted(plant.uses[axis]) if i < len(sizes)]
     _check(names, sizes)
@@ -37,7 +47,7 @@ def _axis_table(plant, axis, sizes):
     return names, table
 
 
-def _value(plant, variable, index):
+def _value(plant: Plant, variable: int, index: int) -> int:
     """The value of an input, or the centre of a state's cell, by its index."""
     wide = len(plant.states)
     if variable >= wide:
@@ -46,7 +56,7 @@ def _value(plant, variable, index):
     return low + index * width + plant.radii[variable]
 
 
-def _vector(plant, names, indices):
+def _vector(plant: Plant, names: Sequence[int], indices: Sequence[int]) -> Vector:
     """The number of an input vector by the indices of the inputs among some variables, the others' being 0."""
     chosen, number = dict(zip(names, indices)), 0
     for i, (_, values) in enumerate(plant.inputs, len(plant.states)):
@@ -54,7 +64,7 @@ def _vector(plant, names, indices):
     return number
 
 
-def _area(plant, names, values):
+def _area(plant: Plant, names: Sequence[int], values: Sequence[int]) -> Area:
     """The cell's area where the variables that an equation names have these values, states at their centres; the
     others, on which its span doesn't rest, have their whole ranges."""
     wide = len(plant.states)
@@ -65,7 +75,7 @@ def _area(plant, names, values):
     return area
 
 
-def _check(names, sizes):
+def _check(names: Sequence[int], sizes: Sequence[int]) -> None:
     work = 1
     for i in names:
         work *= sizes[i]
@@ -73,7 +83,7 @@ def _check(names, sizes):
         raise TooMuch
 
 
-def _without(variable, tables, sizes):
+def _without(variable: int, tables: list[Table], sizes: Sequence[int]) -> list[Table]:
     """The tables with one variable summed out of the product of those that name it."""
     naming = [one for one in tables if variable in one[0]]
     rest = [one for one in tables if variable not in one[0]]
@@ -84,19 +94,19 @@ def _without(variable, tables, sizes):
         product = _product(product, other, sizes)
     names, table = product
     at = names.index(variable)
-    summed = {}
+    summed: dict[Indices, int] = {}
     for indices, count in table.items():
         left = indices[:at] + indices[at + 1 :]
         summed[left] = summed.get(left, 0) + count
     return rest + [(names[:at] + names[at + 1 :], summed)]
 
 
-def _product(first, second, sizes):
+def _product(first: Table, second: Table, sizes: Sequence[int]) -> Table:
     """The product of two tables over the variables of both."""
     names, more = first[0], [i for i in second[0] if i not in first[0]]
     _check(names + more, sizes)
     shared = [i for i in second[0] if i in names]
-    grouped = {}
+    grouped: dict[Indices, list[tuple[Indices, int]]] = {}
     for indices, count in second[1].items():
         added = _picked(indices, second[0], more)
         grouped.setdefault(_picked(indices, second[0], shared), []).append((added, count))
@@ -107,6 +117,6 @@ def _product(first, second, sizes):
     return names + more, table
 
 
-def _picked(indices, names, some):
+def _picked(indices: Indices, names: Sequence[int], some: Sequence[int]) -> Indices:
     """The indices of some of the variables that they belong to."""
     return tuple(indices[names.index(name)] for name in some)

@@ -3,9 +3,13 @@
 A node is a tuple that begins with its kind: ('num', k), ('var', i), ('neg', a), ('abs', a), ('add', a, b), ('sub', a,
 b), ('mul', a, b), ('min', a, b), ('max', a, b), ('div', a, k), ('lut', a, points) with the points as pairs."""
 
+from __future__ import annotations
+
 import re
+from typing import Iterable, Iterator, Optional, Sequence
 
 from ..faults import Fault
+from .kinds import Node
 
 NODES, DEPTH, BRACKETS, DIGITS = 256, 64, 64, 18
 FUNCTIONS = {"min": 2, "max": 2, "abs": 1, "lut": 1}
@@ -13,31 +17,31 @@ FEWEST_POINTS, MOST_POINTS = 2, 32
 TOKEN = re.compile(r"[A-Za-z][A-Za-z0-9_]*|[0-9]+|.", re.DOTALL)
 
 
-def is_whole(token):
-    """Whether a token is a whole number; None, behind the last token, is none."""
-    return token is not None and token.isdigit() and token.isascii()
+def is_whole(token: str) -> bool:
+    """Whether a token is a whole number."""
+    return token.isdigit() and token.isascii()
 
 
-def tokens_of(words):
+def tokens_of(words: Iterable[str]) -> list[str]:
     return [token for word in words for token in TOKEN.findall(word)]
 
 
 class _Reader:
     """Descends over the tokens; counts nodes, depth and open brackets as it goes."""
 
-    def __init__(self, tokens, names, version):
+    def __init__(self, tokens: list[str], names: list[str], version: int) -> None:
         self.tokens, self.names, self.version = tokens, names, version
         self.at, self.nodes, self.open = 0, 0, 0
 
-    def peek(self):
+    def peek(self) -> Optional[str]:
         return self.tokens[self.at] if self.at < len(self.tokens) else None
 
-    def take(self):
+    def take(self) -> Optional[str]:
         token = self.peek()
         self.at += 1
         return token
 
-    def node(self, depth, *node):
+    def node(self, depth: int, *node: object) -> tuple[Node, int]:
         self.nodes += 1
         if self.nodes > NODES:
             raise Fault(f"the expression has more than {NODES} nodes")
@@ -45,7 +49,7 @@ class _Reader:
             raise Fault(f"more than {DEPTH} nodes stand one below another; group the sum by brackets into parts")
         return node, depth
 
-    def sum(self):
+    def sum(self) -> tuple[Node, int]:
         left, depth = self.product()
         while self.peek() in ("+", "-"):
             kind = "add" if self.take() == "+" else "sub"
@@ -53,7 +57,7 @@ class _Reader:
             left, depth = self.node(max(depth, other) + 1, kind, left, right)
         return left, depth
 
-    def product(self):
+    def product(self) -> tuple[Node, int]:
         left, depth = self.factor()
         while self.peek() in ("*", "/"):
             if self.take() == "*":
@@ -65,9 +69,9 @@ class _Reader:
                 left, depth = self.node(depth + 1, "div", left, self.divisor())
         return left, depth
 
-    def divisor(self):
+    def divisor(self) -> int:
         token = self.take()
-        if is_whole(token):
+        if token is not None and is_whole(token):
             if token == "0":
                 raise Fault("a quotient by 0")
             return self.literal(token)
@@ -78,7 +82,7 @@ class _Reader:
             f"the divisor behind `/` is {said}; it has to be a whole number of at least 1 written out in digits"
         )
 
-    def literal(self, token):
+    def literal(self, token: str) -> int:
         if len(token) > 1 and token[0] == "0":
             raise Fault(f"`{token}` has a leading zero")
         if len(token) > DIGITS:
@@ -87,7 +91,7 @@ class _Reader:
             raise Fault("real numbers aren't read; write 0.2 * v as v / 5, or 0.35 * v as 7 * v / 20")
         return int(token)
 
-    def factor(self):
+    def factor(self) -> tuple[Node, int]:
         minuses = 0
         while self.peek() == "-":
             self.take()
@@ -99,7 +103,7 @@ class _Reader:
             node, depth = self.node(depth + 1, "neg", node)
         return node, depth
 
-    def leaf(self):
+    def leaf(self) -> tuple[Node, int]:
         token = self.take()
         if token is None:
             raise Fault("the expression ends where a number, a name or a bracket is due")
@@ -113,13 +117,14 @@ class _Reader:
             return self.node(1, "var", self.names.index(token))
         raise Fault(self.unknown(token))
 
-    def number(self, token):
+    def number(self, token: str) -> tuple[Node, int]:
         value = self.literal(token)
-        if self.peek() is not None and re.match(r"[A-Za-z(]", self.peek()):
-            raise Fault(f"between `{token}` and `{self.peek()}` a sign is due, such as `*`")
+        behind = self.peek()
+        if behind is not None and re.match(r"[A-Za-z(]", behind):
+            raise Fault(f"between `{token}` and `{behind}` a sign is due, such as `*`")
         return self.node(1, "num", value)
 
-    def called(self, name):
+    def called(self, name: str) -> tuple[Node, int]:
         """What stands behind the name of a function."""
         if name == "lut" and self.version < 2:
             raise Fault("`lut` isn't known in a plant of version 1; the first line `plant 2` brings it")
@@ -130,7 +135,7 @@ class _Reader:
         parts = self.bracketed(FUNCTIONS[name], name)
         return self.node(max(depth for _, depth in parts) + 1, name, *(part for part, _ in parts))
 
-    def bracketed(self, count, opener):
+    def bracketed(self, count: int, opener: str) -> list[tuple[Node, int]]:
         self.open_bracket()
         parts = [self.sum()]
         while self.peek() == ",":
@@ -148,7 +153,7 @@ class _Reader:
         self.open -= 1
         return parts
 
-    def lut(self):
+    def lut(self) -> tuple[Node, int]:
         """What stands behind `lut(`: an expression, and 2 to 32 points behind commas."""
         self.open_bracket()
         part, depth = self.sum()
@@ -165,29 +170,29 @@ class _Reader:
             raise Fault("the first numbers of the points of `lut` rise from point to point")
         return self.node(depth + 1, "lut", part, tuple(points))
 
-    def point(self):
+    def point(self) -> tuple[int, int]:
         x = self.signed()
         if self.take() != ":":
             raise Fault("a point of `lut` has the form `x:y`")
         return x, self.signed()
 
-    def signed(self):
+    def signed(self) -> int:
         minus = self.peek() == "-"
         if minus:
             self.take()
         token = self.take()
-        if not is_whole(token):
+        if token is None or not is_whole(token):
             raise Fault("a point of `lut` is two whole numbers `x:y` written out in digits")
         if minus and token == "0":
             raise Fault("`-0` is written `0`")
         return -self.literal(token) if minus else self.literal(token)
 
-    def open_bracket(self):
+    def open_bracket(self) -> None:
         self.open += 1
         if self.open > BRACKETS:
             raise Fault(f"more than {BRACKETS} brackets are open at once")
 
-    def unknown(self, token):
+    def unknown(self, token: str) -> str:
         if token in ("sin", "cos", "tan", "sqrt", "exp", "log", "floor", "mod", "pow"):
             return (
                 f"`{token}` isn't known: there are min, max and abs, and lut in version 2; tools/scale makes them "
@@ -207,7 +212,7 @@ class _Reader:
         return f"`{token}` isn't one of + - * / ( ) ,"
 
 
-def parse(words, names, version=1):
+def parse(words: Iterable[str], names: Iterable[str], version: int = 1) -> Node:
     """The node that the words spell in a plant of this version, where the names are the variables in their order; else
     raises Fault."""
     tokens = tokens_of(words)
@@ -237,7 +242,7 @@ LEVELS = {"add": 1, "sub": 1, "mul": 2, "div": 2}
 SIGNS = {"add": (" + ", 1, 2), "sub": (" - ", 1, 2), "mul": (" * ", 2, 3)}
 
 
-def text_of(node, names, level=1):
+def text_of(node: Node, names: Sequence[str], level: int = 1) -> str:
     """The canonical text of a node where a node of this level is asked for."""
     kind = node[0]
     if kind == "num":
@@ -258,21 +263,21 @@ def text_of(node, names, level=1):
     return f"({said})" if LEVELS.get(kind, 3) < level else said
 
 
-def parts_of(node):
+def parts_of(node: Node) -> list[Node]:
     """The nodes right below a node."""
     return [node[1]] if node[0] == "lut" else [part for part in node[1:] if isinstance(part, tuple)]
 
 
-def walk(node):
+def walk(node: Node) -> Iterator[Node]:
     """All nodes of an expression, each before its parts."""
     yield node
     for part in parts_of(node):
         yield from walk(part)
 
 
-def uses_of(node):
+def uses_of(node: Node) -> dict[int, int]:
     """How often each variable stands in an expression, by its number."""
-    uses = {}
+    uses: dict[int, int] = {}
     for one in walk(node):
         if one[0] == "var":
             uses[one[1]] = uses.get(one[1], 0) + 1

@@ -1,12 +1,19 @@
 """Which states of a plant come round, as an angle does: those whose equation brings each value back into the state's
 range, by `lut` with a saw's teeth, as tools/scale writes it, or by a quotient that takes whole turns away."""
 
+from __future__ import annotations
+
 from collections import Counter
+from typing import TYPE_CHECKING, Optional
 
 from .bounds import bounds_of
+from .kinds import Node, Points
+
+if TYPE_CHECKING:
+    from .plant import Plant
 
 
-def periods_of(plant):
+def periods_of(plant: Plant) -> list[Optional[int]]:
     """For each state after how many numbers it comes round, which is the size of its range; None of a state that
     doesn't."""
     return [
@@ -15,34 +22,36 @@ def periods_of(plant):
     ]
 
 
-def rolled_out(plant):
+def rolled_out(plant: Plant) -> list[Node]:
     """A plant's equations without what brings values back into their ranges. An equation with a quotient that adds to
     its deviation is left as it is, since such a quotient makes the boxes wide."""
     return [unbent(plant, node, *state) for node, state in zip(plant.equations, plant.states)]
 
 
-def unbent(plant, node, _, low, high, width):
+def unbent(plant: Plant, node: Node, _: str, low: int, high: int, width: int) -> Node:
     inner = inner_of(node, low, high - low + 1)
     if not inner or node[0] != "lut" and deviation_of(plant, inner):
         return node
     return inner
 
 
-def deviation_of(plant, node):
+def deviation_of(plant: Plant, node: Node) -> int:
     """The deviation of a sum over the whole domain."""
     return bounds_of(node, plant.area, plant.variable_radii)[2]
 
 
-def inner_of(node, low, size):
+def inner_of(node: Node, low: int, size: int) -> Optional[Node]:
     """What an equation brings into the range of so many numbers from the lowest one on, or None."""
-    if node[0] == "lut":
-        return node[1] if is_saw(node[2], low, size) else None
-    if node[0] == "sub" and has_quotient(node[1], node[2], low, size):
-        return node[1]
-    return None
+    is_inner = (
+        is_saw(node[2], low, size)
+        if node[0] == "lut"
+        else node[0] == "sub" and has_quotient(node[1], node[2], low, size)
+    )
+    inner: Optional[Node] = node[1] if is_inner else None
+    return inner
 
 
-def is_saw(points, low, size):
+def is_saw(points: Points, low: int, size: int) -> bool:
     """Whether points are those of two teeth or more that each rise over a turn from the lowest number to the highest.
     One alone holds values at its ends."""
     first = points[0][0]
@@ -54,7 +63,7 @@ def is_saw(points, low, size):
     return len(teeth) > 2 and (first - low) % size == 0 and list(points) == teeth
 
 
-def has_quotient(value, taken, low, size):
+def has_quotient(value: Node, taken: Node, low: int, size: int) -> bool:
     """Whether what is taken from a value are the whole turns by which it is above its range."""
     if taken[0] != "mul" or ("num", size) not in taken[1:]:
         return False
@@ -65,7 +74,7 @@ def has_quotient(value, taken, low, size):
     return terms == others and number - other == low
 
 
-def terms_of(node, sign=1):
+def terms_of(node: Node, sign: int = 1) -> tuple[Counter[Node], int]:
     """The terms of a sum, each with how often it is added, and the sum of its numbers."""
     kind = node[0]
     if kind == "num":
@@ -75,7 +84,7 @@ def terms_of(node, sign=1):
     parts = [terms_of(node[1], -sign if kind == "neg" else sign)]
     if kind != "neg":
         parts.append(terms_of(node[2], -sign if kind == "sub" else sign))
-    total = Counter()
+    total: Counter[Node] = Counter()
     for terms, _ in parts:
         for term, count in terms.items():
             total[term] += count

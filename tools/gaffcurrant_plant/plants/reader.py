@@ -1,11 +1,15 @@
 """Reads a plant text line by line, as the program does, and says in words why a line is refused."""
 
+from __future__ import annotations
+
 import difflib
 import re
+from typing import Iterable, Optional, Sequence, Sized
 
 from ..faults import Fault, Refused
 from . import expression
-from .plant import Plant
+from .kinds import Box, Input, Node, Noise, State
+from .plant import Plant, names_of
 
 TEXT_LIMIT = 65536
 MOST = {"state": 6, "input": 3, "noise": 6, "target": 64, "obstacle": 64}
@@ -25,26 +29,26 @@ FORMS = {
 }
 
 
-def too_long():
+def too_long() -> Refused:
     return Refused("limit: plant text", f"the text has more than {TEXT_LIMIT} bytes")
 
 
-def lines_of(data):
+def lines_of(data: bytes) -> list[str]:
     """The lines of a text, one character for each byte."""
     lines = data.decode("latin-1").split("\n")
     return lines if lines[-1] else lines[:-1]
 
 
-def words_of(line):
+def words_of(line: str) -> list[str]:
     return [word for word in re.split("[ \t\r]+", line) if word]
 
 
-def is_passed_over(line):
+def is_passed_over(line: str) -> bool:
     words = words_of(line)
     return not words or words[0].startswith("#")
 
 
-def number_of(word):
+def number_of(word: str) -> int:
     """The number that a word spells; else raises Fault."""
     if NUMBER.match(word):
         return int(word)
@@ -66,7 +70,7 @@ def number_of(word):
     raise Fault(wrong if wrong else f"`{word}` is no number")
 
 
-def odd_byte(word):
+def odd_byte(word: str) -> Optional[str]:
     """What to say of a byte that no word has, or None."""
     if "\xe2\x88\x92" in word or "\xe2\x80\x93" in word:
         return "a typographic minus or dash stands there; write the minus of the keyboard, `-`"
@@ -80,7 +84,7 @@ def odd_byte(word):
     return None
 
 
-def name_of(word, taken):
+def name_of(word: str, taken: Iterable[str]) -> str:
     """A new name; else raises Fault."""
     if word in NO_NAMES:
         raise Fault(f"`{word}` can't be a name")
@@ -97,18 +101,23 @@ def name_of(word, taken):
 class Draft:
     """The plant as far as the lines before spell it."""
 
-    def __init__(self):
-        self.plant = None
-        self.states, self.inputs, self.noises = [], [], []
-        self.equations, self.targets, self.obstacles = [], [], []
-        self.goal, self.ended = None, False
+    def __init__(self) -> None:
+        # The version, 0 before the first line.
+        self.plant = 0
+        self.states: list[State] = []
+        self.inputs: list[Input] = []
+        self.noises: list[Noise] = []
+        self.equations: list[Node] = []
+        self.targets: list[Box] = []
+        self.obstacles: list[Box] = []
+        self.goal, self.ended = "", False
 
-    def names(self):
-        return [entry[0] for entry in self.states + self.inputs + self.noises]
+    def names(self) -> list[str]:
+        return names_of(self.states, self.inputs, self.noises)
 
-    def due(self):
+    def due(self) -> list[str]:
         """The keywords that may come next."""
-        if self.plant is None:
+        if not self.plant:
             return ["plant"]
         if self.ended:
             return []
@@ -122,7 +131,7 @@ class Draft:
             return ["input", "noise", "next"]
         return ["state", "input", "noise", "next"] if self.states else ["state"]
 
-    def read(self, line):
+    def read(self, line: str) -> None:
         words = words_of(line)
         keyword, rest = words[0], words[1:]
         due = self.due()
@@ -130,7 +139,7 @@ class Draft:
             raise Fault(self.misplaced(keyword, line, due))
         getattr(self, "read_" + keyword)(rest)
 
-    def misplaced(self, keyword, line, due):
+    def misplaced(self, keyword: str, line: str, due: list[str]) -> str:
         if not due:
             return f"`{keyword}` stands behind the `end` line; only comments may follow it"
         if line.startswith("\xef\xbb\xbf"):
@@ -154,10 +163,10 @@ class Draft:
             return f"`{keyword}` is no keyword; is `{meant}` meant?"
         return f"`{keyword}` is no keyword; here {self.said(due)} may stand"
 
-    def said(self, due):
+    def said(self, due: Iterable[str]) -> str:
         return " or ".join(f"`{word}`" for word in due)
 
-    def out_of_order(self, keyword, due):
+    def out_of_order(self, keyword: str, due: list[str]) -> str:
         if due == ["next"]:
             missing = self.states[len(self.equations)][0]
             return f"the equation of {missing} is missing: `next {missing} = ..` is due before this line"
@@ -176,22 +185,22 @@ class Draft:
             return f"the equations are missing: `next {first} = ..` is due before `{keyword}`"
         return f"`{keyword}` comes too late: the order is state, input, noise, next, target and obstacle, goal, end"
 
-    def words(self, keyword, rest, count):
+    def words(self, keyword: str, rest: Sequence[str], count: int) -> None:
         if len(rest) != count:
             raise Fault(
                 f"`{FORMS[keyword]}` has {count} words behind `{keyword}`, here are {len(rest)}" + comment_in(rest)
             )
 
-    def room(self, keyword, entries):
+    def room(self, keyword: str, entries: Sized) -> None:
         if len(entries) >= MOST[keyword]:
             raise Fault(f"{MOST[keyword]} `{keyword}` lines are the most")
 
-    def read_plant(self, rest):
+    def read_plant(self, rest: list[str]) -> None:
         if rest not in (["1"], ["2"]):
             raise Fault("the version is 1 or 2: `plant 1` or `plant 2`")
         self.plant = int(rest[0])
 
-    def read_state(self, rest):
+    def read_state(self, rest: list[str]) -> None:
         self.room("state", self.states)
         self.words("state", rest, 4)
         name = name_of(rest[0], self.names())
@@ -211,7 +220,7 @@ class Draft:
             )
         self.states.append((name, low, high, width))
 
-    def read_input(self, rest):
+    def read_input(self, rest: list[str]) -> None:
         self.room("input", self.inputs)
         if len(rest) < 2:
             raise Fault("`input NAME V1 .. Vm` has a name and at least one value")
@@ -221,7 +230,7 @@ class Draft:
             raise Fault(f"{VALUES} values are the most of one input, here are {len(values)}")
         self.inputs.append((name, values))
 
-    def read_noise(self, rest):
+    def read_noise(self, rest: list[str]) -> None:
         self.room("noise", self.noises)
         self.words("noise", rest, 3)
         name = name_of(rest[0], self.names())
@@ -230,7 +239,7 @@ class Draft:
             raise Fault(f"the range is turned round: {low} is more than {high}")
         self.noises.append((name, low, high))
 
-    def read_next(self, rest):
+    def read_next(self, rest: list[str]) -> None:
         due = self.states[len(self.equations)][0]
         if len(rest) < 2 or rest[1] != "=":
             raise Fault(f"`next {due} = ..` has the `=` as a word of its own, blanks at both sides")
@@ -240,7 +249,7 @@ class Draft:
             raise Fault(f"`{rest[0]}` is no state; the equation of {due} is due")
         self.equations.append(expression.parse(rest[2:], self.names(), self.plant))
 
-    def read_box(self, keyword, rest, entries):
+    def read_box(self, keyword: str, rest: list[str], entries: list[Box]) -> None:
         self.room(keyword, entries)
         if len(rest) != 2 * len(self.states):
             names = " ".join(f"LO_{name} HI_{name}" for name, *_ in self.states)
@@ -254,13 +263,13 @@ class Draft:
                 raise Fault(f"the range of {name} is turned round: {low} is more than {high}")
         entries.append(box)
 
-    def read_target(self, rest):
+    def read_target(self, rest: list[str]) -> None:
         self.read_box("target", rest, self.targets)
 
-    def read_obstacle(self, rest):
+    def read_obstacle(self, rest: list[str]) -> None:
         self.read_box("obstacle", rest, self.obstacles)
 
-    def read_goal(self, rest):
+    def read_goal(self, rest: list[str]) -> None:
         if rest not in (["reach"], ["keep"]):
             raise Fault("the goal is `goal reach` or `goal keep`" + comment_in(rest))
         if rest == ["keep"] and self.targets:
@@ -270,23 +279,23 @@ class Draft:
             )
         self.goal = rest[0]
 
-    def read_end(self, rest):
+    def read_end(self, rest: list[str]) -> None:
         if rest:
             raise Fault("`end` stands alone in its line" + comment_in(rest))
         self.ended = True
 
-    def made(self):
+    def made(self) -> Plant:
         """The plant, once all lines were read."""
         return Plant(
             self.states, self.inputs, self.noises, self.equations, self.targets, self.obstacles, self.goal, self.plant
         )
 
 
-def comment_in(words):
+def comment_in(words: Iterable[str]) -> str:
     return "; a comment needs a line of its own" if any(word.startswith(("#", "//")) for word in words) else ""
 
 
-def read_plant(data):
+def read_plant(data: bytes) -> Plant:
     """The plant that the bytes spell, or raises Refused, by the order of refusals, an overflow included."""
     if len(data) > TEXT_LIMIT:
         raise too_long()
@@ -296,7 +305,7 @@ def read_plant(data):
     return plant
 
 
-def read_lines(lines):
+def read_lines(lines: Sequence[str]) -> Plant:
     """The plant that whole lines spell, limits aside, or raises Refused for the first line that doesn't fit."""
     draft = Draft()
     for number, line in enumerate(lines, 1):

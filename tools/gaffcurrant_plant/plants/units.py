@@ -6,13 +6,14 @@ from __future__ import annotations
 import math
 import re
 from fractions import Fraction
-from typing import TYPE_CHECKING, Any, Iterable, Optional, Sequence
+from typing import TYPE_CHECKING, Iterable, Optional, Sequence
 
 from ..command import read_bytes
 from ..faults import Fault, Trouble
 from ..models.polynomial import number_of
 
 if TYPE_CHECKING:
+    from ..models.kinds import Real
     from ..models.model import Model
     from .plant import Plant
 
@@ -36,9 +37,9 @@ class Units:
     def size(self, name: str) -> Fraction:
         return self.sizes.get(name, Fraction(1))
 
-    def value(self, name: str, whole: Any) -> Any:
+    def value(self, name: str, whole: Real) -> float:
         """A whole number in the model's units, as a number for a picture."""
-        return float(whole * self.size(name)) if self.sizes else whole
+        return float(whole * self.size(name))
 
     def whole(self, name: str, word: str) -> int:
         """The whole number of a value that a word gives in the model's units: that of the unit it lies in."""
@@ -54,7 +55,7 @@ class Units:
         """What stands behind a number: a blank and the unit's word, or nothing."""
         return f" {self.words[name]}" if self.words.get(name) else ""
 
-    def size_said(self, name: str, whole: Any) -> str:
+    def size_said(self, name: str, whole: Real) -> str:
         """A width or a way of so many whole numbers: `0.5 m`."""
         return short(whole * self.size(name)) + self.word(name)
 
@@ -75,7 +76,7 @@ class Units:
         """A name with what its unit is called: `v in m/s`."""
         return f"{name} in {self.words[name]}" if self.words.get(name) else name
 
-    def said(self, name: str, whole: Any) -> str:
+    def said(self, name: str, whole: Real) -> str:
         """A value in words: `v = 0.6 m/s`."""
         return f"{name} = {short(whole * self.size(name))}{self.word(name)}"
 
@@ -89,7 +90,7 @@ def units_of(model: Model) -> Units:
     )
 
 
-def short(value: Any) -> str:
+def short(value: Real) -> str:
     """A fraction as a decimal number, of six digits where it isn't short."""
     said = decimal(value)
     return said if len(said) <= 12 else f"{float(value):.6g}"
@@ -101,7 +102,7 @@ MODEL_HELP = (
 )
 
 
-def units_for(path: Optional[str], plant: Any) -> Units:
+def units_for(path: Optional[str], plant: Plant) -> Units:
     """The units of a plant by the file that --model names, none without one; raises Trouble where it is of another
     plant."""
     if path is None:
@@ -146,18 +147,18 @@ def outside_said(plant: Plant, state: Sequence[int], units: Units) -> Optional[s
     return ", ".join(out) + told if out else None
 
 
-def decimal(value: Any) -> str:
+def decimal(value: Real) -> str:
     """A fraction whose denominator divides a power of ten, as a decimal number; others to twelve digits."""
-    value = Fraction(value)
+    exact = Fraction(value)
     for places in range(41):
-        if (value * 10**places).denominator == 1:
-            digits = f"{abs(value.numerator * 10 ** places // value.denominator):0{places + 1}d}"
+        if (exact * 10**places).denominator == 1:
+            digits = f"{abs(exact.numerator * 10 ** places // exact.denominator):0{places + 1}d}"
             said = digits[:-places] + "." + digits[-places:] if places else digits
-            return "-" * (value < 0) + said
-    return f"{float(value):.12g}"
+            return "-" * (exact < 0) + said
+    return f"{float(exact):.12g}"
 
 
-def exactly(value: Any) -> str:
+def exactly(value: Real) -> str:
     """A fraction as a decimal number where that ends, else as numerator and denominator, `2/875`."""
     said = decimal(value)
     return said if Fraction(said) == value else str(Fraction(value))

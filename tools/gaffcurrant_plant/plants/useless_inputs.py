@@ -1,8 +1,18 @@
 """Input vectors without which the same cells are won with the same ranks, or the same are kept. Needs numpy."""
 
+from __future__ import annotations
+
+from typing import TYPE_CHECKING, Sequence
+
 import numpy
 
+from .array_kinds import Flags, Wholes
 from .batch import cells_that_meet, cells_within
+from .kinds import Vector
+
+if TYPE_CHECKING:
+    from .batch import Batch
+    from .plant import Plant
 
 # So many vectors are compared with each other, at first on so many cells.
 COMPARED, TRIED = 256, 200
@@ -12,9 +22,11 @@ class Boxes:
     """The indices that the boxes under one input vector meet along each state, as arrays over the grid, of one index
     along states that the equation doesn't name."""
 
-    def __init__(self, batch, vector):
+    def __init__(self, batch: Batch, vector: Vector) -> None:
         plant, wide = batch.plant, len(batch.plant.counts)
-        values, self.extents, self.inside = [column[vector] for column in batch.values], [], numpy.array(True)
+        values = [column[vector] for column in batch.values]
+        self.extents: list[list[Wholes]] = []
+        self.inside: Flags = numpy.array(True)
         for i in range(wide):
             lows = [
                 low
@@ -29,7 +41,7 @@ class Boxes:
             )
             self.inside = self.inside & inside
 
-    def back(self, counts):
+    def back(self, counts: Sequence[int]) -> Flags:
         """Where a box holds its own cell."""
         own = numpy.array(True)
         for i, ((first, last), count) in enumerate(zip(self.extents, counts)):
@@ -37,7 +49,7 @@ class Boxes:
             own = own & (first <= index) & (index <= last)
         return own
 
-    def within(self, other):
+    def within(self, other: Boxes) -> Flags:
         """Where its boxes lie within those of another vector."""
         held = self.inside
         for (first, last), (least, most) in zip(self.extents, other.extents):
@@ -45,10 +57,10 @@ class Boxes:
         return held
 
 
-def useless(plant):
+def useless(plant: Plant) -> tuple[list[Vector], list[Vector]]:
     """The numbers of the vectors that never help: those that lead back into the cell or leave the domain everywhere,
     and those dominated by another one, whose boxes lie within theirs wherever they are enabled."""
-    batch = plant.batch()
+    batch = plant.arrays
     boxes = [Boxes(batch, vector) for vector in range(plant.vectors)]
     fixed = (cells_that_meet(plant, plant.obstacles) | cells_within(plant, plant.targets)).reshape(plant.counts)
     wanted = [box.inside & ~fixed for box in boxes]
@@ -59,7 +71,7 @@ def useless(plant):
     return idle, dominated(boxes, wanted, left) if len(left) <= COMPARED else []
 
 
-def dominated(boxes, wanted, left):
+def dominated(boxes: Sequence[Boxes], wanted: Sequence[Flags], left: Sequence[Vector]) -> list[Vector]:
     """Those of some vectors of which another one that stays does at least as well at each cell where they may help."""
     gone = []
     for vector in left:
@@ -74,7 +86,7 @@ def dominated(boxes, wanted, left):
     return gone
 
 
-def does_at(boxes, vector, other, cells):
+def does_at(boxes: Sequence[Boxes], vector: Vector, other: Vector, cells: tuple[Wholes, ...]) -> bool:
     """Whether the boxes of another vector lie within at some cells."""
     return all(
         numpy.all(at(first, cells) <= at(start, cells)) and numpy.all(at(end, cells) <= at(last, cells))
@@ -82,6 +94,8 @@ def does_at(boxes, vector, other, cells):
     )
 
 
-def at(array, cells):
+def at(array: Wholes, cells: tuple[Wholes, ...]) -> Wholes:
     """What an array over the grid has at some cells."""
-    return array[tuple(indices if size > 1 else numpy.zeros_like(indices) for indices, size in zip(cells, array.shape))]
+    held = tuple(indices if size > 1 else numpy.zeros_like(indices) for indices, size in zip(cells, array.shape))
+    found: Wholes = array[held]
+    return found

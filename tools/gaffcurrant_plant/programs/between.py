@@ -1,15 +1,23 @@
 """Lists the cells from which the way of a sample may touch an obstacle of the model, or leave its domain, between two \
 samples."""
 
+from __future__ import annotations
+
 import argparse
 from collections import Counter
 from functools import partial
+from typing import TYPE_CHECKING, Iterator, Optional, Sequence
 
 from ..command import Arguments, need, read_bytes, start
 from ..faults import Refused, Trouble
 from ..models.agreement import check_model, model_at
 from ..plants.units import units_of
 from ..progress import Progress
+
+if TYPE_CHECKING:
+    from ..plants.array_kinds import Flags
+    from ..texts.arrays import Cells
+    from ..ways.enclosure import Touch, Walls
 
 # Cells of each kind, and inputs of a wall, that are listed.
 LISTED, INPUTS = 20, 4
@@ -32,7 +40,7 @@ Status 0: no way touches; 1: some may, or the text or the model can't be read; 2
 """
 
 
-def main(arguments):
+def main(arguments: list[str]) -> int:
     parser = Arguments(
         prog="between", description=__doc__, epilog=FORMAT, formatter_class=argparse.RawDescriptionHelpFormatter
     )
@@ -46,8 +54,8 @@ def main(arguments):
 
     model = model_at(given.model)
     try:
-        turns = Turns(read_bytes(given.text))
-        turns = [turns.cells(turn) for turn in range(turns.count)]
+        read = Turns(read_bytes(given.text))
+        turns = [read.cells(turn) for turn in range(read.count)]
     except Refused as refusal:
         raise Trouble(f"{given.text}: {refusal.answer}: {refusal.reason}") from None
     if not turns:
@@ -65,11 +73,11 @@ def main(arguments):
 class Said:
     """What is said of touching ways: the obstacles first, and behind them the bounds of the domain."""
 
-    def __init__(self, walls, turns, found):
+    def __init__(self, walls: Walls, turns: Sequence[Cells], found: Sequence[Touch]) -> None:
         self.walls, self.turns, self.found, self.plant = walls, turns, found, turns[0].plant
         self.obstacles = len(walls.boxes)
 
-    def lines(self, most):
+    def lines(self, most: Optional[int]) -> Iterator[str]:
         """All lines, with at most so many cells of each kind, or with all of them."""
         at_obstacles = [touch.walls[: self.obstacles].any(axis=0) for touch in self.found]
         at_bounds = [touch.walls[self.obstacles :].any(axis=0) for touch in self.found]
@@ -92,7 +100,7 @@ class Said:
             most,
         )
 
-    def wall_said(self, wall):
+    def wall_said(self, wall: int) -> Optional[str]:
         """How many ways may touch a wall, and under which inputs; None where none may."""
         inputs = [cells.inputs[touch.cells[touch.walls[wall]]].tolist() for touch, cells in zip(self.found, self.turns)]
         under = Counter(vector for some in inputs for vector in some)
@@ -102,7 +110,7 @@ class Said:
         more = f"; and {len(under) - INPUTS} more" if len(under) > INPUTS else ""
         return f"{self.walls.said(wall)}: the ways of {sum(under.values())} ({said}{more})" if under else None
 
-    def cell_lines(self, what, chosen, most):
+    def cell_lines(self, what: str, chosen: Sequence[Flags], most: Optional[int]) -> Iterator[str]:
         """The cells of one kind, chosen by an array for each turn."""
         pairs = [(touch, int(k)) for touch, mine in zip(self.found, chosen) for k in mine.nonzero()[0]]
         if pairs:
@@ -111,7 +119,7 @@ class Said:
         if most is not None and len(pairs) > most:
             yield f"  and {len(pairs) - most} more; --all lists them"
 
-    def cell_said(self, touch, k):
+    def cell_said(self, touch: Touch, k: int) -> str:
         cells, cell = self.turns[touch.turn], int(touch.cells[k])
         what = (
             ", ".join(self.walls.name(int(wall)) for wall in touch.walls[:, k].nonzero()[0]) or "no enclosure was found"

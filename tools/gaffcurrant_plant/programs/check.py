@@ -1,6 +1,8 @@
 """Says whether a stay text or a patrol text is the one of its plant, by solving it again; of a table what the program's
 `check` says."""
 
+from __future__ import annotations
+
 import subprocess
 from functools import partial
 
@@ -8,10 +10,10 @@ from ..command import Arguments, read_bytes, start
 from ..faults import Refused, Trouble
 from ..progress import Progress
 from ..texts.solver import program, written
-from ..texts.table import read_text
+from ..texts.table import Text, parts_of, read_text
 
 
-def check_table(data, path):
+def check_table(data: bytes, path: str) -> str:
     """The program's `check` of a table."""
     done = subprocess.run([program(), "check"], input=data, capture_output=True, check=False)
     if done.returncode:
@@ -23,26 +25,22 @@ def check_table(data, path):
     return done.stdout.decode()
 
 
-def check_text(text, data, workers):
+def check_text(text: Text, data: bytes, workers: int) -> str:
     """Whether a stay or a patrol text is what the program writes of its plant; raises Trouble with the first cell that
     differs."""
     right = written(text.kind, text.plant.text(), workers)
     if right == data:
         return "valid\n"
     other = read_text(right)
-    parts = (
-        [("", text, other)]
-        if text.kind == "stay"
-        else [(f"turn {k} ", *turns) for k, turns in enumerate(zip(text.turns, other.turns))]
-    )
-    for turn, given, due in parts:
+    for number, (given, due) in enumerate(zip(parts_of(text), parts_of(other))):
+        turn = f"turn {number} " if text.kind == "patrol" else ""
         wrong = [cell for cell in given.rows.keys() | due.rows.keys() if given.rows.get(cell) != due.rows.get(cell)]
         if wrong:
             raise Trouble(f"invalid: {turn}cell {min(wrong)}")
     raise Trouble("invalid: the rows are right, and the plant isn't written as the program writes it")
 
 
-def main(arguments):
+def main(arguments: list[str]) -> None:
     parser = Arguments(
         prog="check",
         description=__doc__,

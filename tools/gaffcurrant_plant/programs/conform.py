@@ -1,14 +1,23 @@
 """Says which steps of a measured log a plant's equations explain, and which ranges of disturbances the log needs."""
 
+from __future__ import annotations
+
 import argparse
 import re
 from fractions import Fraction
 from functools import partial
+from typing import TYPE_CHECKING, Iterable, Optional, Sequence
 
 from ..command import Arguments, check_there, prefer, read_bytes, start
 from ..faults import Refused, Trouble
 from ..plants.reader import read_plant
 from ..progress import Progress
+
+if TYPE_CHECKING:
+    from ..models.kinds import Real
+    from ..plants.array_kinds import Flags, Wholes
+    from ..plants.plant import Plant
+    from ..texts.table import Text
 
 WORST = 10
 FORMAT = """
@@ -36,7 +45,7 @@ followed; 1: they aren't, or a file can't be read; 2: wrong words.
 """
 
 
-def main(arguments):
+def main(arguments: list[str]) -> int:
     parser = Arguments(
         prog="conform", description=__doc__, epilog=FORMAT, formatter_class=argparse.RawDescriptionHelpFormatter
     )
@@ -71,7 +80,7 @@ def main(arguments):
     return Run(given, data).told()
 
 
-def is_of_functions(data):
+def is_of_functions(data: bytes) -> bool:
     """Whether a text is a model that needs mpmath."""
     from ..models.agreement import is_plant_text
     from ..models.best_plant import needs_mpmath
@@ -87,7 +96,7 @@ def is_of_functions(data):
 class Run:
     """One call: the plant, the log, and what is said of them."""
 
-    def __init__(self, given, data):
+    def __init__(self, given: argparse.Namespace, data: bytes) -> None:
         from ..measured.conformity import conform
         from ..measured.logs import read_log
 
@@ -95,12 +104,12 @@ class Run:
         self.plant, self.sample = plant_of(given.model, self.data)
         self.text = text_of(given, self.plant)
         with self.progress.during("reading the log"):
-            names = ([entry[0] for entry in entries] for entries in (self.plant.states, self.plant.inputs))
-            log = read_log(read_bytes(given.log), *names, self.plant.units, given.log)
+            states, inputs = [state[0] for state in self.plant.states], [name for name, _ in self.plant.inputs]
+            log = read_log(read_bytes(given.log), states, inputs, self.plant.units, given.log)
         self.found = conform(self.plant, log, sample=self.sample, tell=self.progress.show)
         self.progress.end()
 
-    def told(self):
+    def told(self) -> int:
         """Prints what is found, writes what is asked for, and answers the status."""
         from ..measured.diagnosis import diagnosed
 
@@ -111,7 +120,7 @@ class Run:
         for part in (self.counts(), self.ranges() if found.steps.size else [], self.worst(), self.mistakes(mistakes)):
             print("\n".join(part)) if part else None
         if self.text is not None:
-            lines, is_broken = self.promises()
+            lines, is_broken = self.promises(self.text)
             print("\n".join(lines))
             status = status or int(is_broken)
         if self.given.output:
@@ -120,7 +129,7 @@ class Run:
             self.write()
         return status
 
-    def counts(self):
+    def counts(self) -> list[str]:
         found, log = self.found, self.found.log
         count, runs = found.steps.size, log.runs()
         spaced = f", {found.sample:.6g} apart" if found.sample else ""
@@ -139,12 +148,12 @@ class Run:
             )
         return said
 
-    def ranges(self):
+    def ranges(self) -> list[str]:
         """The table of ranges: in whole units, and behind them in the model's."""
         from ..measured.conformity import SHARES
 
         found, units = self.found, self.plant.units
-        columns = [found.stated(), *map(found.ranges, SHARES)]
+        columns = [found.stated(), *(found.ranges(share) for share in SHARES)]
         rows = [["beside the equation of", "stated", "all steps need", "99.9 per cent", "99 per cent"]]
         for state, *ends in zip(self.plant.states, *columns):
             name = state[0]
@@ -158,7 +167,7 @@ class Run:
             "A promise rests on the outermost disturbance that will ever come, and a log shows only what has come."
         ]
 
-    def worst(self):
+    def worst(self) -> list[str]:
         """The steps that lie farthest beyond the ranges."""
         found, lines = self.found, []
         for at in found.worst(WORST):
@@ -170,29 +179,23 @@ class Run:
             lines.append(f"  line {found.log.lines[sample]}: {', '.join(beyond)}; {self.step_said(sample)}")
         return ["", "farthest beyond the ranges, in whole units:", *lines] if lines else []
 
-    def step_said(self, at):
+    def step_said(self, at: int) -> str:
         """A step in the model's units."""
         log = self.found.log
-        states, inputs = ([entry[0] for entry in entries] for entries in (self.plant.states, self.plant.inputs))
-        before, after = (
-            ", ".join(f"{name} = {value:.6g}" for name, value in zip(names, values))
-            for names, values in (
-                (states + inputs, [*log.states[:, at], *log.inputs[:, at]]),
-                (states, log.states[:, at + 1]),
-            )
-        )
-        return f"{before} led to {after}"
+        states, inputs = [state[0] for state in self.plant.states], [name for name, _ in self.plant.inputs]
+        before = zip(states + inputs, [*log.states[:, at], *log.inputs[:, at]])
+        return f"{values_said(before)} led to {values_said(zip(states, log.states[:, at + 1]))}"
 
     @staticmethod
-    def mistakes(mistakes):
+    def mistakes(mistakes: Sequence[str]) -> list[str]:
         return ["", "what it looks like:", *(f"  {one}" for one in mistakes)] if mistakes else []
 
-    def promises(self):
+    def promises(self, text: Text) -> tuple[list[str], bool]:
         """What the text's promises came to, and whether one was broken at a step that is followed."""
         from ..measured.promises import promises_of
 
         found = self.found
-        promises = promises_of(found, self.text, self.given.turn or 0)
+        promises = promises_of(found, text, self.given.turn or 0)
         broken = promises.broken
         faults, good = broken & (found.followed | found.explained), promises.applied & ~broken & ~found.followed
         applied, broke, wrong, kept = (int(some.sum()) for some in (promises.applied, broken, faults, good))
@@ -207,11 +210,11 @@ class Run:
         said.append(f"  at {kept} steps that aren't followed the promise was kept all the same")
         return said, wrong > 0
 
-    def lines_at(self, chosen):
+    def lines_at(self, chosen: Flags) -> str:
         """The first lines of some steps, in words."""
         return lines_said(self.found.log.lines[self.found.steps[chosen]])
 
-    def draw(self):
+    def draw(self) -> None:
         import matplotlib
 
         matplotlib.use("Agg")
@@ -223,7 +226,7 @@ class Run:
             draw_residuals(figure, self.found)
             figure.savefig(self.given.output, dpi=110)
 
-    def write(self):
+    def write(self) -> None:
         from ..measured.ranges import with_ranges
 
         with self.progress.during("finding ranges"):
@@ -232,7 +235,11 @@ class Run:
             file.write(text)
 
 
-def plant_of(path, data):
+def values_said(values: Iterable[tuple[str, float]]) -> str:
+    return ", ".join(f"{name} = {value:.6g}" for name, value in values)
+
+
+def plant_of(path: str, data: bytes) -> tuple[Plant, Optional[float]]:
     """The plant of a model or of a plant text, with its units, and the sampling time where it is known."""
     from ..models.best_plant import planted
     from ..models.agreement import is_plant_text
@@ -257,30 +264,30 @@ def plant_of(path, data):
     return plant, float(Fraction(sampled[1].decode())) if sampled else None
 
 
-def text_of(given, plant):
+def text_of(given: argparse.Namespace, plant: Plant) -> Optional[Text]:
     """The text of --table, of this plant; None without it."""
     if given.table is None:
         return None
     from ..models.agreement import check_variables
-    from ..texts.table import read_text
+    from ..texts.table import parts_of, read_text
 
     try:
         text = read_text(read_bytes(given.table))
     except Refused as refusal:
         raise Trouble(f"{given.table}: {refusal.answer}: {refusal.reason}") from None
     check_variables(given.model, "model", plant.states, plant.inputs, text.plant)
-    if not 0 <= (given.turn or 0) < (len(text.turns) if text.kind == "patrol" else 1):
+    if not 0 <= (given.turn or 0) < len(parts_of(text)):
         raise Trouble("--turn is a turn of a patrol text, from 0", 2)
     return text
 
 
-def lines_said(lines):
+def lines_said(lines: Wholes) -> str:
     """The first line numbers of an array, in words."""
     first = lines[:4].tolist()
     return f"line{'s' * (len(first) > 1)} {', '.join(map(str, first))}" + " .." * (lines.size > 4)
 
 
-def percent(part, whole):
+def percent(part: int, whole: int) -> str:
     """A share in words, which says 100 only of all and 0 only of none."""
     share = 100 * part / whole
     if share in (0, 100) or 0.01 <= share <= 99.99:
@@ -288,7 +295,7 @@ def percent(part, whole):
     return "less than 0.01 per cent" if share < 1 else "more than 99.99 per cent"
 
 
-def short(value):
+def short(value: Real) -> str:
     from ..plants.units import short as shortened
 
     return shortened(value)

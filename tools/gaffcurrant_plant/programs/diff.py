@@ -1,34 +1,40 @@
 """Compares two tables, stay texts or patrol texts over one grid: which cells are won or kept by one and not by the
 other, their ranks and their inputs; patrols turn by turn."""
 
+from __future__ import annotations
 
+
+from argparse import Namespace
 from functools import partial
+from typing import Sequence
 
 from ..command import Arguments, read_bytes, start
 from ..faults import Refused, Trouble
+from ..plants.kinds import Cell
+from ..plants.plant import Plant
 from ..plants.units import MODEL_HELP, units_for
 from ..progress import Progress
-from ..texts.table import read_text
+from ..texts.table import Table, Text, parts_of, read_text
 
 SHOWN = 6
 
 
-def text_of(path):
+def text_of(path: str) -> Text:
     try:
         return read_text(read_bytes(path))
     except Refused as refusal:
         raise Trouble(f"{path}: {refusal.answer}: {refusal.reason}") from None
 
 
-def cells_said(plant, cells):
+def cells_said(plant: Plant, cells: Sequence[Cell]) -> list[str]:
     return [f"  {plant.cell_said(cell)}" for cell in cells[:SHOWN]] + [f"  and {len(cells) - SHOWN} more"] * (
         len(cells) > SHOWN
     )
 
 
-def pairs_of(one, other):
+def pairs_of(one: Text, other: Text) -> list[tuple[str, Table, Table]]:
     """The tables to compare, each with a line before: of two patrols those of each turn."""
-    if "patrol" not in (one.kind, other.kind):
+    if one.kind != "patrol" and other.kind != "patrol":
         kinds = f"a {one.kind} and a {other.kind}: " if one.kind != other.kind else ""
         return [(kinds, one, other)]
     if one.kind != other.kind:
@@ -36,12 +42,13 @@ def pairs_of(one, other):
             "a patrol text is compared with a patrol text alone, and not with a "
             f"{other.kind if one.kind == 'patrol' else one.kind}"
         )
-    if len(one.turns) != len(other.turns):
-        raise Trouble(f"the patrols have {len(one.turns)} and {len(other.turns)} turns")
-    return [(f"turn {number}: ", *turns) for number, turns in enumerate(zip(one.turns, other.turns))]
+    turns, others = parts_of(one), parts_of(other)
+    if len(turns) != len(others):
+        raise Trouble(f"the patrols have {len(turns)} and {len(others)} turns")
+    return [(f"turn {number}: ", *pair) for number, pair in enumerate(zip(turns, others))]
 
 
-def compared(one, other):
+def compared(one: Table, other: Table) -> list[str]:
     """What differs, in lines."""
     lines = [f"{one.plant.cells} cells; rows: {len(one.rows)} and {len(other.rows)}"]
     for word, first, second in (("first", one, other), ("second", other, one)):
@@ -52,14 +59,14 @@ def compared(one, other):
     return lines + ranks_compared(one, other, both) + inputs_compared(one, other, both)
 
 
-def ranks_compared(one, other, both):
+def ranks_compared(one: Table, other: Table, both: Sequence[Cell]) -> list[str]:
     if not one.plant.goal == other.plant.goal == "reach":
         return []
-    steps = [one.rows[cell][0] - other.rows[cell][0] for cell in both]
+    steps = [(one.left(cell) or 0) - (other.left(cell) or 0) for cell in both]
     less, more = [step for step in steps if step < 0], [step for step in steps if step > 0]
     by = [
-        f" (by up to {max(map(abs, part))}, {sum(map(abs, part)) / len(part):.3g} on the average)" if part else ""
-        for part in (less, more)
+        f" (by up to {max(part)}, {sum(part) / len(part):.3g} on the average)" if part else ""
+        for part in ([-step for step in less], more)
     ]
     return [
         f"ranks in both: {len(both)}; the same at {len(both) - len(less) - len(more)}, lesser in the first at "
@@ -67,13 +74,13 @@ def ranks_compared(one, other, both):
     ]
 
 
-def inputs_compared(one, other, both):
+def inputs_compared(one: Table, other: Table, both: Sequence[Cell]) -> list[str]:
     if one.plant.inputs != other.plant.inputs:
         return ["the inputs of the plants differ"]
     return [f"other inputs in both: {sum(one.rows[cell][1] != other.rows[cell][1] for cell in both)}"]
 
 
-def main(arguments):
+def main(arguments: list[str]) -> None:
     parser = Arguments(
         prog="diff",
         description=__doc__,
@@ -90,15 +97,15 @@ def main(arguments):
     print("\n".join(lines))
 
 
-def lines_of(given):
+def lines_of(given: Namespace) -> list[str]:
     """What is said of two texts."""
     one, other = map(text_of, given.tables)
     if one.plant.states != other.plant.states:
         raise Trouble("the tables have no grid in common: their `state` lines differ")
     one.plant.units = units_for(given.model, one.plant)
-    lines = []
-    for head, *pair in pairs_of(one, other):
-        first, *rest = compared(*pair)
+    lines: list[str] = []
+    for head, first_table, second_table in pairs_of(one, other):
+        first, *rest = compared(first_table, second_table)
         lines += (
             [head + first]
             + ([plants_said(one.plant, other.plant)] if not lines and one.plant.text() != other.plant.text() else [])
@@ -107,7 +114,7 @@ def lines_of(given):
     return lines
 
 
-def plants_said(one, other):
+def plants_said(one: Plant, other: Plant) -> str:
     return "the plants differ" + (f": goal {one.goal} and goal {other.goal}" if one.goal != other.goal else "")
 
 

@@ -1,9 +1,13 @@
 """Writes a table, a stay text or a patrol text for a device: as a C header of constant arrays for the few lines of
 examples/device/control.c, as structured text of IEC 61131-3, or as a function file of MATLAB."""
 
+from __future__ import annotations
+
 import re
 import zlib
+from argparse import Namespace
 from functools import partial
+from typing import Optional
 
 from ..command import Arguments, prefer, read_bytes, start
 from ..devices.c_header import Header
@@ -12,13 +16,14 @@ from ..devices.matlab import function_file
 from ..devices.structured_text import function_block
 from ..faults import Refused, Trouble
 from ..models.agreement import check_units
-from ..plants.units import read_units
-from ..texts.table import read_text
+from ..plants.plant import Plant
+from ..plants.units import Units, read_units
+from ..texts.table import Text, parts_of, read_text
 
 PREFIX = re.compile(r"[A-Za-z][A-Za-z0-9_]{0,30}\Z")
 
 
-def main(arguments):
+def main(arguments: list[str]) -> None:
     parser = Arguments(
         prog="header",
         description=__doc__,
@@ -67,26 +72,26 @@ def main(arguments):
         text = read_text(data)
     except Refused as refusal:
         raise Trouble(f"{given.table}: {refusal.answer}: {refusal.reason}") from None
-    if text.kind == "patrol" and not text.turns:
+    if not parts_of(text):
         raise Trouble(f"{given.table}: the patrol has no target, so there is nothing to apply")
     units, given.exact = units_of(given.model, text.plant) if given.model is not None else (None, ())
     write = function_block if given.st else function_file if given.matlab else header
     print("\n".join(write(text, Codes(text), zlib.crc32(data), given, units)))
 
 
-def check_arguments(given):
+def check_arguments(given: Namespace) -> None:
     if given.prefix and not PREFIX.match(given.prefix):
         raise Trouble("--prefix takes a letter, then letters, digits and `_`, at most 31", 2)
 
 
-def units_of(path, plant):
+def units_of(path: str, plant: Plant) -> tuple[Units, set[str]]:
     """The units and the exact states of a model or of a plant text by tools/scale, which has to be the table's own."""
     data = read_bytes(path)
     units = read_units(path, data)
     return units, check_units(path, data, plant)
 
 
-def header(text, codes, checksum, given, units):
+def header(text: Text, codes: Codes, checksum: int, given: Namespace, units: Optional[Units]) -> list[str]:
     return Header(text, codes, checksum, given.prefix, given.runs, given.ranks, units, given.exact).lines()
 
 

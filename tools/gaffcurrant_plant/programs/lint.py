@@ -1,15 +1,19 @@
 """Says why a plant text is refused, and what of it is accepted in silence and hardly meant."""
 
+from __future__ import annotations
+
 import itertools
 import math
 import random
 from functools import partial
+from typing import Callable, Iterable, Iterator, Optional, Sequence
 
 from ..command import Arguments, prefer, read_bytes, start
 from ..faults import Overflow, Refused
 from ..models.agreement import EXACT
 from ..plants.bounds import bounds_of, value_at
 from ..plants.expression import parts_of, text_of, walk
+from ..plants.kinds import Cell, Corners, Interval, Node, State, Vector
 from ..plants.plant import EDGES, Plant
 from ..plants.reader import read_plant
 from ..plants.units import COMMENT, read_units, short
@@ -22,28 +26,30 @@ MODEL_WORDS = ("version", "denominator", "pieces", "sample", "order", "steps")
 SAMPLE, EDGE_SAMPLE, BARE_SAMPLE, NAMED_INPUTS, COUNTED_PAIRS = 2000, 200, 12, 8, 50_000
 
 
-def constant(node):
+def constant(node: Node) -> Optional[int]:
     """The value of an expression without variables, or None."""
     if node[0] == "num":
-        return node[1]
-    values = [constant(part) for part in parts_of(node)]
-    if node[0] == "var" or None in values:
+        return int(node[1])
+    parts = parts_of(node)
+    values = [value for value in map(constant, parts) if value is not None]
+    if node[0] == "var" or len(values) < len(parts):
         return None
     first = values[0]
-    return {
+    made: dict[str, Callable[[], int]] = {
         "neg": lambda: -first,
         "abs": lambda: abs(first),
-        "div": lambda: first // node[2],
+        "div": lambda: first // int(node[2]),
         "add": lambda: first + values[1],
         "sub": lambda: first - values[1],
         "mul": lambda: first * values[1],
         "min": lambda: min(values),
         "max": lambda: max(values),
         "lut": lambda: value_at(node[2], first),
-    }[node[0]]()
+    }
+    return made[node[0]]()
 
 
-def quotients(plant):
+def quotients(plant: Plant) -> Iterator[str]:
     """Quotients of numbers alone that lose their remainder, and quotients that are multiplied afterwards."""
     names = plant.names()
     for (name, *_), equation in zip(plant.states, plant.equations):
@@ -57,7 +63,7 @@ def quotients(plant):
                 yield f"equation of {name}: `{text_of(node, names)}` {ROUNDED}; multiply first and divide last"
 
 
-def magnifies(plant, quotient, factor):
+def magnifies(plant: Plant, quotient: Node, factor: Node) -> bool:
     """Whether a product enlarges what a quotient of variables has rounded. `x / 5 * 5` is left alone: it is how a value
     is rounded to multiples, or wraps round."""
     if quotient[0] != "div" or constant(quotient) is not None or constant(factor) == quotient[2]:
@@ -69,7 +75,7 @@ def magnifies(plant, quotient, factor):
     return max(-low, high) > 1
 
 
-def repeats(plant):
+def repeats(plant: Plant) -> Iterator[str]:
     """Variables that stand more than once in an equation: each of these counts for the deviation."""
     names = plant.names()
     for (name, *_), uses in zip(plant.states, plant.rolled.uses):
@@ -81,12 +87,12 @@ def repeats(plant):
             )
 
 
-def radius_of(plant, variable):
+def radius_of(plant: Plant, variable: int) -> int:
     radii = plant.radii + [0] * len(plant.inputs) + [high - low for _, low, high in plant.noises]
     return radii[variable]
 
 
-def unused(plant):
+def unused(plant: Plant) -> Iterator[str]:
     used = {i for uses in plant.uses for i in uses}
     names = plant.names()
     for i, name in enumerate(names):
@@ -104,7 +110,7 @@ def unused(plant):
             yield f"the input {name} has a value more than once; only the first is ever chosen"
 
 
-def goals(plant):
+def goals(plant: Plant) -> Iterator[str]:
     """What the targets and obstacles leave to be won."""
     if plant.goal == "keep" and not plant.obstacles:
         yield "there is no obstacle: the plant is to be kept in the domain alone"
@@ -119,7 +125,7 @@ def goals(plant):
             yield f"target {number}: an obstacle meets each of its cells"
 
 
-def ill_fitting(ends, extent, state):
+def ill_fitting(ends: Interval, extent: Interval, state: State) -> Optional[str]:
     """What to say of a target's ends along a state between which no cells fit, or not up to the ends."""
     (low, high), (first, last), (name, least, most, width) = ends, extent, state
     if first > last:
@@ -133,7 +139,7 @@ def ill_fitting(ends, extent, state):
     return None
 
 
-def narrow_target(plant):
+def narrow_target(plant: Plant) -> Iterator[str]:
     """Whether the one target has fewer indices along a state than each sampled box: then nothing is won from
     outside."""
     met = indices_met(plant, min) if plant.goal == "reach" and len(plant.targets) == 1 else None
@@ -150,7 +156,7 @@ def narrow_target(plant):
             )
 
 
-def is_hidden(plant, fitting, most=4000):
+def is_hidden(plant: Plant, fitting: Sequence[Interval], most: int = 4000) -> bool:
     """Whether all cells of a block are obstacles; a large block isn't looked through."""
     cells = [0]
     for (first, last), count in zip(fitting, plant.counts):
@@ -160,7 +166,7 @@ def is_hidden(plant, fitting, most=4000):
     return all(plant.is_obstacle(cell) for cell in cells)
 
 
-def sampled(plant):
+def sampled(plant: Plant) -> Iterator[str]:
     """What a sample of the cells shows: whether inputs are enabled, and whether they lead out of the cell."""
     draws = random.Random(1)
     every = plant.cells <= SAMPLE
@@ -179,7 +185,7 @@ def sampled(plant):
         )
 
 
-def dead_and_stuck(plant, cells, vectors):
+def dead_and_stuck(plant: Plant, cells: Sequence[Cell], vectors: Sequence[Vector]) -> tuple[int, int]:
     """At how many cells each input leaves the domain, and at how many the others all may lead back into the cell."""
     boxes, dead, stuck = plant.boxes(cells, vectors), 0, 0
     for number, cell in enumerate(cells):
@@ -189,18 +195,18 @@ def dead_and_stuck(plant, cells, vectors):
     return dead, stuck
 
 
-def some_vectors(plant, draws, most):
+def some_vectors(plant: Plant, draws: random.Random, most: int) -> Sequence[Vector]:
     """All input vectors, or so many that are drawn."""
     vectors = range(plant.vectors)
     return vectors if plant.vectors <= most else sorted(draws.sample(vectors, most))
 
 
-def has_cell(plant, box, cell):
+def has_cell(plant: Plant, box: Corners, cell: Cell) -> bool:
     """Whether a box in the domain meets a cell."""
     return all(first <= index <= last for (first, last), index in zip(plant.extents(*box), plant.indices_of(cell)))
 
 
-def of_no_use(plant):
+def of_no_use(plant: Plant) -> Iterator[str]:
     """Input vectors without which the same would be won or kept."""
     if not plant.batch() or plant.vectors < 2:
         return
@@ -211,7 +217,7 @@ def of_no_use(plant):
         yield no_use_said(plant, idle, beaten)
 
 
-def no_use_said(plant, idle, beaten):
+def no_use_said(plant: Plant, idle: Sequence[Vector], beaten: Sequence[Vector]) -> str:
     """What to say of input vectors that lead nowhere, and of those that others do as well as."""
     reaches, count = plant.goal == "reach", len(idle) + len(beaten)
     leads = "back into the cell or out of the domain" if reaches else "out of the domain"
@@ -229,7 +235,7 @@ def no_use_said(plant, idle, beaten):
     )
 
 
-def vectors_said(plant, vectors):
+def vectors_said(plant: Plant, vectors: Sequence[Vector]) -> str:
     """Some input vectors in words: the values of each input that all of them have together, where they are all that
     have these; else the first ones."""
     shared = [{plant.vector(vector)[i] for vector in vectors} for i in range(len(plant.inputs))]
@@ -246,7 +252,7 @@ def vectors_said(plant, vectors):
     return "; ".join(map(plant.input_said, vectors[:3])) + more
 
 
-def growth(plant):
+def growth(plant: Plant) -> Iterator[str]:
     """The deviations beside half a cell, and how many indices a box meets: in version 2, where boxes may be less than
     the deviation makes them, those of sampled pairs too. Of a state that comes round both are those about the middle,
     wherever its range ends."""
@@ -263,21 +269,21 @@ def growth(plant):
         )
 
 
-def end_said(plant, equation, count):
+def end_said(plant: Plant, equation: int, count: int) -> str:
     """What boxes of a state meet that reach across the end of its range, where it comes round and they meet more than
     others."""
     is_wide = plant.rolled.equations[equation] is not plant.equations[equation] and most_across(plant, equation) > count
     return f", and all {plant.counts[equation]} across the range's end" if is_wide else ""
 
 
-def most_across(plant, equation):
+def most_across(plant: Plant, equation: int) -> int:
     """The most indices that sampled boxes meet along a state which comes round, those across its range's end among
     them."""
     extents = [plant.extents(*box)[equation] for box in plant.boxes(*sampled_pairs(plant)) if not plant.leaves(*box)]
     return max((last - first + 1 for first, last in extents), default=0)
 
 
-def indices_met(plant, end=max):
+def indices_met(plant: Plant, end: Callable[[Iterable[int]], int] = max) -> Optional[list[int]]:
     """The most indices, or the fewest, that boxes of sampled pairs in the domain meet along each state; None where
     there is no such box."""
     extents = [
@@ -286,7 +292,7 @@ def indices_met(plant, end=max):
     return [end(last - first + 1 for first, last in of_state) for of_state in zip(*extents)] or None
 
 
-def bare_steps(plant, exact):
+def bare_steps(plant: Plant, exact: set[str]) -> Iterator[str]:
     """States that are measured, without noise, and that an input moves by whole cells wherever they are."""
     vectors = some_vectors(plant, random.Random(2), EDGE_SAMPLE)
     centres = [plant.centre(cell) for cell in random.Random(4).choices(range(plant.cells), k=BARE_SAMPLE)]
@@ -295,7 +301,7 @@ def bare_steps(plant, exact):
         if width == 1 or name in exact or any(variable >= first_noise for variable in plant.uses[i]):
             continue
         ways = ((vector, way_everywhere(plant, i, vector, centres)) for vector in vectors)
-        vector, way = next(((vector, way) for vector, way in ways if way and way % width == 0), (None, None))
+        vector, way = next(((vector, way) for vector, way in ways if way and way % width == 0), (0, 0))
         if way:
             yield (
                 f"{name} has no noise, and moves by whole cells, by {plant.units.size_said(name, way)} under "
@@ -305,13 +311,13 @@ def bare_steps(plant, exact):
             )
 
 
-def way_everywhere(plant, i, vector, centres):
+def way_everywhere(plant: Plant, i: int, vector: Vector, centres: Sequence[Sequence[int]]) -> Optional[int]:
     """By how much an input vector moves a state from each of some centres; None where that isn't the same."""
     ways = {plant.rolled.step(centre, plant.vector(vector), plant.rest)[i] - centre[i] for centre in centres}
     return ways.pop() if len(ways) == 1 else None
 
 
-def thin_obstacles(plant):
+def thin_obstacles(plant: Plant) -> Iterator[str]:
     """Obstacles that a sampled step passes over along one state, seen at samples alone."""
     for i, ((name, least, most, _), way) in enumerate(zip(plant.states, longest_ways(plant))):
         ends = (box[i] for box in plant.obstacles)
@@ -326,7 +332,7 @@ def thin_obstacles(plant):
             )
 
 
-def longest_ways(plant):
+def longest_ways(plant: Plant) -> list[int]:
     """For each state how far a sample goes, at most, of those from sampled pairs."""
     ways = [0] * len(plant.states)
     cells, vectors = sampled_pairs(plant)
@@ -337,7 +343,7 @@ def longest_ways(plant):
     return ways
 
 
-def steps(plant):
+def steps(plant: Plant) -> Iterator[str]:
     """How far the inputs move the middles of sampled cells, beside the width of a cell; a state that comes round is
     counted on behind its range's end."""
     draws = random.Random(2)
@@ -349,14 +355,14 @@ def steps(plant):
         for vector in vectors
     }
     for i, (name, *_, width) in enumerate(plant.states):
-        ends = {}
+        ends: dict[Interval, list[Vector]] = {}
         for vector in vectors:
             moves = [middle[i] - centre[i] for middle, centre in zip(moved[vector], centres)]
             ends.setdefault((min(moves), max(moves)), []).append(vector)
         yield f"step of {name}: {steps_said(plant, name, ends)}; a cell is {plant.units.size_said(name, width)} wide"
 
 
-def steps_said(plant, name, ends):
+def steps_said(plant: Plant, name: str, ends: dict[Interval, list[Vector]]) -> str:
     if len(ends) == 1 or len(ends) > NAMED_INPUTS:
         return between(plant, name, min(low for low, _ in ends), max(high for _, high in ends))
     said = []
@@ -366,7 +372,7 @@ def steps_said(plant, name, ends):
     return "; ".join(said)
 
 
-def between(plant, name, low, high):
+def between(plant: Plant, name: str, low: int, high: int) -> str:
     """Numbers from one to another, in the plant's units."""
     unit = plant.units
     return (
@@ -374,7 +380,7 @@ def between(plant, name, low, high):
     )
 
 
-def sure_moves(plant):
+def sure_moves(plant: Plant) -> Iterator[str]:
     """With goal keep: the states in which no sampled input moves a cell for sure to one side. Nothing is regained there
     at an edge. A step grows with the sampling time, while what it has to exceed mostly grows less: so there is a
     shortest sampling time."""
@@ -382,7 +388,7 @@ def sure_moves(plant):
         return
     cells, vectors = sampled_pairs(plant)
     pairs = list(zip(itertools.product(cells, vectors), plant.boxes(cells, vectors)))
-    moves = {side: [sides_of(plant, *pair, *box, side) for pair, box in pairs] for side in (-1, 1)}
+    moves = {side: [sides_of(plant, cell, vector, box, side) for (cell, vector), box in pairs] for side in (-1, 1)}
     for i, (name, *_) in enumerate(plant.states):
         # What comes round has no edge.
         if plant.counts[i] == 1 or plant.periods[i]:
@@ -400,15 +406,16 @@ def sure_moves(plant):
                 )
 
 
-def sampled_pairs(plant):
+def sampled_pairs(plant: Plant) -> tuple[list[Cell], Sequence[Vector]]:
     """Cells and input vectors of which all pairs are a sample."""
     draws = random.Random(3)
     vectors = range(plant.vectors) if plant.vectors <= 32 else draws.sample(range(plant.vectors), 32)
     return [draws.randrange(plant.cells) for _ in range(EDGE_SAMPLE)], vectors
 
 
-def sides_of(plant, cell, vector, low, high, side):
+def sides_of(plant: Plant, cell: Cell, vector: Vector, box: Corners, side: int) -> list[tuple[int, int]]:
     """For each state the middle's step to a side, and the step with which the box would be beside the cell."""
+    low, high = box
     ends = zip(
         plant.step(plant.centre(cell), plant.vector(vector), plant.rest),
         plant.centre(cell),
@@ -425,7 +432,7 @@ def sides_of(plant, cell, vector, low, high, side):
     return moves
 
 
-def sizes(plant):
+def sizes(plant: Plant) -> Iterator[str]:
     total, exact = plant.edges()
     about = "" if exact else "about "
     share = 100 * total / EDGES
@@ -442,7 +449,7 @@ def sizes(plant):
     )
 
 
-def second_version(plant):
+def second_version(plant: Plant) -> Iterator[str]:
     """How many edges fewer a small plant of version 1 would have in version 2, where they are a twentieth or more."""
     if plant.version > 1 or plant.pairs > COUNTED_PAIRS:
         return
@@ -454,7 +461,7 @@ def second_version(plant):
         yield f"with `plant 2` as the first line the boxes would have {second} edges in place of {first}"
 
 
-def notes(plant):
+def notes(plant: Plant) -> Iterator[str]:
     for kind, part in (
         ("note", goals),
         ("note", narrow_target),
@@ -474,7 +481,7 @@ def notes(plant):
             yield f"{kind}: {said}"
 
 
-def other_text(data):
+def other_text(data: bytes) -> Optional[str]:
     """What a text is that is refused since it is no plant text, or nothing."""
     head = data[:40].split()[:1]
     if head in ([b"table"], [b"stay"], [b"patrol"]):
@@ -498,7 +505,7 @@ def other_text(data):
     return None
 
 
-def lint(data):
+def lint(data: bytes) -> tuple[list[str], bool]:
     """The lines to print, and whether the text is refused."""
     try:
         plant = read_plant(data)
@@ -512,7 +519,7 @@ def lint(data):
     return ["accepted", *edges_said(total), *notes_of(data, plant)], False
 
 
-def edges_said(total):
+def edges_said(total: int) -> Iterator[str]:
     """What to say of a sample's number of edges past the limit."""
     if total > EDGES:
         yield (
@@ -521,7 +528,7 @@ def edges_said(total):
         )
 
 
-def notes_of(data, plant):
+def notes_of(data: bytes, plant: Plant) -> Iterator[str]:
     """The notes on a text: on one by tools/scale without those on what its noise has in it."""
     exact = {name.decode() for name in EXACT.findall(data)}
     yield from (f"note: {said}" for said in bare_steps(plant, exact))
@@ -529,7 +536,7 @@ def notes_of(data, plant):
     yield from (note for note in dict.fromkeys(notes(plant)) if not (is_made and ROUNDED in note))
 
 
-def main(arguments):
+def main(arguments: list[str]) -> int:
     parser = Arguments(
         prog="lint",
         description=__doc__,

@@ -1,8 +1,11 @@
 """Makes one page of tables, stay texts and patrol texts, to be looked at in a browser: maps of cells, why cells have no
 row, and runs."""
 
+from __future__ import annotations
+
 from functools import partial
 from pathlib import Path
+from typing import Callable, Sequence
 
 from ..command import Arguments, read_bytes, start
 from ..faults import Refused, Trouble
@@ -20,9 +23,9 @@ difference; of more, the page chooses two. The part of its address behind `#` ke
 Status 0: the page was written; 1: a text or the model isn't readable, or they don't fit each other; 2: wrong words."""
 
 
-def texts_of(paths):
+def texts_of(paths: Sequence[str]) -> list[Text]:
     """The texts, each with a name of its own; raises Trouble."""
-    texts = []
+    texts: list[Text] = []
     for path, name in zip(paths, names_of(paths)):
         try:
             texts.append(Text(name, read_bytes(path)))
@@ -33,16 +36,17 @@ def texts_of(paths):
     return texts
 
 
-def names_of(paths):
+def names_of(paths: Sequence[str]) -> list[str]:
     """The files' names without their ends where these tell them apart, else more of the paths."""
-    for said in (lambda path: Path(path).stem, lambda path: Path(path).name, str):
+    spellings: tuple[Callable[[str], str], ...] = (lambda path: Path(path).stem, lambda path: Path(path).name, str)
+    for said in spellings:
         names = ["standard input" if path == "-" else said(path) for path in paths]
         if len(set(names)) == len(names):
             return names
     return [f"{name}, {number}" for number, name in enumerate(names, 1)]
 
 
-def main(arguments):
+def main(arguments: list[str]) -> None:
     parser = Arguments(prog="page", description=__doc__, epilog=FORMAT)
     parser.add_argument("texts", metavar="TEXT", nargs="+", help="a table, stay or patrol text, `-` for standard input")
     parser.add_argument("-o", "--output", metavar="FILE.html", required=True, help="the page")

@@ -1,27 +1,40 @@
 """Draws tables, stay texts and patrol texts: the cells of one to three states coloured by rank or by input, targets,
 obstacles, runs and successor boxes. Of a patrol text each turn has a panel."""
 
+from __future__ import annotations
+
 import logging
 import os
 import shutil
 import tempfile
 import warnings
+from argparse import Namespace
 from contextlib import contextmanager
 from functools import lru_cache, partial
 from pathlib import Path
+from typing import TYPE_CHECKING, Iterator, List, Optional, Sequence, Tuple
 
 from ..command import Arguments, need, read_bytes, start
 from ..faults import Refused, Trouble
-from ..plants.units import units_for
+from ..plants.kinds import Cell, Vector
+from ..plants.plant import Plant
+from ..plants.units import Units, units_for
 from ..progress import Progress
 
+if TYPE_CHECKING:
+    from ..pictures.artists import Artist, Axes, Figure, States
+    from ..pictures.view import View
+    from ..texts.arrays import Cells
+
+# The samples of a run by a patrol, each with its turn.
+Samples = List[Tuple[int, List[int]]]
 # More panels stand in two rows.
 IN_A_ROW = 3
 # Runs from each state, and samples of a run.
 MOST_RUNS, MOST_SAMPLES = 1000, 100_000
 
 
-def parser_of_arguments():
+def parser_of_arguments() -> Arguments:
     parser = Arguments(
         prog="picture",
         description=__doc__,
@@ -89,7 +102,7 @@ def parser_of_arguments():
     return parser
 
 
-def check_arguments(given):
+def check_arguments(given: Namespace) -> None:
     if not (given.output or given.animate):
         raise Trouble("give a picture's name by -o FILE.png, or a film's by --animate FILE.gif", 2)
     if given.output and not given.output.endswith((".png", ".svg")):
@@ -101,7 +114,7 @@ def check_arguments(given):
     check_numbers(given)
 
 
-def check_numbers(given):
+def check_numbers(given: Namespace) -> None:
     ranges = [(given.runs, 1, MOST_RUNS), (given.samples, 0, MOST_SAMPLES), (given.dpi, 20, 600)]
     if not all(low <= number <= high for number, low, high in [*ranges, *((size, 1, 40) for size in given.size)]):
         raise Trouble(
@@ -111,7 +124,7 @@ def check_numbers(given):
         )
 
 
-def load_matplotlib():
+def load_matplotlib() -> Optional[str]:
     """matplotlib; answers a folder that was made for its settings, or None."""
     room = room_for_settings()
     try:
@@ -127,7 +140,7 @@ def load_matplotlib():
     return room
 
 
-def room_for_settings():
+def room_for_settings() -> Optional[str]:
     """A new folder for matplotlib's settings where the one that it would take isn't there and can't be made; else
     None."""
     given = os.environ.get("MPLCONFIGDIR")
@@ -145,14 +158,12 @@ def room_for_settings():
     return None
 
 
-def runs_of(given, cells, view):
+def runs_of(given: Namespace, cells: Cells, view: View) -> list[States]:
     """The states of all runs and traces to draw."""
     from ..texts.loop import read_trace, run
 
     plant = cells.plant
-    if cells.kind == "patrol":
-        return patrol_runs_of(given, cells, view)
-    runs = []
+    runs: list[States] = []
     for path in given.trace:
         with named(path):
             runs.append(read_trace(read_bytes(path), plant))
@@ -163,7 +174,7 @@ def runs_of(given, cells, view):
     return runs
 
 
-def check_starts(given, panels):
+def check_starts(given: Namespace, panels: Sequence[Panel]) -> None:
     """Each start has a row in some panel, of a patrol in its first turn."""
     turn = given.from_turn or 0
     for panel in panels:
@@ -186,22 +197,23 @@ def check_starts(given, panels):
             )
 
 
-def seeds_of(given, plant):
+def seeds_of(given: Namespace, plant: Plant) -> Sequence[int]:
     return range(1, given.runs + 1) if plant.noises else [1]
 
 
-def asked(given, plant):
+def asked(given: Namespace, plant: Plant) -> int:
     """How many runs the words ask for."""
     return len(given.starts) * len(seeds_of(given, plant)) + len(given.trace)
 
 
-def patrol_runs_of(given, cells, view):
-    """The parts of the runs in the panel's turn; for a film whole runs, with their turns."""
-    from ..texts.loop import patrol_run, stretches
+def patrol_runs_of(given: Namespace, cells: Cells, view: View) -> list[Samples]:
+    """Whole runs by a patrol, with their turns."""
+    from ..texts.loop import patrol_run
 
     if given.trace:
         raise Trouble("--trace draws the traces of `sim`, which knows no patrols; give --from", 2)
-    plant, runs, begin_turn = cells.plant, [], given.from_turn or 0
+    plant, begin_turn = cells.plant, given.from_turn or 0
+    runs: list[Samples] = []
     for words in given.starts:
         begin = view.state(words, "--from")
         for seed in seeds_of(given, plant) if cells.of_turn(begin_turn).won[plant.cell_of(begin)] else []:
@@ -214,19 +226,21 @@ def patrol_runs_of(given, cells, view):
                 given.samples,
                 begin_turn,
             )
-            runs += [samples] if given.animate else stretches(samples, cells.turn)
+            runs.append(samples)
     return runs
 
 
-def boxes_of(given, view):
+def boxes_of(given: Namespace, view: View) -> tuple[Cell, Sequence[Vector]]:
     """The cell and the input vectors of the successor boxes to draw."""
     plant = view.plant
     cell = plant.cell_of(view.state(given.boxes, "--boxes"))
+    if cell is None:
+        raise Trouble("--boxes: the state is outside the domain")
     _, vector = inputs_asked(given, plant)
     return cell, range(plant.vectors) if vector is None else [vector]
 
 
-def inputs_asked(given, plant):
+def inputs_asked(given: Namespace, plant: Plant) -> tuple[Optional[int], Optional[Vector]]:
     """The number of the input by which is to be coloured, and that of the vector whose box is to be drawn, each None
     where it isn't asked for."""
     names, variable, vector = [name for name, _ in plant.inputs], None, None
@@ -248,7 +262,7 @@ def inputs_asked(given, plant):
 class Panel:
     """One table on its axes; entries are the legend's."""
 
-    def __init__(self, figure, cells, given, units):
+    def __init__(self, figure: Figure, cells: Cells, given: Namespace, units: Units) -> None:
         from ..pictures.flat import Colouring
         from ..pictures.view import View
 
@@ -259,8 +273,16 @@ class Panel:
         variable, _ = inputs_asked(given, cells.plant)
         self.colouring = Colouring(self.cells, self.view, given.inputs or variable is not None, variable)
 
-    def draw(self, tell_version, axes):
-        self.runs = runs_of(self.given, self.cells, self.view)
+    def draw(self, tell_version: bool, axes: Axes) -> None:
+        from ..texts.loop import stretches
+
+        of_patrol = self.turn is not None
+        # Whole runs by a patrol, which a film shows, and their parts in this turn.
+        self.samples = patrol_runs_of(self.given, self.cells, self.view) if of_patrol else []
+        parts = (stretches(samples, self.cells.turn) for samples in self.samples)
+        self.runs: list[States] = (
+            [part for some in parts for part in some] if of_patrol else runs_of(self.given, self.cells, self.view)
+        )
         self.axes = axes
         self.entries = self.draw_solid() if len(self.view.axes) == 3 else self.draw_flat()
         said = [f"plant {self.cells.plant.version}"] * tell_version + (
@@ -268,7 +290,7 @@ class Panel:
         )
         axes.set_title(", ".join(said + list(filter(None, [self.view.note(self.colouring.is_share)]))), fontsize=9)
 
-    def draw_flat(self):
+    def draw_flat(self) -> list[Artist]:
         from ..pictures import flat as drawing
 
         axes, view = self.axes, self.view
@@ -283,7 +305,7 @@ class Panel:
         sides = drawing.draw_successors(axes, view, *boxes_of(self.given, view)) if self.given.boxes else []
         return boxes + runs + sides + entries
 
-    def draw_solid(self):
+    def draw_solid(self) -> list[Artist]:
         from ..pictures import solid
 
         entries = solid.draw_solid(self.figure, self.axes, self.view, self.colouring)
@@ -296,23 +318,23 @@ class Panel:
 
 
 @lru_cache(maxsize=None)
-def bytes_at(path):
+def bytes_at(path: str) -> bytes:
     """The bytes of a text, which standard input gives once."""
     return read_bytes(path)
 
 
-def units_of_tables(given):
+def units_of_tables(given: Namespace) -> Units:
     """The units of the model; raises Trouble where a table is of another one."""
     from ..texts.rows import VERSIONS, front_of
 
-    units = units_for(None, None)
+    units = Units()
     for path in given.tables if given.model is not None else ():
         with named(path):
             units = units_for(given.model, front_of(bytes_at(path), tuple(VERSIONS)).plant)
     return units
 
 
-def cells_of(given):
+def cells_of(given: Namespace) -> Iterator[Cells]:
     """What the panels show: each table or stay text, and each turn of a patrol text."""
     from ..texts.arrays import Turns
 
@@ -328,7 +350,7 @@ def cells_of(given):
 
 
 @contextmanager
-def named(path):
+def named(path: str) -> Iterator[None]:
     """Says which text is refused."""
     try:
         yield
@@ -336,7 +358,7 @@ def named(path):
         raise Trouble(f"{path}: {refusal.answer}: {refusal.reason}") from None
 
 
-def drawn(given, units):
+def drawn(given: Namespace, units: Units) -> tuple[Figure, list[Panel]]:
     """The figure with a panel for each table and each turn, and the panels."""
     from matplotlib import pyplot
     from ..pictures.flat import put_legend
@@ -354,7 +376,7 @@ def drawn(given, units):
         panel.colouring.take(vectors)
     check_starts(given, panels)
     tell_versions = len({panel.cells.plant.version for panel in panels}) > 1
-    entries = {}
+    entries: dict[str, Artist] = {}
     for number, panel in enumerate(panels, 1):
         panel.draw(
             tell_versions,
@@ -368,7 +390,7 @@ def drawn(given, units):
     return figure, panels
 
 
-def write(given, units):
+def write(given: Namespace, units: Units) -> None:
     if given.output:
         with Progress("picture").during("drawing"):
             figure, _ = drawn(given_with(given, animate=None), units)
@@ -379,7 +401,7 @@ def write(given, units):
         write_scenes(given, units)
 
 
-def write_scenes(given, units):
+def write_scenes(given: Namespace, units: Units) -> None:
     """The film: of a patrol text, where no turn is chosen, each frame shows the cells of the turn in which the run
     is."""
     from ..pictures import flat as drawing
@@ -392,24 +414,28 @@ def write_scenes(given, units):
     for turn in turns:
         figure, (panel,) = drawn(given_with(given, turn=turn, output=None), units)
         is_patrol = panel.turn is not None
-        runs = [[state for _, state in samples] for samples in panel.runs] if is_patrol else panel.runs
-        longest = max(panel.runs, key=len, default=[])
+        runs: list[States] = panel.runs
+        if is_patrol:
+            runs = [[state for _, state in samples] for samples in panel.samples]
         if len(turns) > 1 and len(runs) > 1:
             raise Trouble(
                 "a film of a patrol shows one run, and the cells of its turn; choose the cells of a turn by --turn", 2
             )
-        course = [turn for turn, _ in longest] if len(turns) > 1 else [0] * len(longest)
+        # The number of the scene at each sample of the longest run.
+        course = [0] * max(map(len, runs), default=0)
+        if len(turns) > 1:
+            course = [turn for samples in panel.samples for turn, _ in samples]
         courses = [drawing.Course(panel.view, panel.cells, states) for states in runs]
         scenes.append(film.Scene(figure, panel.axes, courses, panel.turn, given.dpi))
     film.write_film(scenes, course, given.animate)
 
 
-def given_with(given, **others):
+def given_with(given: Namespace, **others: object) -> Namespace:
     """The words with others in the place of some."""
     return type(given)(**vars(given) | others)
 
 
-def main(arguments):
+def main(arguments: list[str]) -> int:
     given = parser_of_arguments().parse_args(arguments)
     check_arguments(given)
     need("this", "numpy", "matplotlib", *["PIL"] * (given.animate is not None))

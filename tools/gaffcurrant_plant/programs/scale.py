@@ -2,20 +2,24 @@
 quantising, sampling and
 straight pieces instead of functions do."""
 
+from __future__ import annotations
+
 import argparse
+from argparse import Namespace
 from functools import partial
 
 from ..command import Arguments, check_there, prefer, read_bytes, start
 from ..faults import Trouble
 from ..models.best_plant import needs_mpmath, planted
-from ..models.model import read_model
+from ..models.model import Model, read_model
 from ..models.model_language import help_text
+from ..models.plant_text import Planting
 from ..models.trial import trial
 
 WORDS = ("synth", "stay", "patrol")
 
 
-def parser_of_arguments():
+def parser_of_arguments() -> Arguments:
     parser = Arguments(
         prog="scale", description=__doc__, epilog=help_text(), formatter_class=argparse.RawDescriptionHelpFormatter
     )
@@ -41,7 +45,7 @@ def parser_of_arguments():
     return parser
 
 
-def main(arguments):
+def main(arguments: list[str]) -> int:
     given = parser_of_arguments().parse_args(arguments)
     prefer("mpmath", "numpy")
     if given.trials is not None and not 1 <= given.trials <= 10**7:
@@ -57,7 +61,7 @@ def main(arguments):
     return 0
 
 
-def planted_as_asked(data, given):
+def planted_as_asked(data: bytes, given: Namespace) -> tuple[Model, Planting]:
     """The model, and its plant with the obstacles that are asked for."""
     model = read_model(data)
     model.version = given.version or model.version
@@ -73,7 +77,7 @@ def planted_as_asked(data, given):
     return model, planting
 
 
-def tried(model, planting, count):
+def tried(model: Model, planting: Planting, count: int) -> int:
     """Prints by how much plant and model differ at random states; answers the status."""
     outside = 0
     for state, seen, (low, high) in zip(model.states, trial(model, planting.plant, count), planting.ranges):

@@ -2,15 +2,24 @@
 writes. With --real it drives
 the model's own equations in doubles, from many states, and counts the promises that are broken."""
 
+from __future__ import annotations
+
 import argparse
 from functools import partial
+from typing import TYPE_CHECKING, Iterable, Iterator, Optional, Sequence, Union
 
 from ..command import Arguments, prefer, read_bytes, start
 from ..faults import Fault, Refused, Trouble
 from ..models.polynomial import number_of
+from ..plants.kinds import Input, Row, State
+from ..plants.plant import Plant
 from ..plants.units import MODEL_HELP, decimal, outside_said, state_of, units_for
 from ..texts.loop import noises
-from ..texts.table import read_text
+from ..texts.table import Text, parts_of, read_text
+
+if TYPE_CHECKING:
+    from ..models.model import Model
+    from ..ways.real_runs import Outcome
 
 # Runs of --real, and the most of them.
 RUNS, MOST_RUNS = 2000, 10**6
@@ -44,17 +53,17 @@ Status 0: the trace was written, or no promise was broken; 1: the text isn't rea
 a promise was broken; 2: wrong words."""
 
 
-def row_of(table, turn, state):
+def row_of(table: Text, turn: Optional[int], state: Sequence[int]) -> Optional[Row]:
     """The row at a state, of a patrol in a turn, or None."""
-    return (table.turns[turn] if table.kind == "patrol" else table).rows.get(table.plant.cell_of(state))
+    return parts_of(table)[turn or 0].row_at(table.plant.cell_of(state))
 
 
-def reals(plant, kinds, values):
+def reals(plant: Plant, kinds: Sequence[Union[State, Input]], values: Iterable[int]) -> list[str]:
     """Whole numbers of states or of inputs, in the plant's units."""
     return [decimal(value * plant.units.size(name)) for value, (name, *_) in zip(values, kinds)]
 
 
-def sample_said(plant, time, turn, state, row):
+def sample_said(plant: Plant, time: int, turn: Optional[int], state: Sequence[int], row: Row) -> str:
     rank, choice = row
     said = (
         " ".join(reals(plant, plant.inputs, plant.vector(choice)))
@@ -65,20 +74,24 @@ def sample_said(plant, time, turn, state, row):
     return " ".join("-" if word is None else str(word) for word in words)
 
 
-def head_said(plant, turn):
+def head_said(plant: Plant, turn: Optional[int]) -> str:
     """The first line of a run."""
     if not plant.units.sizes:
         return "trace 1"
-    states, inputs = ([plant.units.label(name) for name, *_ in some] for some in (plant.states, plant.inputs))
+    states, inputs = [
+        [plant.units.label(name) for name in names] for names in (plant.state_names(), plant.input_names())
+    ]
     return "# " + ", ".join(["time", *([] if turn is None else ["turn"]), *states, "rank", *inputs])
 
 
-def trace(table, state, turn, samples, drawn):
+def trace(
+    table: Text, state: Sequence[int], turn: Optional[int], samples: int, drawn: Iterable[Sequence[int]]
+) -> Iterator[str]:
     """The lines of a run."""
     plant = table.plant
     yield head_said(plant, turn)
     for time, noise in enumerate(drawn):
-        if time and turn is not None:
+        if time and turn is not None and table.kind == "patrol":
             has_arrived, after = table.visit(turn, state)
             if has_arrived:
                 yield f"visited {turn} {time}"
@@ -94,13 +107,13 @@ def trace(table, state, turn, samples, drawn):
         state = plant.step(state, plant.vector(row[1]), noise)
 
 
-def worst(plant, seed):
+def worst(plant: Plant, seed: int) -> Iterator[list[int]]:
     """Disturbances that are each an end of its range."""
     for sample in noises(plant, seed):
         yield [low if value - low < high - value else high for value, (_, low, high) in zip(sample, plant.noises)]
 
 
-def main(arguments):
+def main(arguments: list[str]) -> int:
     parser = Arguments(
         prog="sim", description=__doc__, epilog=FORMAT, formatter_class=argparse.RawDescriptionHelpFormatter
     )
@@ -138,7 +151,7 @@ def main(arguments):
     return drive_model(given, table) if given.real is not None else drive_plant(given, table, turn)
 
 
-def check_arguments(given):
+def check_arguments(given: argparse.Namespace) -> None:
     """Raises Trouble where words are missing, out of their range or of the other kind."""
     if given.real is None:
         check_plant_arguments(given)
@@ -152,7 +165,7 @@ def check_arguments(given):
         raise Trouble(f"--runs takes a number from 1 to {MOST_RUNS}", 2)
 
 
-def check_plant_arguments(given):
+def check_plant_arguments(given: argparse.Namespace) -> None:
     """The same of words without --real."""
     if given.samples is None or given.seed is None or not given.state:
         raise Trouble("the words are TEXT N SEED X1 .. Xm, or --real MODEL TEXT; see --help", 2)
@@ -162,7 +175,7 @@ def check_plant_arguments(given):
         raise Trouble("--log goes with --real", 2)
 
 
-def check_count(table, state):
+def check_count(table: Text, state: Sequence[object]) -> None:
     if len(state) != len(table.plant.states):
         names = " ".join(name for name, *_ in table.plant.states)
         raise Trouble(
@@ -170,7 +183,7 @@ def check_count(table, state):
         )
 
 
-def drive_plant(given, table, turn):
+def drive_plant(given: argparse.Namespace, table: Text, turn: Optional[int]) -> int:
     """Writes the trace of the plant's whole numbers."""
     plant = table.plant
     plant.units = units_for(given.model, plant)
@@ -184,7 +197,7 @@ def drive_plant(given, table, turn):
     return 0
 
 
-def drive_model(given, table):
+def drive_model(given: argparse.Namespace, table: Text) -> int:
     """Drives the model in doubles, and writes what was seen."""
     from ..models.agreement import check_model, model_at
     from ..ways.real_runs import real_runs
@@ -197,18 +210,27 @@ def drive_model(given, table):
     check_model(given.real, model, table.plant)
     if state:
         check_count(table, state)
-    words = (given.runs or RUNS, given.samples, 1 if given.seed is None else given.seed, state, given.turn)
+    drive = partial(
+        real_runs,
+        model,
+        table,
+        given.runs or RUNS,
+        given.samples,
+        1 if given.seed is None else given.seed,
+        state,
+        given.turn,
+    )
     if given.log is None:
-        outcome = real_runs(model, table, *words)
+        outcome = drive()
     else:
         with open(given.log, "w", encoding="utf-8", newline="\n") as log:
-            outcome = real_runs(model, table, *words, log)
+            outcome = drive(log)
     for line in seen(model, table, outcome):
         print(line)
     return 1 if outcome.violations else 0
 
 
-def seen(model, table, outcome):
+def seen(model: Model, table: Text, outcome: Outcome) -> Iterator[str]:
     """The lines that say what runs in doubles have shown."""
     broken = sum(outcome.violations.values())
     yield f"{outcome.runs} runs, {outcome.samples} samples: {broken} violation{'s' * (broken != 1)}"
@@ -227,18 +249,18 @@ def seen(model, table, outcome):
         for time, turn, state, rank, choice in outcome.trace:
             row = (
                 ""
-                if rank is None
+                if rank is None or choice is None
                 else f" rank {'-' if rank < 0 else rank}, "
                 + (table.plant.input_said(choice) if choice >= 0 else "no input")
             )
             yield f"  {time}{'' if turn is None else f' turn {turn}'}: {named(model, state)}{row}"
 
 
-def named(model, state):
+def named(model: Model, state: Sequence[float]) -> str:
     return ", ".join(f"{name} = {value!r}" for (name, *_), value in zip(model.states, state))
 
 
-def turn_asked(table, given):
+def turn_asked(table: Text, given: Optional[int]) -> Optional[int]:
     """The turn with which a run begins, None where there are no turns."""
     if table.kind != "patrol":
         if given is not None:

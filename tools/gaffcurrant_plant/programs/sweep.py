@@ -2,27 +2,35 @@
 cells, pairs, edges, what is won, the greatest rank, seconds. By --stay or --patrol as the program's words of that name
 do."""
 
+from __future__ import annotations
+
 import itertools
 import time
+from argparse import Namespace
 from fractions import Fraction
 from functools import partial
+from typing import Callable, Iterator, List, Mapping, Optional, Sequence
 
 from ..command import Arguments, prefer, read_bytes, start
 from ..faults import Fault, Refused, Trouble
 from ..models.best_plant import planted
-from ..models.model import common_unit, read_model
+from ..models.model import Model, common_unit, read_model
 from ..models.polynomial import number_of
 from ..plants.plant import EDGES
 from ..plants.units import decimal, short
 from ..progress import Progress
 from ..texts.solver import patrol, solve, stay
+from ..texts.table import Text, parts_of
 
+# What solves a plant text with so many workers; and the values of what is swept, None for the model's own.
+Solver = Callable[[str, int], Text]
+Values = List[Optional[Fraction]]
 # What may be swept, each a column where it is, and the columns of every line.
 SWEPT = {"time": 8, "order": 5, "steps": 5, "width": 7}
 COLUMNS = {"cells": 9, "pairs": 9, "edges": 10, "won": 9, "rank": 6, "seconds": 8}
 
 
-def positive(words, option):
+def positive(words: Sequence[str], option: str) -> list[Fraction]:
     """Numbers above 0."""
     try:
         values = [number_of(word) for word in words]
@@ -37,17 +45,20 @@ class Variant:
     """Values in the place of a model's own: its sampling time, order and steps, None for those that stay, and what
     widths are multiplied by."""
 
-    def __init__(self, time, order, steps, width):
+    def __init__(
+        self, time: Optional[Fraction], order: Optional[Fraction], steps: Optional[Fraction], width: Fraction
+    ) -> None:
         self.swept = {"sample": time, "order": order, "steps": steps}
         self.width = Fraction(width)
 
-    def lines(self, lines, parameters):
+    def lines(self, lines: Sequence[str], parameters: Mapping[str, Fraction]) -> Iterator[str]:
         """The model's lines with these values."""
         own = {line.split("#")[0].split()[0] for line in lines if line.split("#")[0].split()}
         for line in lines:
             words = line.split("#")[0].split()
-            if words and self.swept.get(words[0]) is not None:
-                yield f"{words[0]} {decimal(self.swept[words[0]])}"
+            value = self.swept.get(words[0]) if words else None
+            if value is not None:
+                yield f"{words[0]} {decimal(value)}"
             elif words[:1] == ["state"] and self.width != 1 and len(words) > 5:
                 yield self.state(words, parameters)
             else:
@@ -58,7 +69,7 @@ class Variant:
             if value is not None and keyword not in own
         )
 
-    def state(self, words, parameters):
+    def state(self, words: Sequence[str], parameters: Mapping[str, Fraction]) -> str:
         """A line `state` with other widths, and with a finer unit where the line's own doesn't divide them."""
         low, high = (number_in(word, parameters) for word in words[2:4])
         by_number = words[4] == "cells"
@@ -71,7 +82,7 @@ class Variant:
                 f"{short((high - low) / width)}"
             )
         if by_number and len(words) == 6:
-            return " ".join(words[:5] + [decimal((high - low) / width)])
+            return " ".join([*words[:5], decimal((high - low) / width)])
         unit = common_unit([low, width, number_in(words[6 if by_number else 5], parameters)])
         return f"state {words[1]} {words[2]} {words[3]} " + (
             f"cells {decimal((high - low) / width)} {decimal(unit)}"
@@ -80,22 +91,24 @@ class Variant:
         )
 
 
-def number_in(word, parameters):
+def number_in(word: str, parameters: Mapping[str, Fraction]) -> Fraction:
     """The number of a word, which may be a parameter."""
     if word in parameters:
         return parameters[word]
     return -parameters[word[1:]] if word[:1] == "-" and word[1:] in parameters else number_of(word)
 
 
-def won_of(text):
+def won_of(text: Text) -> tuple[str, str]:
     """How many cells are won, and the greatest rank: of a patrol for each turn."""
-    parts = text.turns if text.kind == "patrol" else [text]
+    parts = parts_of(text)
     ranks = [max((rank for rank, _ in part.rows.values() if rank is not None), default=0) for part in parts]
     keeps = text.kind == "table" and text.keeps
     return "/".join(str(len(part.rows)) for part in parts), "-" if keeps else "/".join(map(str, ranks))
 
 
-def row_of(lines, parameters, variant, workers, solver):
+def row_of(
+    lines: Sequence[str], parameters: Mapping[str, Fraction], variant: Variant, workers: int, solver: Solver
+) -> list[str]:
     """The row of one model: its numbers, or why it has none."""
     try:
         plant = planted(read_model("\n".join(variant.lines(lines, parameters)).encode())).plant
@@ -110,10 +123,11 @@ def row_of(lines, parameters, variant, workers, solver):
     except Refused as refusal:
         return [f"{refusal.answer}: {refusal.reason}"]
     seconds = time.monotonic() - begin
-    return [plant.cells, plant.pairs, edges if is_exact else f"~{edges}", *won_of(text), f"{seconds:.2f}"]
+    counts = str(plant.cells), str(plant.pairs), f"{'' if is_exact else '~'}{edges}"
+    return [*counts, *won_of(text), f"{seconds:.2f}"]
 
 
-def parser_of_arguments():
+def parser_of_arguments() -> Arguments:
     parser = Arguments(
         prog="sweep",
         description=__doc__,
@@ -153,30 +167,34 @@ def parser_of_arguments():
     return parser
 
 
-def swept_of(given, model):
+def swept_of(given: Mapping[str, list[Fraction]], model: Model) -> dict[str, Values]:
     """What is swept, each with its values; raises Trouble where the model has no lines for it."""
     if given["times"] and not model.sample:
         raise Trouble("--times needs a model with a line `sample`", 2)
     if (given["orders"] or given["steps"]) and not model.flows:
         raise Trouble("--orders and --steps need a model with lines `d`", 2)
     return {
-        "time": given["times"] or [model.sample],
-        "order": given["orders"] or [None],
-        "steps": given["steps"] or [None],
-        "width": given["widths"],
+        "time": [*given["times"]] or [model.sample],
+        "order": [*given["orders"]] or [None],
+        "steps": [*given["steps"]] or [None],
+        "width": [*given["widths"]],
     }
 
 
-def model_of(path, data):
+def model_of(path: str, data: bytes) -> Model:
     try:
         return read_model(data)
     except Trouble as trouble:
         raise Trouble(f"{path}: {trouble}", trouble.status) from None
 
 
-def main(arguments):
+def main(arguments: list[str]) -> None:
     given = parser_of_arguments().parse_args(arguments)
-    solver = stay if given.stay else patrol if given.patrol else solve
+    solver: Solver = solve
+    if given.stay:
+        solver = stay
+    elif given.patrol:
+        solver = patrol
     prefer("mpmath", "numpy")
     numbers = {name: positive(getattr(given, name), f"--{name}") for name in ("times", "orders", "steps", "widths")}
     if not 1 <= given.workers <= 64:
@@ -187,7 +205,9 @@ def main(arguments):
     print_rows(given, model, data.decode("utf-8", "replace").lstrip("\ufeff").splitlines(), swept, solver)
 
 
-def print_rows(given, model, lines, swept, solver):
+def print_rows(
+    given: Namespace, model: Model, lines: Sequence[str], swept: Mapping[str, Values], solver: Solver
+) -> None:
     """Prints the heading, and a row for each variant."""
     shown = [name for name in SWEPT if name in ("time", "width") or swept[name] != [None]]
     columns = [SWEPT[name] for name in shown] + list(COLUMNS.values())
@@ -201,7 +221,7 @@ def print_rows(given, model, lines, swept, solver):
         )
 
 
-def print_row(row, columns):
+def print_row(row: Sequence[str], columns: Sequence[int]) -> None:
     print(" ".join(f"{word:>{wide}}" for word, wide in zip(map(str, row), columns)), flush=True)
 
 

@@ -1,24 +1,32 @@
 """Says of one cell of a table what each input does there, and what stops it from winning or keeping."""
 
+from __future__ import annotations
 
+
+from argparse import Namespace
 from functools import partial
+from typing import TYPE_CHECKING, Iterator, Optional, Sequence
 
 from ..command import Arguments, need, read_bytes, start
 from ..faults import Refused, Trouble
-from ..plants.plant import meets
+from ..plants.kinds import Cell, Vector
+from ..plants.plant import Plant, meets
 from ..plants.units import MODEL_HELP, outside_said, state_of, units_for
 from ..progress import Progress
-from ..texts.table import read_text
+from ..texts.table import Table, Text, Turn, read_text
+
+if TYPE_CHECKING:
+    from ..texts.causes import Frontier, Lost, Round, Rounds
 
 SHOWN = 8
 
 
-def cells_said(plant, cells):
+def cells_said(plant: Plant, cells: Sequence[Cell]) -> str:
     said = "; ".join(plant.cell_said(cell) for cell in cells[:SHOWN])
     return said + (f"; and {len(cells) - SHOWN} more" if len(cells) > SHOWN else "")
 
 
-def row_said(table, cell):
+def row_said(table: Table, cell: Cell) -> str:
     """The row of a cell in words, or why it has none, as far as the cell itself shows it."""
     plant = table.plant
     if cell in table.rows:
@@ -35,7 +43,7 @@ def row_said(table, cell):
     return "no row"
 
 
-def leaving(plant, low, high):
+def leaving(plant: Plant, low: Sequence[int], high: Sequence[int]) -> str:
     """Which states the box takes out of the domain."""
     said = []
     for i in plant.leaves(low, high):
@@ -46,7 +54,7 @@ def leaving(plant, low, high):
     return "stopped: the box leaves the domain " + " and ".join(said)
 
 
-def stops(table, cell, cells):
+def stops(table: Table, cell: Cell, cells: Sequence[Cell]) -> Iterator[str]:
     """What stops an input whose successors are these cells; nothing where each of them has a row."""
     without = [one for one in cells if not table.has(one)]
     obstacles = list(filter(table.plant.is_obstacle, without))
@@ -59,12 +67,12 @@ def stops(table, cell, cells):
         yield "it may lead to cells without a row: " + cells_said(table.plant, others)
 
 
-def may_come_back(table, cell, without, obstacles):
+def may_come_back(table: Table, cell: Cell, without: Sequence[Cell], obstacles: Sequence[Cell]) -> bool:
     """Whether a cell itself stops an input that leads to these cells without a row."""
     return cell in without and cell not in obstacles and (not table.keeps or len(without) == 1)
 
 
-def judged(table, cell, cells):
+def judged(table: Table, cell: Cell, cells: Sequence[Cell]) -> str:
     """What an input is good for at a cell, in words."""
     said = list(stops(table, cell, cells))
     if said:
@@ -73,8 +81,8 @@ def judged(table, cell, cells):
         return "each successor has a row, but the cell itself meets an obstacle"
     if table.keeps:
         return "keeps: each successor is kept"
-    within = 1 + max(map(table.left, cells))
-    if table.kind == "stay" and within == 1 and table.rows.get(cell, (1,))[0] == 0:
+    within = 1 + max(table.left(one) or 0 for one in cells)
+    if table.kind == "stay" and within == 1 and table.rows.get(cell, (1, None))[0] == 0:
         return "stays: each successor is held"
     return f"{GOOD[table.kind]} within {within} sample{'s' * (within > 1)}"
 
@@ -83,7 +91,7 @@ def judged(table, cell, cells):
 GOOD = {"table": "wins", "stay": "comes to held cells", "turn": "arrives"}
 
 
-def input_said(table, cell, vector):
+def input_said(table: Table, cell: Cell, vector: Vector) -> list[str]:
     plant = table.plant
     low, high = plant.box(cell, vector)
     moves = ", ".join(
@@ -102,7 +110,7 @@ def input_said(table, cell, vector):
     return lines + [f"  successors: {len(cells)}", "  " + judged(table, cell, cells)]
 
 
-def parts_said(plant, cell, vector):
+def parts_said(plant: Plant, cell: Cell, vector: Vector) -> Iterator[str]:
     """In version 2, what the box is the common part of."""
     if plant.version > 1:
         rolled = plant.rolled
@@ -112,7 +120,7 @@ def parts_said(plant, cell, vector):
         )
 
 
-def across_said(plant, cell, low, high, vector):
+def across_said(plant: Plant, cell: Cell, low: Sequence[int], high: Sequence[int], vector: Vector) -> str:
     """The states that come round whose whole range the box has since it reaches across the range's end."""
     rolled = zip(*plant.rolled.box(cell, vector))
     names = [
@@ -128,7 +136,7 @@ def across_said(plant, cell, low, high, vector):
 WAY = 12
 
 
-def said_of(cause):
+def said_of(cause: str) -> str:
     """A cause in words."""
     return {
         "edge": "the edge: the box leaves the domain",
@@ -139,7 +147,7 @@ def said_of(cause):
     }[cause]
 
 
-def deep_said(text, table, cell):
+def deep_said(text: Text, table: Table, cell: Cell) -> list[str]:
     """The nearest causes behind a lost cell, or the round in which it falls, and what stops the cells next to those
     with a row; of a patrol without rows at which target it fails."""
     from ..texts import causes
@@ -156,7 +164,7 @@ def deep_said(text, table, cell):
     return lines + frontier_said(causes.Frontier(lost), table)
 
 
-def round_said(found):
+def round_said(found: Round) -> list[str]:
     """At which target a patrol without rows fails."""
     first, count = found.first_without(), len(found.alone)
     if first is not None:
@@ -179,7 +187,7 @@ def round_said(found):
     return [f"no turn has a row: {said}"]
 
 
-def nearest_said(lost, cell):
+def nearest_said(lost: Lost, cell: Cell) -> list[str]:
     from ..texts.causes import CAUSES
 
     found, seen = lost.nearest(cell)
@@ -191,7 +199,7 @@ def nearest_said(lost, cell):
     return lines if found else lines + ["  none was met"]
 
 
-def fall_said(rounds, cell):
+def fall_said(rounds: Rounds, cell: Cell) -> list[str]:
     """The round in which a cell falls that is to be kept, and the cells by which its inputs were cut last."""
     plant, numbers = rounds.plant, rounds.number
     if numbers[cell] < 0:
@@ -200,7 +208,8 @@ def fall_said(rounds, cell):
     behind = "; the last of its inputs is cut by the cell below, and so on:" if numbers[cell] else ""
     lines = [f"it falls in round {numbers[cell]} of {max(numbers)}{behind}"]
     for one, vector in way[1 : WAY + 1]:
-        lines.append(f"  by input {vector} ({plant.input_said(vector)}): {plant.cell_said(one)}, round {numbers[one]}")
+        applied = "" if vector is None else f"by input {vector} ({plant.input_said(vector)}): "
+        lines.append(f"  {applied}{plant.cell_said(one)}, round {numbers[one]}")
     if len(way) > WAY + 1:
         lines.append(f"  and {len(way) - WAY - 1} more")
     last = way[-1][0]
@@ -211,7 +220,7 @@ def fall_said(rounds, cell):
     ]
 
 
-def frontier_said(frontier, table):
+def frontier_said(frontier: Frontier, table: Table) -> list[str]:
     has = "is kept" if table.keeps else "is won"
     lines = [f"lost cells next to what {has}: {frontier.cells}; an input leads their middle there, and is stopped by"]
     for (kind, is_farther), count in sorted(frontier.counts.items(), key=lambda item: (-item[1], item[0])):
@@ -219,22 +228,22 @@ def frontier_said(frontier, table):
     return lines if frontier.cells else [f"no lost cell has an input that leads its middle into a cell that {has}"]
 
 
-def cell_asked(plant, given):
+def cell_asked(plant: Plant, given: Namespace) -> Cell:
     """The cell that the words ask for."""
     if given.cell is not None:
         if given.state:
             raise Trouble("give a state or --cell, not both", 2)
         if not 0 <= given.cell < plant.cells:
             raise Trouble(f"there are {plant.cells} cells, from 0; {given.cell} is none")
-        return given.cell
+        return int(given.cell)
     state = state_of(plant, given.state, plant.units)
     cell = plant.cell_of(state)
     if cell is None:
-        raise Trouble("the state is outside the domain: " + outside_said(plant, state, plant.units))
+        raise Trouble(f"the state is outside the domain: {outside_said(plant, state, plant.units)}")
     return cell
 
 
-def turn_of(text, given):
+def turn_of(text: Text, given: Optional[int]) -> Table:
     """A table or a stay text as it is, and of a patrol text the turn that is asked for."""
     if text.kind != "patrol":
         if given is not None:
@@ -245,14 +254,14 @@ def turn_of(text, given):
     return text.turns[given or 0]
 
 
-def name_said(table, cell):
+def name_said(table: Table, cell: Cell) -> str:
     """A cell, and of a turn whether it is one of its arrivals."""
-    if table.kind != "turn":
+    if not isinstance(table, Turn):
         return table.plant.cell_said(cell)
     return f"turn {table.number}, {table.plant.cell_said(cell)}" + (", an arrival" if cell in table.arrivals else "")
 
 
-def main(arguments):
+def main(arguments: list[str]) -> None:
     parser = Arguments(
         prog="why",
         description=__doc__,

@@ -2,10 +2,20 @@
 the cells next to those that are won, and the rounds in which cells fall that are to be kept. All lost cells are worked
 out at once; needs numpy."""
 
+from __future__ import annotations
+
+from typing import TYPE_CHECKING, Optional, Tuple, Union
+
 import numpy
 
+from ..plants.array_kinds import Extents, Flags, Wholes
 from ..plants.batch import Sums, cells_that_meet, cells_within, fans, summed
+from ..plants.kinds import Cell, Vector
 from .arrays import RowArrays
+
+if TYPE_CHECKING:
+    from ..progress import Progress
+    from .table import Table
 
 EDGE, OBSTACLE, STILL, ITSELF, ONWARD = "edge", "obstacle", "still", "itself", "onward"
 # Causes that lie at the cell itself, in the order in which they are told.
@@ -13,9 +23,13 @@ CAUSES = (EDGE, OBSTACLE, STILL, ITSELF)
 # Numbers of what stops an input: none, those of CAUSES from 1, and that it leads to other lost cells.
 FREE, LEADS_ON = 0, len(CAUSES) + 1
 NEVER = -1
+# What chooses pairs among those of the lost cells and the input vectors; how many steps away a cause lies, its cell and
+# its input.
+Chosen = Union[Wholes, Tuple[Wholes, Wholes], Tuple[int, int]]
+Nearest = Tuple[int, Cell, Vector]
 
 
-def number_of(cause):
+def number_of(cause: str) -> int:
     return CAUSES.index(cause) + 1
 
 
@@ -25,8 +39,8 @@ class Lost:
     `promising` whether the input leads the cell's middle into a cell with a row; `causes` for each of CAUSES whether it
     lies at the cell itself."""
 
-    def __init__(self, table, progress=None):
-        self.table, self.plant, self.batch = table, table.plant, table.plant.batch()
+    def __init__(self, table: Table, progress: Optional[Progress] = None) -> None:
+        self.table, self.plant, self.batch = table, table.plant, table.plant.arrays
         rows = RowArrays.of(table)
         self.has = rows.won | rows.arrivals
         self.blocked = cells_that_meet(self.plant, self.plant.obstacles)
@@ -51,7 +65,7 @@ class Lost:
             self.is_still if cause == STILL else numpy.any(self.stops == number_of(cause), axis=1) for cause in CAUSES
         ]
 
-    def look(self, begin, cells, vectors, won, blocked):
+    def look(self, begin: int, cells: Wholes, vectors: Wholes, won: Sums, blocked: Sums) -> None:
         """Works out a block of cells."""
         indices, part = self.batch.indices(cells), slice(begin, begin + len(cells))
         lows = self.batch.lows(indices)
@@ -79,18 +93,18 @@ class Lost:
         cell = sum(index * stride for (index, _), stride in zip(middles, self.batch.strides))
         self.promising[part] = within & self.has[cell]
 
-    def extents(self, chosen):
+    def extents(self, chosen: Chosen) -> Extents:
         """For each state the first and last indices of the boxes of chosen pairs, which a subscript of `stops`
         selects."""
         return [(ends[0][chosen].astype(numpy.int64), ends[1][chosen].astype(numpy.int64)) for ends in self.ends]
 
-    def marks(self, numbers):
+    def marks(self, numbers: Union[Flags, Wholes]) -> Sums:
         """Sums over boxes of what is said of each lost cell."""
         whole = numpy.zeros(self.plant.cells, dtype=numpy.int32)
         whole[self.cells] = numbers
         return Sums(whole, self.plant.counts)
 
-    def vector_of(self, at, cause):
+    def vector_of(self, at: int, cause: str) -> Vector:
         """The first input with a cause at a cell."""
         return int(
             numpy.argmax(self.stops[at] != number_of(EDGE) if cause == STILL else self.stops[at] == number_of(cause))
@@ -98,7 +112,7 @@ class Lost:
 
     # From lost cell to lost cell
 
-    def reached(self, ring):
+    def reached(self, ring: Wholes) -> Flags:
         """Which cells without a row the inputs of some cells may lead to."""
         shape = [count + 1 for count in self.plant.counts]
         rows, vectors = numpy.nonzero(self.lost[ring] > 0)
@@ -113,12 +127,17 @@ class Lost:
         paint = paint.reshape(shape)
         for axis in range(len(shape)):
             summed(paint, axis)
-        return (paint[tuple(slice(count) for count in self.plant.counts)].reshape(-1) > 0) & ~self.has
+        inner = paint[tuple(slice(count) for count in self.plant.counts)].reshape(-1)
+        reached: Flags = (inner > 0) & ~self.has
+        return reached
 
-    def nearest(self, start):
+    def nearest(self, start: Cell) -> tuple[dict[str, Nearest], int]:
         """For each kind of cause the nearest lost cell with it, as (how many steps away, the cell, the input), going
         from lost cell to lost cell; and how many cells were looked at."""
-        found, seen, ring, steps = {}, numpy.zeros(self.plant.cells, dtype=bool), numpy.array([start]), 0
+        found: dict[str, Nearest] = {}
+        seen: Flags = numpy.zeros(self.plant.cells, dtype=bool)
+        ring: Wholes = numpy.array([start])
+        steps = 0
         while len(ring):
             seen[ring] = True
             ring = self.at[ring]
@@ -132,7 +151,7 @@ class Lost:
             ring, steps = numpy.flatnonzero(self.reached(ring) & ~seen), steps + 1
         return found, int(numpy.count_nonzero(seen))
 
-    def behind(self):
+    def behind(self) -> Wholes:
         """For each lost cell the number of the cause behind it: of a cell without one itself, that which is most
         frequent among the cells with the nearest ones to which its inputs may lead."""
         label = numpy.zeros(len(self.cells), dtype=numpy.int64)
@@ -151,7 +170,7 @@ class Lost:
             marks = [self.marks(new & (label == number)) for number in range(1, len(CAUSES) + 1)]
         return label
 
-    def touching(self, rows, marks):
+    def touching(self, rows: Wholes, marks: Sums) -> Wholes:
         """Those of some lost cells whose boxes, taken together, meet a cell that is marked."""
         if not len(rows):
             return rows
@@ -161,11 +180,12 @@ class Lost:
         ]
         return rows[marks.over(extents) > 0]
 
-    def total(self, rows, marks):
+    def total(self, rows: Wholes, marks: Sums) -> Wholes:
         """For each of some lost cells how many marked cells the boxes of its inputs meet in all."""
         if not len(rows):
             return numpy.zeros(0, dtype=numpy.int64)
-        return numpy.sum(numpy.where(self.lost[rows] > 0, marks.over(self.extents(rows)), 0), axis=1)
+        total: Wholes = numpy.sum(numpy.where(self.lost[rows] > 0, marks.over(self.extents(rows)), 0), axis=1)
+        return total
 
 
 class Frontier:
@@ -173,8 +193,8 @@ class Frontier:
     that has the least share of successors without one; where these are other lost cells alone, by the nearest cause
     behind them. A count's key is the cause, and whether it lies farther on."""
 
-    def __init__(self, lost):
-        self.counts = {}
+    def __init__(self, lost: Lost) -> None:
+        self.counts: dict[tuple[str, bool], int] = {}
         rows = numpy.flatnonzero(numpy.any(lost.promising, axis=1))
         self.cells = len(rows)
         for number in range(1, len(CAUSES) + 1):
@@ -193,12 +213,12 @@ class Frontier:
         for number, cause in enumerate((ONWARD, *CAUSES)):
             self.count(cause, True, self.farther(lost, rows[farther], vectors[farther]) == number)
 
-    def count(self, cause, is_farther, which):
+    def count(self, cause: str, is_farther: bool, which: Flags) -> None:
         total = int(numpy.count_nonzero(which))
         if total:
             self.counts[cause, is_farther] = self.counts.get((cause, is_farther), 0) + total
 
-    def farther(self, lost, rows, vectors):
+    def farther(self, lost: Lost, rows: Wholes, vectors: Wholes) -> Wholes:
         """The numbers of the causes behind the lost successors of pairs: of the nearest ones the most frequent."""
         if not hasattr(self, "found"):
             label, chosen = lost.behind(), numpy.zeros(len(rows), dtype=numpy.int64)
@@ -218,7 +238,7 @@ class Rounds:
     input fall in round 0, and a cell behind the round in which the last of its inputs is cut. `number` has NEVER for
     other cells."""
 
-    def __init__(self, lost, progress=None):
+    def __init__(self, lost: Lost, progress: Optional[Progress] = None) -> None:
         self.lost, self.plant = lost, lost.plant
         self.number = numpy.where(lost.blocked & ~lost.has, 0, NEVER)
         left = lost.fan > 0
@@ -239,13 +259,15 @@ class Rounds:
             if progress:
                 progress.show(1 - len(standing) / max(1, len(lost.cells)))
 
-    def counts(self):
-        return numpy.bincount(self.number[self.number != NEVER]).tolist()
+    def counts(self) -> list[int]:
+        counts: list[int] = numpy.bincount(self.number[self.number != NEVER]).tolist()
+        return counts
 
-    def way(self, cell):
+    def way(self, cell: Cell) -> list[tuple[Cell, Optional[Vector]]]:
         """The cells behind a fallen one, each with the input of the one before that was cut last, down to one that fell
         in round 0."""
-        way, grid = [(cell, None)], self.number.reshape(self.plant.counts)
+        way: list[tuple[Cell, Optional[Vector]]] = [(cell, None)]
+        grid = self.number.reshape(self.plant.counts)
         while self.number[cell]:
             cuts = []
             for vector in numpy.flatnonzero(self.lost.fan[self.lost.at[cell]] > 0):
@@ -257,7 +279,7 @@ class Rounds:
                 if least <= self.number[cell]:
                     indices = numpy.argwhere(numbers == least)[0] + [one.start for one in part]
                     cuts.append((self.plant.cell_at(indices.tolist()), int(vector)))
-            cell, vector = max(cuts, key=lambda cut: self.number[cut[0]])
+            cell, vector = max(cuts, key=lambda cut: int(self.number[cut[0]]))
             way.append((cell, vector))
         return way
 
@@ -266,13 +288,13 @@ class Round:
     """Why a patrol without rows has none. alone: for each target which of its cells can be left, and reached again for
     sure; cells: how many lie in it whole and in no obstacle."""
 
-    def __init__(self, lost, progress=None):
+    def __init__(self, lost: Lost, progress: Optional[Progress] = None) -> None:
         self.lost, self.plant, self.progress = lost, lost.plant, progress
         goals = [cells_within(self.plant, [box]) & ~lost.blocked for box in self.plant.targets]
         self.cells = [int(numpy.count_nonzero(goal)) for goal in goals]
         self.alone = [self.returning(goal) for goal in goals]
 
-    def returning(self, goal):
+    def returning(self, goal: Flags) -> Flags:
         """Which cells of a goal have a strategy that leads back to such cells again and again, after a sample or more
         each time."""
         while numpy.any(goal):
@@ -282,7 +304,7 @@ class Round:
             goal = kept
         return goal
 
-    def led(self, goal):
+    def led(self, goal: Flags) -> Flags:
         """Which cells have a strategy that leads into a goal for sure, after a sample or more."""
         led, reached, new = numpy.zeros(self.plant.cells, dtype=bool), goal.copy(), goal
         standing = numpy.flatnonzero(numpy.any(self.lost.fan > 0, axis=1))
@@ -302,11 +324,11 @@ class Round:
                 self.progress.say("following the targets back")
         return led
 
-    def first_without(self):
+    def first_without(self) -> Optional[int]:
         """The first target that can't be reached from itself, or None."""
         return next((number for number, cells in enumerate(self.alone) if not numpy.any(cells)), None)
 
-    def first_apart(self):
+    def first_apart(self) -> Optional[int]:
         """The first target from whose cells, of those that can be reached again, the next target's can't be reached, or
         None."""
         behind = self.alone[1:] + self.alone[:1]

@@ -6,10 +6,10 @@ from __future__ import annotations
 import ctypes
 import os
 from pathlib import Path
-from typing import Any, Iterable, Optional, Sequence, Union
+from typing import Any, Iterable, Optional, Sequence, SupportsInt, Union
 
 from ..faults import Refused
-from .table import NoRow, Table, read_text, whole_of
+from .table import NoRow, Table, Text, read_text, whole_of
 
 # The folder in which the package lies.
 TOOLS = Path(__file__).resolve().parents[2]
@@ -25,7 +25,7 @@ FARTHEST = 2**63 - 1
 Values = Optional[tuple[int, ...]]
 
 
-def numbers_of(values: Iterable[Any]) -> list[int]:
+def numbers_of(values: Iterable[SupportsInt]) -> list[int]:
     """Whole numbers of 64 bits; raises ValueError where one is none."""
     return [max(-FARTHEST, min(FARTHEST, whole_of(value))) for value in values]
 
@@ -109,7 +109,7 @@ class Library:
 
     def visit(self, state: Sequence[int]) -> bool:
         turn = ctypes.c_uint32()
-        status = self.calls.gaffcurrant_visit(self.held, (ctypes.c_int64 * len(state))(*state), len(state), turn)
+        status: int = self.calls.gaffcurrant_visit(self.held, (ctypes.c_int64 * len(state))(*state), len(state), turn)
         if status < 0:
             raise ValueError("the controller is closed" if status == CLOSED else f"a state has {self.states} numbers")
         self.turn = turn.value
@@ -123,7 +123,9 @@ class Library:
 
     def follows(self, state: Sequence[int], values: Sequence[int], after: Sequence[int]) -> int:
         arrays = [(ctypes.c_int64 * len(numbers))(*numbers) for numbers in (state, values, after)]
-        reply = self.calls.gaffcurrant_follows(self.held, *(part for array in arrays for part in (array, len(array))))
+        reply: int = self.calls.gaffcurrant_follows(
+            self.held, *(part for array in arrays for part in (array, len(array)))
+        )
         if reply in (WRONG_SIZE, CLOSED):
             raise ValueError(
                 "the controller is closed"
@@ -140,8 +142,9 @@ class Rows:
     """The same by the module's own reader."""
 
     def __init__(self, text: bytes) -> None:
-        self.text: Any = read_text(text)
-        self.states, self.turn = len(self.text.plant.states), 0
+        read = read_text(text)
+        self.text: Optional[Text] = read
+        self.states, self.turn = len(read.plant.states), 0
 
     def replies(self, states: Sequence[Sequence[int]]) -> list[tuple[int, Values]]:
         return [self.reply(state) for state in states]
@@ -193,14 +196,14 @@ class Rows:
             )
         )
 
-    def due(self) -> Any:
+    def due(self) -> Table:
         """The rows of the turn that is due."""
         text = self.opened()
         if text.kind != "patrol":
             return text
         return text.turns[self.turn] if text.turns else Table(text.plant, {})
 
-    def opened(self) -> Any:
+    def opened(self) -> Text:
         if self.text is None:
             raise ValueError("the controller is closed")
         return self.text
@@ -224,7 +227,7 @@ class Controller:
         self.is_proved = bool(path)
         self._rows: Union[Library, Rows] = Library(path, data) if path else Rows(data)
 
-    def choice(self, state: Iterable[Any]) -> Values:
+    def choice(self, state: Iterable[SupportsInt]) -> Values:
         """The values to apply at a state, one for each input, or None in a target, where nothing has to be; raises
         NoRow."""
         whole = self.whole(state)
@@ -233,11 +236,11 @@ class Controller:
             raise NoRow(f"{whole} has no row")
         return values
 
-    def choices(self, states: Iterable[Iterable[Any]]) -> list[tuple[int, Values]]:
+    def choices(self, states: Iterable[Iterable[SupportsInt]]) -> list[tuple[int, Values]]:
         """The reply and the values at each of many states: (APPLY, values), (ARRIVED, None) or (NO_ROW, None)."""
         return self._rows.replies([self.whole(state) for state in states])
 
-    def rank(self, state: Iterable[Any]) -> int:
+    def rank(self, state: Iterable[SupportsInt]) -> int:
         """The number of samples that suffice from a state, 0 with goal keep; raises NoRow."""
         whole = self.whole(state)
         rank = self._rows.rank(whole)
@@ -245,7 +248,9 @@ class Controller:
             raise NoRow(f"{whole} has no row")
         return rank
 
-    def follows(self, state: Iterable[Any], values: Iterable[Any], after: Iterable[Any]) -> bool:
+    def follows(
+        self, state: Iterable[SupportsInt], values: Iterable[SupportsInt], after: Iterable[SupportsInt]
+    ) -> bool:
         """Whether the next state lies in the successor box of the state's cell under these values of the inputs, as it
         does of a plant that obeys its equations. Raises NoRow where the state is outside the ranges or the values are
         no input vector, Refused where a number of the plant leaves the range."""
@@ -262,7 +267,7 @@ class Controller:
         """The turn of a patrol that is due, from 0; 0 for other texts."""
         return self._rows.turn
 
-    def visit(self, state: Iterable[Any]) -> bool:
+    def visit(self, state: Iterable[SupportsInt]) -> bool:
         """Whether the next turn of a patrol begins at a state: where the state has come to the target of the turn that
         is due."""
         return self._rows.visit(self.whole(state))
@@ -272,7 +277,7 @@ class Controller:
         turn."""
         self._rows.begin_turn(turn)
 
-    def whole(self, state: Iterable[Any]) -> list[int]:
+    def whole(self, state: Iterable[SupportsInt]) -> list[int]:
         """A state as whole numbers of 64 bits; raises ValueError where it is none, or has too few or too many
         numbers."""
         whole = numbers_of(state)
@@ -288,7 +293,7 @@ class Controller:
     def __enter__(self) -> Controller:
         return self
 
-    def __exit__(self, *fault: Any) -> None:
+    def __exit__(self, *fault: object) -> None:
         self.close()
 
     def __del__(self) -> None:

@@ -2,9 +2,10 @@
 
 from __future__ import annotations
 
-from typing import Any, Callable, Iterable, Iterator, Sequence
+from typing import Callable, Iterable, Iterator, Optional, Sequence
 
 from ..faults import Refused
+from ..plants.kinds import Cell, Row
 from ..plants.plant import Plant
 from ..plants.reader import lines_of
 from .promise import turn_after
@@ -23,7 +24,9 @@ def noises(plant: Plant, seed: int) -> Iterator[list[int]]:
         yield sample
 
 
-def run(plant: Plant, row_of: Callable[[int], Any], start: Sequence[int], seed: int, most: int) -> list[list[int]]:
+def run(
+    plant: Plant, row_of: Callable[[Cell], Optional[Row]], start: Sequence[int], seed: int, most: int
+) -> list[list[int]]:
     """The states of a run: until rank 0, a cell without a row, or `most` steps. row_of gives (rank, input) or None."""
     states, state = [list(start)], list(start)
     for _, noise in zip(range(most), noises(plant, seed)):
@@ -38,8 +41,8 @@ def run(plant: Plant, row_of: Callable[[int], Any], start: Sequence[int], seed: 
 
 def patrol_run(
     plant: Plant,
-    row_of: Callable[[int, int], Any],
-    arrives: Callable[[int, int], bool],
+    row_of: Callable[[int, Cell], Optional[Row]],
+    arrives: Callable[[int, Cell], bool],
     start: Sequence[int],
     seed: int,
     most: int,
@@ -51,7 +54,7 @@ def patrol_run(
     for _, noise in zip(range(most), noises(plant, seed)):
         cell = plant.cell_of(state)
         row = None if cell is None else row_of(turn, cell)
-        if row is None:
+        if row is None or row[1] is None:
             break
         state = plant.step(state, plant.vector(row[1]), noise)
         cell = plant.cell_of(state)

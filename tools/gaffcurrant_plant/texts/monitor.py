@@ -2,7 +2,7 @@
 
 from __future__ import annotations
 
-from typing import Any, Iterable, Optional, Union
+from typing import Iterable, Optional, SupportsInt, Union
 
 from .promise import has_fallen
 from .table import NoRow, Patrol, Table, whole_state
@@ -16,7 +16,7 @@ class Monitor:
         self.table, self.turn, self.has_begun = table, turn, False
         self.rank: Optional[int] = None
 
-    def falls(self, state: Iterable[Any]) -> bool:
+    def falls(self, state: Iterable[SupportsInt]) -> bool:
         """Whether the state has a row, and its rank has fallen since the sample before; at the first sample, and behind
         the target of a table or of a patrol's turn, any rank will do. With goal keep there are no ranks, and the row
         alone counts. Raises ValueError, and changes nothing, where the state isn't one whole number for each of the
@@ -34,4 +34,4 @@ class Monitor:
             return False
         now, before = rank or 0, self.rank
         self.rank = None if choice is None else now
-        return before is None or bool(has_fallen(before, now))
+        return before is None or has_fallen(before, now)

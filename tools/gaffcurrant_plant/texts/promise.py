@@ -2,13 +2,36 @@
 
 from __future__ import annotations
 
-from typing import Any
+from typing import TYPE_CHECKING, Any, overload
+
+if TYPE_CHECKING:
+    from ..plants.array_kinds import Flags, Wholes
+
+
+@overload
+def turn_after(turn: int, has_arrived: bool, turns: int) -> int:
+    ...
+
+
+@overload
+def turn_after(turn: Wholes, has_arrived: Flags, turns: int) -> Wholes:
+    ...
 
 
 def turn_after(turn: Any, has_arrived: Any, turns: int) -> Any:
     """The turn of a patrol after a sample: the next one of so many where the sample is an arrival of the turn, else the
     same."""
     return (turn + has_arrived) % turns
+
+
+@overload
+def has_fallen(before: int, now: int) -> bool:
+    ...
+
+
+@overload
+def has_fallen(before: Wholes, now: Wholes) -> Flags:
+    ...
 
 
 def has_fallen(before: Any, now: Any) -> Any:

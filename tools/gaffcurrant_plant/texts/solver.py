@@ -7,16 +7,17 @@ import shutil
 import subprocess
 from itertools import repeat
 from pathlib import Path
-from typing import Any, Callable, Iterable, NamedTuple, Optional, Sequence, Union
+from typing import Callable, Iterable, NamedTuple, Optional, SupportsInt, Union
 
 from ..faults import Refused, Trouble
+from ..plants.plant import Plant
 from ..plants.reader import read_plant
 from ..progress import Progress
 from .loop import noises
-from .table import Patrol, Stay, Table, read_text
+from .table import Patrol, Stay, Table, read_patrol, read_stay, read_table
 
 PACKAGE = Path(__file__).resolve().parents[1]
-Disturbance = Callable[[int, tuple[int, ...], tuple[int, ...]], Sequence[Any]]
+Disturbance = Callable[[int, tuple[int, ...], tuple[int, ...]], Iterable[SupportsInt]]
 
 
 class Sample(NamedTuple):
@@ -63,20 +64,17 @@ def scale(model_text: Union[str, bytes], version: Optional[int] = None) -> str:
 
 def solve(plant_text: Union[str, bytes], workers: int = 1) -> Table:
     """The Table of a plant text; raises Refused where the program refuses it, with the reason."""
-    text: Table = read_text(written("synth", plant_text, workers))
-    return text
+    return read_table(written("synth", plant_text, workers))
 
 
 def stay(plant_text: Union[str, bytes], workers: int = 1) -> Stay:
     """The Stay of a plant text: brings the plant into its target and keeps it there. Refused as for solve."""
-    text: Stay = read_text(written("stay", plant_text, workers))
-    return text
+    return read_stay(written("stay", plant_text, workers))
 
 
 def patrol(plant_text: Union[str, bytes], workers: int = 1) -> Patrol:
     """The Patrol of a plant text: visits its targets in turn for ever. Refused as for solve."""
-    text: Patrol = read_text(written("patrol", plant_text, workers))
-    return text
+    return read_patrol(written("patrol", plant_text, workers))
 
 
 def written(word: str, plant_text: Union[str, bytes], workers: int) -> bytes:
@@ -93,7 +91,7 @@ def written(word: str, plant_text: Union[str, bytes], workers: int) -> bytes:
 
 def simulate(
     table: Union[Table, Patrol],
-    state: Iterable[Any],
+    state: Iterable[SupportsInt],
     disturbance: Optional[Disturbance] = None,
     samples: int = 1000,
     seed: int = 0,
@@ -106,7 +104,7 @@ def simulate(
     turn's target. Raises NoRow where a state has no row."""
     plant, run = table.plant, list[Sample]()
     whole = [int(value) for value in state]
-    drawn: Iterable[Any] = noises(plant, seed) if disturbance is None else repeat([])
+    drawn: Iterable[list[int]] = noises(plant, seed) if disturbance is None else repeat([])
     for time, noise in zip(range(samples + 1), drawn):
         at = None
         if isinstance(table, Patrol):
@@ -124,7 +122,7 @@ def simulate(
     return run
 
 
-def checked(plant: Any, noise: Iterable[Any]) -> list[int]:
+def checked(plant: Plant, noise: Iterable[SupportsInt]) -> list[int]:
     """The noises of a sample as whole numbers; raises ValueError where they aren't what the plant allows."""
     whole = [int(value) for value in noise]
     if len(whole) != len(plant.noises) or any(

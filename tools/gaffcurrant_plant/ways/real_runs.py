@@ -1,15 +1,22 @@
 """Drives a model's own equations in doubles by a table, a stay text or a patrol text, many runs at once, and watches
 what the text promises. Needs numpy."""
 
+from __future__ import annotations
+
 from collections import Counter
+from typing import IO, TYPE_CHECKING, Iterable, Iterator, List, Optional, Sequence, SupportsFloat, Tuple, Union
 
 from ..faults import Trouble
 from ..models.agreement import check_model
 from ..models.model import Model, read_model
 from ..texts.promise import has_fallen, turn_after
-from ..texts.table import read_text
+from ..texts.table import Text, read_text
 from .doubles import NEAR, RealPlant, column, numpy
 from .starts import PUSHES, STARTS, Pushes, Starts
+
+if TYPE_CHECKING:
+    from ..plants.array_kinds import Flags, Reals, Wholes
+    from ..texts.arrays import Rows
 
 # Samples behind the greatest rank in which a plant is watched in its targets, those with goal keep, and the most of any
 # run.
@@ -17,13 +24,17 @@ STAYED, KEPT, MOST = 50, 200, 2000
 MOST_RUNS = 10**6
 
 
-def longest(rows):
+def longest(rows: Rows) -> int:
     """The samples after which each run has shown what is promised."""
     if rows.keeps:
         return KEPT
     if rows.kind == "patrol":
         return min(MOST, 2 * int(rows.ranks.max(axis=1).sum()))
     return int(rows.ranks.max()) + STAYED * (rows.kind == "stay")
+
+
+# The time, the turn of a patrol, the state, the rank and the input vector of a sample.
+Traced = Tuple[int, Optional[int], List[float], Optional[int], Optional[int]]
 
 
 class Outcome:
@@ -33,21 +44,24 @@ class Outcome:
     touched and left count the runs whose way between samples lay in an obstacle or outside of the domain; touch has the
     time, the state and the run's number where that came first."""
 
-    def __init__(self, runs):
-        self.runs, self.samples, self.violations = runs, 0, Counter()
-        self.starts, self.broken = Counter(), Counter()
+    def __init__(self, runs: int) -> None:
+        self.runs, self.samples, self.violations = runs, 0, Counter[str]()
+        self.starts, self.broken = Counter[str](), Counter[str]()
         self.touched = self.left = 0
-        self.first, self.trace, self.touch = None, [], None
+        self.first: Optional[str] = None
+        self.trace: list[Traced] = []
+        self.touch: Optional[tuple[int, list[float], int]] = None
 
 
 class Record:
     """What a data logger writes of runs: each sample's time, state and applied input, and the state behind the last
     one. parts: of each sample the runs, the states, the numbers of the input vectors, and the states behind it."""
 
-    def __init__(self, real, vectors):
-        self.real, self.vectors, self.parts = real, vectors, []
+    def __init__(self, real: RealPlant, vectors: Reals) -> None:
+        self.real, self.vectors = real, vectors
+        self.parts: list[tuple[Wholes, Reals, Wholes, Reals]] = []
 
-    def lines(self):
+    def lines(self) -> Iterator[str]:
         """The lines of a log: a heading, and run by run a line for each sample, runs apart by a blank line."""
         model = self.real.model
         yield ",".join(["time", *self.real.names, *self.real.input_names])
@@ -56,7 +70,7 @@ class Record:
         runs, states, inputs = (numpy.concatenate([part[k] for part in self.parts], axis=-1) for k in range(3))
         times = numpy.repeat(range(len(self.parts)), [part[0].size for part in self.parts])
         ends = {run: state for part in self.parts for run, state in zip(part[0].tolist(), part[3].T.tolist())}
-        order, sample, run = numpy.lexsort((times, runs)), float(model.sample or 1), None
+        order, sample, run = numpy.lexsort((times, runs)), float(model.time), None
         for at in order.tolist():
             if run is not None and runs[at] != run:
                 yield from (fields(time + sample, ends[run], ["-"] * len(self.vectors)), "")
@@ -65,7 +79,7 @@ class Record:
         yield fields(time + sample, ends[run], ["-"] * len(self.vectors))
 
 
-def fields(time, state, inputs):
+def fields(time: float, state: Sequence[float], inputs: Sequence[Union[str, float]]) -> str:
     """A line of a log."""
     return ",".join(
         one if isinstance(one, str) else repr(float(one)).removesuffix(".0")
@@ -76,7 +90,7 @@ def fields(time, state, inputs):
 class Loop:
     """Runs of the closed loop. record: where the samples are kept, if they are to be."""
 
-    def __init__(self, model, text, runs, seed):
+    def __init__(self, model: Model, text: Text, runs: int, seed: int) -> None:
         self.real, self.outcome = RealPlant(model), Outcome(runs)
         from ..texts.arrays import Rows
 
@@ -97,9 +111,10 @@ class Loop:
         self.turns = numpy.arange(runs) // (len(STARTS) * len(PUSHES)) % len(self.rows.won)
         self.begins, self.pushes = Starts(self.real, self.rows, self.exact, draws), Pushes(self.real, runs, draws)
         self.has_touched, self.has_left, self.has_broken = numpy.zeros((3, runs), dtype=bool)
-        self.history, self.record = [], None
+        self.history: list[tuple[Wholes, Wholes, Reals, Wholes, Wholes]] = []
+        self.record: Optional[Record] = None
 
-    def measured(self, states):
+    def measured(self, states: Reals) -> Wholes:
         """The whole numbers that a device finds in doubles: those of the units that the values lie in; of an exact
         state the nearest. Those of a state that comes round are brought back into its range."""
         scaled = states / self.real.units
@@ -108,10 +123,11 @@ class Loop:
         low, turn = self.rows.low, self.rows.high + 1 - self.rows.low
         return numpy.where(self.comes_round, low + (whole - low) % turn, whole)
 
-    def drive(self, states, samples):
+    def drive(self, states: Optional[Reals], samples: int) -> Outcome:
         """Follows all runs, at most so many samples."""
-        runs, is_given = numpy.arange(self.outcome.runs), states is not None
-        states = states if is_given else self.begins.states(self.turns, self.measured)
+        is_given = states is not None
+        runs: Wholes = numpy.arange(self.outcome.runs)
+        states = self.begins.states(self.turns, self.measured) if states is None else states
         cells = self.rows.cell_of(self.measured(states))
         if not self.rows.won[self.turns, cells].all():
             raise Trouble("no row: the first state is outside the domain, or no strategy was found from its cell")
@@ -139,7 +155,7 @@ class Loop:
                 counts.update(STARTS[kind] for kind in kinds.tolist())
         return self.outcome
 
-    def moved(self, time, runs, states, inputs):
+    def moved(self, time: int, runs: Wholes, states: Reals, inputs: Wholes) -> Reals:
         """The states behind a sample; notes which ways touch an obstacle or leave the domain."""
         real = self.real
         with numpy.errstate(all="ignore"):
@@ -152,7 +168,7 @@ class Loop:
                 self.has_left[runs] |= leave
         return at
 
-    def checked(self, time, runs, states, inputs):
+    def checked(self, time: int, runs: Wholes, states: Reals, inputs: Wholes) -> Flags:
         """Which runs are off the obstacles, and where nothing is left to apply or they are to stay, in a target."""
         rows, real = self.rows, self.real
         good = self.noted(time, "a sample lies in an obstacle", runs, states, real.touches(states))
@@ -168,10 +184,11 @@ class Loop:
         off = self.exact & (abs(states / real.units - numpy.round(states / real.units)) > NEAR)
         return good & self.noted(time, "an exact state is no whole number of units", runs, states, off.any(axis=0))
 
-    def follows(self, time, runs, states, ranks, cells):
+    def follows(self, time: int, runs: Wholes, states: Reals, ranks: Wholes, cells: Wholes) -> Flags:
         """Which runs have a row at a rank below the one before; a patrol's turn goes on where its target was
         reached."""
-        rows, turns = self.rows, self.turns[runs]
+        rows = self.rows
+        turns: Wholes = self.turns[runs]
         arrived = rows.arrivals[turns, cells]
         for turn in range(len(rows.won)) if rows.kind == "patrol" else ():
             wrong = arrived & (turns == turn) & ~self.real.is_in_target(states, turn)
@@ -184,7 +201,7 @@ class Loop:
         falls = has_fallen(ranks, rows.ranks[turns, cells])
         return good & self.noted(time, "the rank doesn't fall", runs, states, good & ~arrived & ~falls)
 
-    def noted(self, time, what, runs, states, wrong):
+    def noted(self, time: int, what: str, runs: Wholes, states: Reals, wrong: Flags) -> Flags:
         """Counts what is wrong, and answers which runs are well; keeps the trace of the first that isn't."""
         if wrong.any():
             self.outcome.violations[what] += int(wrong.sum())
@@ -194,7 +211,7 @@ class Loop:
                 self.outcome.first, self.outcome.trace = what, self.trace_of(time, int(runs[at]), states[:, at])
         return ~wrong
 
-    def trace_of(self, time, run, state):
+    def trace_of(self, time: int, run: int, state: Reals) -> list[Traced]:
         """The samples of a run, and the state that is wrong."""
         samples = []
         for before, (runs, turns, states, ranks, inputs) in enumerate(self.history[:time]):
@@ -211,7 +228,16 @@ class Loop:
         return samples + [(time, None, state.tolist(), None, None)]
 
 
-def real_runs(model, text, runs=2000, samples=None, seed=1, state=None, turn=None, log=None):
+def real_runs(
+    model: Union[Model, str, bytes],
+    text: Union[Text, str, bytes, bytearray],
+    runs: int = 2000,
+    samples: Optional[int] = None,
+    seed: int = 1,
+    state: Optional[Iterable[SupportsFloat]] = None,
+    turn: Optional[int] = None,
+    log: Optional[IO[str]] = None,
+) -> Outcome:
     """The Outcome of so many runs of a model's own equations by a Table, a Stay or a Patrol, in doubles. model is a
     Model, or its text; text may be str or bytes too; samples is the most of a run, as many as the ranks ask for where
     it is left out; state is the first state of all runs in the model's units, and turn the turn of a patrol with which
@@ -230,12 +256,12 @@ def real_runs(model, text, runs=2000, samples=None, seed=1, state=None, turn=Non
             raise Trouble(f"there are {len(loop.rows.won)} turns, from 0; {turn} is none", 2)
         loop.turns[:] = turn
     first = None if state is None else column(state) + numpy.zeros((1, runs))
-    loop.record = Record(loop.real, loop.vectors) if log else None
+    loop.record = record = Record(loop.real, loop.vectors) if log else None
     outcome = loop.drive(first, longest(loop.rows) if samples is None else samples)
-    if log:
-        log.writelines(f"{line}\n" for line in loop.record.lines())
+    if log and record:
+        log.writelines(f"{line}\n" for line in record.lines())
     return outcome
 
 
-def bytes_of(text):
+def bytes_of(text: Union[str, bytes, bytearray]) -> bytes:
     return text.encode() if isinstance(text, str) else bytes(text)

@@ -1,19 +1,26 @@
 """Intervals of doubles as arrays, whose ends are rounded outward. Needs numpy."""
 
+from __future__ import annotations
+
 from fractions import Fraction
+from typing import TYPE_CHECKING, Union
 
 from ..faults import Trouble
 from .doubles import OF_NUMPY, numpy
+
+if TYPE_CHECKING:
+    from ..models.kinds import Function, RealPoints
+    from ..plants.array_kinds import Flags, RealColumn
 
 # How far functions of numpy may be beside, as a share of the value and at least: far more than they are.
 SHARE, LEAST = 2.0**-48, 1e-300
 
 
-def down(values):
+def down(values: RealColumn) -> RealColumn:
     return numpy.nextafter(values, -numpy.inf)
 
 
-def up(values):
+def up(values: RealColumn) -> RealColumn:
     return numpy.nextafter(values, numpy.inf)
 
 
@@ -22,41 +29,42 @@ class Span:
 
     __slots__ = ("low", "high")
 
-    def __init__(self, low, high):
+    def __init__(self, low: RealColumn, high: RealColumn) -> None:
         self.low, self.high = low, high
 
-    def __add__(self, other):
+    def __add__(self, other: Span) -> Span:
         return Span(down(self.low + other.low), up(self.high + other.high))
 
-    def __sub__(self, other):
+    def __sub__(self, other: Span) -> Span:
         return Span(down(self.low - other.high), up(self.high - other.low))
 
-    def __neg__(self):
+    def __neg__(self) -> Span:
         return Span(-self.high, -self.low)
 
-    def __mul__(self, other):
+    def __mul__(self, other: Span) -> Span:
         ends = (self.low * other.low, self.low * other.high, self.high * other.low, self.high * other.high)
         return Span(
             down(numpy.minimum(numpy.minimum(*ends[:2]), numpy.minimum(*ends[2:]))),
             up(numpy.maximum(numpy.maximum(*ends[:2]), numpy.maximum(*ends[2:]))),
         )
 
-    def hull(self, other):
+    def hull(self, other: Span) -> Span:
         return Span(numpy.minimum(self.low, other.low), numpy.maximum(self.high, other.high))
 
-    def lies_in(self, other):
-        return (other.low <= self.low) & (self.high <= other.high)
+    def lies_in(self, other: Span) -> Flags:
+        lies: Flags = numpy.logical_and(other.low <= self.low, self.high <= other.high)
+        return lies
 
-    def taken(self, where):
-        return Span(self.low[where], self.high[where])
+    def taken(self, where: Flags) -> Span:
+        return Span(numpy.asarray(self.low)[where], numpy.asarray(self.high)[where])
 
 
-def widened(low, high):
+def widened(low: RealColumn, high: RealColumn) -> Span:
     """A span about what functions of numpy have given."""
     return Span(low - (numpy.abs(low) * SHARE + LEAST), high + (numpy.abs(high) * SHARE + LEAST))
 
 
-def around(value):
+def around(value: Union[int, float, Fraction]) -> Span:
     """The least span of doubles about a fraction."""
     value = Fraction(value)
     near = float(value)
@@ -66,10 +74,12 @@ def around(value):
 class Spans:
     """What `value_of` needs to evaluate formulas over spans."""
 
-    number = staticmethod(around)
+    @staticmethod
+    def number(value: Fraction) -> Span:
+        return around(value)
 
     @staticmethod
-    def square(value):
+    def square(value: Span) -> Span:
         high = numpy.maximum(numpy.abs(value.low), numpy.abs(value.high))
         low = numpy.where(
             (value.low <= 0) & (value.high >= 0), 0.0, numpy.minimum(numpy.abs(value.low), numpy.abs(value.high))
@@ -77,32 +87,30 @@ class Spans:
         return Span(numpy.maximum(down(low * low), 0.0), up(high * high))
 
     @staticmethod
-    def size(value):
+    def size(value: Span) -> Span:
         low = numpy.where(
             (value.low <= 0) & (value.high >= 0), 0.0, numpy.minimum(numpy.abs(value.low), numpy.abs(value.high))
         )
         return Span(low, numpy.maximum(numpy.abs(value.low), numpy.abs(value.high)))
 
     @staticmethod
-    def least(one, other):
+    def least(one: Span, other: Span) -> Span:
         return Span(numpy.minimum(one.low, other.low), numpy.minimum(one.high, other.high))
 
     @staticmethod
-    def greatest(one, other):
+    def greatest(one: Span, other: Span) -> Span:
         return Span(numpy.maximum(one.low, other.low), numpy.maximum(one.high, other.high))
 
-    def atan2(self, one, other, _):
+    def atan2(self, one: Span, other: Span, _: object) -> Span:
         """By the least and the greatest angle of the corners, since no box that is asked for holds a jump."""
         if numpy.any((one.low <= 0) & (one.high >= 0) & (other.low <= 0)):
             raise Trouble("what stands in atan2 may come to where it jumps on the way")
         corners = [numpy.arctan2(y, x) for y in (one.low, one.high) for x in (other.low, other.high)]
         return widened(numpy.minimum.reduce(corners), numpy.maximum.reduce(corners))
 
-    def call(self, function, value, _):
-        if function[0] == "lut":
-            return pieces(function[1], value)
+    def call(self, function: Function, value: Span, _: object) -> Span:
         if not isinstance(function, str):
-            return self.power(function[1], value)
+            return pieces(function[1], value) if function[0] == "lut" else self.power(function[1], value)
         if function in ("sin", "cos"):
             return wave(function, value)
         if function in ("sqrt", "log") and numpy.any(value.low <= 0):
@@ -122,7 +130,7 @@ class Spans:
         return widened(least, numpy.maximum(*ends))
 
     @staticmethod
-    def power(exponent, value):
+    def power(exponent: Fraction, value: Span) -> Span:
         """A power by a number below 0, or by a fraction."""
         if numpy.any(value.low <= 0) and (exponent.denominator != 1 or numpy.any(value.high >= 0)):
             raise Trouble("a quotient's divisor, or what stands in a power, may be 0 on the way")
@@ -130,22 +138,22 @@ class Spans:
         return widened(numpy.minimum(*ends), numpy.maximum(*ends))
 
 
-def pieces(points, value):
+def pieces(points: RealPoints, value: Span) -> Span:
     """Straight pieces between points: the values at the ends, and those of the points between."""
-    columns = [[float(end) for end in column] for column in zip(*points)]
-    low, high = (numpy.interp(end, *columns) for end in (value.low, value.high))
+    xs, ys = ([float(end) for end in column] for column in zip(*points))
+    low, high = (numpy.interp(numpy.asarray(end), xs, ys) for end in (value.low, value.high))
     least, most = numpy.minimum(low, high), numpy.maximum(low, high)
-    for x, y in zip(*columns):
+    for x, y in zip(xs, ys):
         is_met = (value.low <= x) & (x <= value.high)
         least, most = numpy.where(is_met, numpy.minimum(least, y), least), numpy.where(
             is_met, numpy.maximum(most, y), most
         )
     # What is rounded is a difference of values too.
-    room = max(map(abs, columns[1])) * SHARE
+    room = max(abs(y) for y in ys) * SHARE
     return widened(least - room, most + room)
 
 
-def wave(function, value):
+def wave(function: str, value: Span) -> Span:
     """Sine or cosine: the values at the ends, and 1 or -1 where a top or a bottom lies between."""
     ends = [getattr(numpy, function)(end) for end in (value.low, value.high)]
     top = 0.0 if function == "cos" else numpy.pi / 2

@@ -1,7 +1,17 @@
 """Draws the first states and the disturbances of runs in doubles. Needs numpy."""
 
+from __future__ import annotations
+
+from typing import TYPE_CHECKING, Callable
+
 from ..faults import Trouble
 from .doubles import PARTS, column, numpy
+
+if TYPE_CHECKING:
+    from numpy.random import Generator
+    from ..plants.array_kinds import Flags, Reals, Wholes
+    from ..texts.arrays import Rows
+    from .doubles import RealPlant
 
 # Kinds of starts, and of disturbances, which the runs take in turn.
 STARTS = ("within cells", "on corners", "on whole units", "with states at 0")
@@ -13,12 +23,12 @@ class Starts:
     """First states: within cells with a row, on their corners by either way of computing these, on whole units, and
     with states at 0. kinds: for each run the number of its kind in STARTS."""
 
-    def __init__(self, real, rows, exact, draws):
+    def __init__(self, real: RealPlant, rows: Rows, exact: Flags, draws: Generator) -> None:
         self.real, self.rows, self.exact, self.draws = real, rows, exact, draws
         self.sizes = [state[4] for state in real.model.states]
         self.widths = column([state[3] for state in real.model.states])
 
-    def states(self, turns, measured):
+    def states(self, turns: Wholes, measured: Callable[[Reals], Wholes]) -> Reals:
         """A state for each turn of the runs; measured gives the whole numbers of states."""
         cells = self.cells(turns)
         indices = numpy.array(numpy.unravel_index(cells, self.rows.plant.counts))
@@ -43,7 +53,7 @@ class Starts:
             self.kinds[~has_row] = kind
         return states
 
-    def cells(self, turns):
+    def cells(self, turns: Wholes) -> Wholes:
         """A cell with a row for each run, in the run's turn; one that isn't in the target where there is one."""
         cells = numpy.zeros(len(turns), dtype=int)
         for turn in range(len(self.rows.won)):
@@ -56,7 +66,7 @@ class Starts:
             cells[mine] = self.draws.choice(found, mine.sum())
         return cells
 
-    def nearest(self, whole):
+    def nearest(self, whole: Wholes) -> Reals:
         """The doubles nearest to whole numbers of units."""
         return numpy.array(
             [
@@ -65,31 +75,31 @@ class Starts:
             ]
         )
 
-    def within(self, firsts, shares):
+    def within(self, firsts: Wholes, shares: Reals) -> Reals:
         """States within cells, a little off their bounds; exact states on a whole number."""
         width = self.rows.width
-        return (
-            firsts + numpy.where(self.exact, numpy.floor(shares * width), (0.001 + 0.998 * shares) * width)
-        ) * self.real.units
+        inside = numpy.where(self.exact, numpy.floor(shares * width), (0.001 + 0.998 * shares) * width)
+        states: Reals = (firsts + inside) * self.real.units
+        return states
 
 
 class Pushes:
     """The disturbances of runs: random, at ends, held at ends, switching from end to end, and still: 0, or the end that
     is nearest to it."""
 
-    def __init__(self, real, runs, draws):
+    def __init__(self, real: RealPlant, runs: int, draws: Generator) -> None:
         self.real, self.draws = real, draws
         self.is_high = draws.random((len(real.noise_names), runs)) < 0.5
         self.kinds = numpy.arange(runs) // len(STARTS) % len(PUSHES)
 
-    def parts(self, runs, time):
+    def parts(self, runs: Wholes, time: int) -> list[Reals]:
         """The disturbances of a sample of these runs, part by part; where the model knows samples alone, the same in
         each part."""
         is_steady = not self.real.is_flow or self.real.of_matrix
         parts = [self.part(runs, time + part // 2) for part in range(1 if is_steady else PARTS)]
         return parts * PARTS if is_steady else parts
 
-    def part(self, runs, beat):
+    def part(self, runs: Wholes, beat: int) -> Reals:
         low, high = self.real.noise_ends
         held, kinds = self.is_high[:, runs], self.kinds[runs]
         shares = self.draws.random(held.shape)

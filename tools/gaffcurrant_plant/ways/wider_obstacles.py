@@ -2,9 +2,13 @@
 its domain: solves, encloses the ways, widens by a layer of cells where ways touch, and begins again. Needs numpy and
 the program."""
 
+from __future__ import annotations
+
 import math
 import time
 from collections import Counter
+from fractions import Fraction
+from typing import TYPE_CHECKING, Callable, Iterable, Iterator, Optional, Sequence
 
 from ..faults import Refused, Trouble
 from ..models.model import said
@@ -15,6 +19,13 @@ from ..progress import Progress
 from ..texts.solver import written
 from .doubles import need_numpy, numpy
 from .enclosure import Looked
+
+if TYPE_CHECKING:
+    from ..models.kinds import Ends, RealBox
+    from ..models.model import Model
+    from ..models.plant_text import Planting
+    from ..plants.array_kinds import Flags, Wholes
+    from ..plants.plant import Plant
 
 MOST_ROUNDS = 100
 # Plants of a choice behind which it is told how long the rest may take, if it is longer than so many seconds.
@@ -28,7 +39,7 @@ class Layers:
     """Layers of cells about each obstacle, and along the bounds of the domain: for each state those at the low and
     those at the high side."""
 
-    def __init__(self, model, dear, has_ends):
+    def __init__(self, model: Model, dear: int, has_ends: bool) -> None:
         self.model, self.dear, self.has_ends = model, dear, has_ends
         self.obstacles = [box for keyword, box in model.boxes if keyword == "obstacle"]
         states = len(model.states)
@@ -42,11 +53,11 @@ class Layers:
             [[self.indices(i, *ends) for i, ends in enumerate(box)] for box in self.obstacles]
         ).reshape(-1, states, 2)
 
-    def indices(self, i, low, high):
+    def indices(self, i: int, low: Fraction, high: Fraction) -> tuple[int, int]:
         """The first and the last index that an obstacle meets along a state."""
         return math.floor((low - self.lows[i]) / self.widths[i]), math.ceil((high - self.lows[i]) / self.widths[i]) - 1
 
-    def boxes(self):
+    def boxes(self) -> list[RealBox]:
         """The obstacles of the text, in the model's units."""
         boxes = [part for box in self.widened() for part in self.in_range(box)]
         whole = [(low, high) for _, low, high, *_ in self.model.states]
@@ -57,7 +68,7 @@ class Layers:
                 boxes.append(whole[:i] + [(self.end(i, self.counts[i] - self.inside[i][1]), high)] + whole[i + 1 :])
         return boxes
 
-    def widened(self):
+    def widened(self) -> Iterator[RealBox]:
         """The obstacles with their layers, also where they go on behind the end of a range that comes round."""
         for box, layers, taken in zip(self.obstacles, self.about, self.taken):
             yield [
@@ -68,9 +79,9 @@ class Layers:
                 for i, (low, high) in enumerate(box)
             ]
 
-    def in_range(self, box):
+    def in_range(self, box: RealBox) -> Sequence[RealBox]:
         """The parts of a box that goes on behind the ends of ranges that come round, each in the ranges."""
-        parts = [[]]
+        parts: list[list[Ends]] = [[]]
         for i, (low, high) in enumerate(box):
             least, most = self.lows[i], self.end(i, self.counts[i])
             ends = [(low, high)]
@@ -83,10 +94,10 @@ class Layers:
             parts = [part + [end] for part in parts for end in ends]
         return parts
 
-    def end(self, i, index):
+    def end(self, i: int, index: int) -> Fraction:
         return self.lows[i] + self.widths[i] * int(index)
 
-    def widen(self, indices, ends, walls):
+    def widen(self, indices: Wholes, ends: Wholes, walls: Flags) -> None:
         """Adds a layer where ways touch: about each obstacle at the side beside which, for a layer's cells, most of the
         touching ways begin or end, and rather at one that has few layers, since many close a gap. indices and ends: a
         column for each of these ways, of the cell where it begins and of that where it ends; walls: which obstacles it
@@ -105,7 +116,7 @@ class Layers:
         for at in numpy.flatnonzero(walls[len(self.obstacles) :].any(axis=1)):
             self.inside[at // 2][at % 2] += 1
 
-    def votes(self, i, indices, first, last):
+    def votes(self, i: int, indices: Wholes, first: int, last: int) -> tuple[int, int]:
         """How many indices lie below and above an obstacle's first and last one; of a state that comes round at the
         side that is nearer."""
         if not self.comes_round[i]:
@@ -115,7 +126,7 @@ class Layers:
         is_above = above <= (first - indices) % self.counts[i]
         return (is_beside & ~is_above & (above > 0)).sum(), (is_beside & is_above & (above > 0)).sum()
 
-    def said(self):
+    def said(self) -> Iterator[str]:
         """Comments on what was widened."""
         for number, (box, widened) in enumerate(zip(self.obstacles, self.widened()), 1):
             parts = [
@@ -133,12 +144,14 @@ class Layers:
                 )
 
 
-def text_between(planting, word, has_bounds, progress=None):
+def text_between(planting: Planting, word: str, has_bounds: bool, progress: Optional[Progress] = None) -> str:
     """The plant text whose table keeps the ways off the model's obstacles, and in its domain where that is asked
     for."""
     need_numpy()
     progress = progress or Progress("scale", has_lines=True)
-    found, faults, looks = [], [], Looks(planting, word, has_bounds, progress.tell)
+    found: list[Widened] = []
+    faults: list[Trouble] = []
+    looks = Looks(planting, word, has_bounds, progress.tell)
     with progress.during(looks.said):
         for choice in CHOICES:
             looks.begin()
@@ -157,7 +170,7 @@ class Look:
     """What a plant's table shows. rows: how many there are; indices and ends: those of the cells where touching ways
     begin and end, in columns; vectors: their inputs; walls: what they may touch."""
 
-    def __init__(self, rows, indices, ends, vectors, walls):
+    def __init__(self, rows: int, indices: Wholes, ends: Wholes, vectors: Wholes, walls: Flags) -> None:
         self.rows, self.indices, self.ends, self.vectors, self.walls = rows, indices, ends, vectors, walls
 
 
@@ -166,20 +179,26 @@ class Looks:
     counts: of each choice that was begun, how many ways may touch, plant by plant; seconds: what each look took; tell:
     says a line."""
 
-    def __init__(self, planting, word, has_bounds, tell=lambda _: None):
+    def __init__(
+        self, planting: Planting, word: str, has_bounds: bool, tell: Callable[[str], None] = lambda _: None
+    ) -> None:
         self.planting, self.model, self.word, self.has_bounds = planting, planting.model, word, has_bounds
-        self.known, self.last, self.counts, self.seconds, self.tell = {}, None, [], [], tell
+        self.known: dict[str, Look] = {}
+        self.last: Optional[Look] = None
+        self.counts: list[list[int]] = []
+        self.seconds: list[float] = []
+        self.tell = tell
         self.ways = Looked(self.model, planting.plant, has_bounds)
 
     @property
-    def choice(self):
+    def choice(self) -> int:
         return len(self.counts)
 
-    def begin(self):
+    def begin(self) -> None:
         """Begins with the next choice."""
         self.counts.append([])
 
-    def said(self):
+    def said(self) -> str:
         """How far it is."""
         if self.last is None:
             return "between: solving the plant as it is, and enclosing its ways"
@@ -190,22 +209,22 @@ class Looks:
             + (f"; about {left:.0f} s left" if left is not None else "")
         )
 
-    def at(self, text):
+    def at(self, text: str) -> Look:
         """The Look at a plant text."""
         if text not in self.known:
             begun = time.monotonic()
             self.known[text] = self.look(text)
             self.seconds.append(time.monotonic() - begun)
-        self.last = self.known[text]
-        self.counts[-1].append(self.last.walls.shape[1])
+        self.last = look = self.known[text]
+        self.counts[-1].append(look.walls.shape[1])
         if len(self.counts[0]) == FIRST and self.choice == 1:
             self.forecast()
-        return self.last
+        return look
 
-    def forecast(self):
+    def forecast(self) -> None:
         """Tells how long the rest may take, where that is long."""
         left, counts = self.seconds_left(), ", ".join(map(str, self.counts[0]))
-        if left is None and self.last.walls.any():
+        if left is None and self.last and self.last.walls.any():
             self.tell(
                 f"between: the ways that may touch don't become fewer so far ({counts}), so it can't be told how "
                 f"long this takes; a plant takes {self.plant_seconds():.0f} s, and {MOST_ROUNDS} for each of "
@@ -218,17 +237,17 @@ class Looks:
                 f"{len(CHOICES)} ways to widen obstacles"
             )
 
-    def seconds_left(self):
+    def seconds_left(self) -> Optional[float]:
         """About how long the rest takes, or None where that can't be said."""
         plants = self.plants_left()
         return None if plants is None else plants * self.plant_seconds()
 
-    def plant_seconds(self):
+    def plant_seconds(self) -> float:
         """What a plant takes: the first one's ways are all new."""
         others = self.seconds[1:]
         return sum(others) / len(others) if others else self.seconds[0]
 
-    def plants_left(self):
+    def plants_left(self) -> Optional[int]:
         """About how many plants are still to be looked at, where the ways become fewer by the same factor from plant to
         plant; None where that can't be said."""
         own = widenings_left(self.counts[-1]) if self.counts else None
@@ -239,12 +258,12 @@ class Looks:
             return None
         return own + (len(CHOICES) - self.choice) * (usual or len(self.counts[-1]) + own)
 
-    def look(self, text):
+    def look(self, text: str) -> Look:
         from ..texts.arrays import Turns
 
         try:
-            turns = Turns(written(self.word, text, 2))
-            turns = [turns.cells(turn) for turn in range(turns.count)]
+            read = Turns(written(self.word, text, 2))
+            turns = [read.cells(turn) for turn in range(read.count)]
         except Refused as refusal:
             raise Trouble(f"between: the program answers `{refusal.answer}`: {refusal.reason}") from None
         found = [self.ways.touch(cells.won, cells.inputs) for cells in turns]
@@ -252,9 +271,8 @@ class Looks:
             raise Trouble(
                 "between: no enclosure of the ways was found; the sample is long beside the fastest time of the model"
             )
-        walls, cells = (
-            numpy.concatenate(parts, axis=-1) for parts in ([one.walls for one in found], [one.cells for one in found])
-        )
+        walls = numpy.concatenate([one.walls for one in found], axis=-1)
+        cells = numpy.concatenate([one.cells for one in found])
         vectors = numpy.concatenate([one.inputs[touch.cells] for one, touch in zip(turns, found)])
         indices = numpy.array(numpy.unravel_index(cells, self.planting.plant.counts))
         return Look(
@@ -266,7 +284,7 @@ class Looks:
         )
 
 
-def widenings_left(counts):
+def widenings_left(counts: Sequence[int]) -> Optional[int]:
     """In how many widenings numbers come below one that fall by the same factor each time; None for few, and for ones
     that don't fall."""
     if len(counts) < FIRST or counts[-1] >= counts[0]:
@@ -277,9 +295,9 @@ def widenings_left(counts):
     return min(MOST_ROUNDS, math.ceil(math.log(counts[-1]) / factor) + 1)
 
 
-def ends_of(plant, cells, vectors):
+def ends_of(plant: Plant, cells: Wholes, vectors: Wholes) -> Wholes:
     """The indices, in columns, at which the middles of cells are a sample later, without disturbances."""
-    batch = plant.batch()
+    batch = plant.arrays
     middles = batch.middles(batch.lows(batch.indices(cells)), vectors)
     return numpy.array(
         [
@@ -294,7 +312,7 @@ class Widened:
     """text: the plant text; before and rows: the rows of its table without widened obstacles and with them; rounds: how
     often they were widened."""
 
-    def __init__(self, looks, dear, has_ends):
+    def __init__(self, looks: Looks, dear: int, has_ends: bool) -> None:
         self.looks, self.planting, self.model = looks, looks.planting, looks.model
         self.layers, self.before, last = Layers(self.model, dear, has_ends), None, None
         for self.rounds in range(MOST_ROUNDS):
@@ -311,7 +329,7 @@ class Widened:
             last = look
         raise Trouble(f"between: ways still touch after {MOST_ROUNDS} rounds")
 
-    def nothing_left(self, last):
+    def nothing_left(self, last: Optional[Look]) -> str:
         """What to say where no row is left: which wall the most ways of the last rows touch, under which input most of
         these, and what may help."""
         if last is None:
@@ -331,7 +349,7 @@ class Widened:
             f"smaller `sample`, more room beside it{others} may help"
         )
 
-    def comments(self):
+    def comments(self) -> Iterator[str]:
         bounds = " or leaves its domain" * self.looks.has_bounds
         yield (
             f"# no way between two samples touches an obstacle of the model{bounds}: tools/between encloses the "
@@ -340,7 +358,7 @@ class Widened:
         yield from self.layers.said()
         yield f"#   this leaves {self.rows} of {self.before} rows, by `{self.looks.word}`"
 
-    def text_of(self, comments=()):
+    def text_of(self, comments: Iterable[str] = ()) -> str:
         """The text with the widened obstacles, and comments before its first line."""
         boxes = self.layers.boxes()
         if len(boxes) > MOST["obstacle"]:
