@@ -78,7 +78,7 @@ def read_log(data: bytes, states: Sequence[str], inputs: Sequence[str], units: U
     if b"\0" in data[:4096]:
         raise Trouble(f"{path}: the log has bytes of zero, as text in UTF-16 has; it is to be CSV in UTF-8")
     text = data.removeprefix(b"\xef\xbb\xbf").replace(b"\r\n", b"\n").replace(b"\r", b"\n")
-    first = re.match(rb"\s*", text).end()  # type: ignore[union-attr]
+    first = len(text) - len(text.lstrip())
     heading, _, body = text[first:].partition(b"\n")
     if not heading:
         raise Trouble(f"{path}: the log is empty; its first line names the columns")

@@ -5,7 +5,7 @@ from __future__ import annotations
 import math
 import random
 from fractions import Fraction
-from typing import Any, Optional
+from typing import Optional
 
 import numpy
 
@@ -14,6 +14,7 @@ from ..models import polynomial
 from ..models.arithmetic import Floats
 from ..models.best_plant import planted
 from ..models.formula import value_of
+from ..models.kinds import Side
 from ..models.model import Model, read_model
 from ..plants.array_kinds import Flags
 from ..plants.plant import Plant
@@ -210,9 +211,11 @@ class ModelText(Edited):
         return f"w {' '.join(map(decimal, self.rows[at]))}"
 
 
-def sided(side: Any, values: dict[str, float]) -> float:
+def sided(side: Side, values: dict[str, float]) -> float:
     """A right side at a point."""
-    return float(polynomial.value_of(side, values)) if isinstance(side, dict) else float(value_of(side, values, Floats))
+    return (
+        float(polynomial.value_of(side, values)) if isinstance(side, dict) else float(value_of(side, values, Floats()))
+    )
 
 
 class PlantText(Edited):

@@ -37,7 +37,7 @@ INSTEAD = {
     "arccos": "; it is `acos`",
     "arctan2": "; it is `atan2`",
 }
-_MADE: dict[tuple[Any, ...], tuple[Any, ...]] = {}
+_MADE: dict[tuple[object, ...], Node] = {}
 
 
 def made(kind: str, *parts: object) -> Node:

@@ -11,7 +11,7 @@ from ..faults import Overflow
 from .array_kinds import Column, Ends, Extents, Flags, Numbers, Wholes
 from .bounds import SHAPES, SPANS, bounds_of, compiled, compiled_span
 from .expression import walk
-from .kinds import Box, Cell, Corners, Interval, Node, Points, Vector
+from .kinds import Box, Cell, Corners, Functions, Interval, Node, Points, Vector
 
 if TYPE_CHECKING:
     from .plant import Plant
@@ -62,7 +62,7 @@ def lut_span(points: Points, low: Numbers, high: Numbers) -> Ends:
     return least, most
 
 
-ROOM = {
+ROOM: Functions = {
     "abs": abs,
     "minimum": numpy.minimum,
     "maximum": numpy.maximum,

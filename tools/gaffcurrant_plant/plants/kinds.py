@@ -2,7 +2,7 @@
 
 from __future__ import annotations
 
-from typing import Any, Callable, Optional, Sequence, Tuple
+from typing import Any, Callable, Mapping, Optional, Sequence, Tuple
 
 # A cell and an input vector by their numbers, and how many samples suffice from a cell.
 Cell = int
@@ -36,3 +36,5 @@ Points = Sequence[Tuple[int, int]]
 # An expression as a function of the variables, and its span as one of their area: over numbers, or over arrays.
 Value = Callable[[Sequence[Any]], Any]
 Span = Callable[[Sequence[Any]], Tuple[Any, Any]]
+# The functions that both are made of, by their names.
+Functions = Mapping[str, Callable[..., object]]

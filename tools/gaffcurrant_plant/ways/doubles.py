@@ -15,6 +15,7 @@ if TYPE_CHECKING:
     from ..models.model import Model
     from ..plants.array_kinds import Flags, RealColumn, Reals
 
+# By this form the other modules of ways may take numpy from here, None where it is missing.
 try:
     import numpy as numpy
 except ImportError:
