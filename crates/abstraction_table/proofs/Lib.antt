@@ -1,15 +1,4 @@
-pub mod BelowBoxes
-pub mod Mapped
-pub mod CountedFans
-pub mod MergedFans
-pub mod Tallying
-pub mod BandSlots
-pub mod BandCuts
-pub mod SourceBands
-pub mod LeadingPairs
-pub mod SourceSteps
-pub mod Segments
-pub mod ListedShapes
+pub mod GameSources
 pub mod PlantGame
 pub mod BoxCorners
 pub mod PassingBoxes

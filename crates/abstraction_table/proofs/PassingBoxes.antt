@@ -1,10 +1,7 @@
--- A test that is asked of the cells of segments, and of the corners of a box.
-use Rattle.std.proofs.Common.{◌≡◌, ◌≢◌, ℕ, ◌+◌, ◌-◌, ◌<◌, ◌≤◌, List, [], ◌++◌, All, length, take, drop, get_or, Option, Some, None, sym, ap, subst, ◌∙◌, arith}
+-- A test that is asked of the corners of a box, and of its cells.
+use Rattle.std.proofs.Common.{◌≡◌, ◌≢◌, ℕ, ◌+◌, ◌-◌, ◌<◌, ◌≤◌, List, [], All, length, get_or, Option, Some, None, ap, subst, ◌∙◌, arith}
 use Rattle.std.specs.Prelude.{IfSome}
-use Rattle.std.specs.List.{range_with_len}
 use Rattle.std.proofs.lemmas.List.{length-map}
-use Rattle.std.proofs.lemmas.List.FromFn.{length-range_with_len, get_or-range_with_len}
-use Rattle.rayon.proofs.ListFacts.{All-parts}
 use Rattle.grid_quantiser.specs.declared.axis.Axis.{Axis}
 use Rattle.grid_quantiser.specs.declared.boxes.CellBox.{CellBox}
 use Rattle.grid_quantiser.specs.Axes.{cells_of}
@@ -12,41 +9,14 @@ use Rattle.grid_quantiser.specs.CellBoxes.{IsCellBox, cells_between}
 use Rattle.game_core.specs.declared.game.Mark.{Mark}
 use Rattle.game_core.specs.Game.{Game, pairs_of, successors_at}
 use Rattle.successor_box.specs.SuccessorBoxes.{cells_in}
-use Rattle.abstraction_table.specs.declared.shapes.Segment.{Segment}
-use Rattle.abstraction_table.specs.declared.shapes.Shapes.{Shapes}
-use Rattle.abstraction_table.specs.BoxGame.{box_game}
-use Rattle.abstraction_table.specs.inside.Fans.{HasFan, FanIsKnown}
+use Rattle.source_lists.specs.declared.shapes.Shapes.{Shapes}
+use Rattle.plant_game.specs.BoxGame.{box_game, IsBox}
+use Rattle.source_lists.specs.Fans.{HasFan, FanIsKnown}
 use Rattle.abstraction_table.specs.inside.StoredGame.{IsBoxGame}
-use Rattle.abstraction_table.specs.inside.Shapes.{cells_from, EndsBy, segments_at, HasSegmentsOf}
-use Rattle.abstraction_table.specs.inside.SourceLists.{IsBox}
+use Rattle.source_lists.specs.Shapes.{cells_from, EndsBy, segments_at, HasSegmentsOf}
 use Rattle.abstraction_table.proofs.BoxCorners.{first_corner, last_corner}
-use Rattle.abstraction_table.proofs.LeadingPairs.{successors_are}
-use Rattle.abstraction_table.proofs.Segments.{segments_end, segments_split}
-
--- ---- cells that follow one another
-
-module _ (P : ℕ → Type 0) (first len : ℕ) where
-  pub range_passes : ((c : ℕ) → first ≤ c → c < first + len → P c) → All P (range_with_len first len)
-  range_passes each = λ k d lt.
-      let inside : k < len = omega (arith, lt, length-range_with_len first len) in
-      subst P (sym (get_or-range_with_len first len k d inside)) (each (first + k) (omega arith) (omega (arith, inside)))
-
-  pub passes_in_range : All P (range_with_len first len) → (c : ℕ) → first ≤ c → c < first + len → P c
-  passes_in_range all c low below =
-      let inside : c - first < len = omega (arith, low, below) in
-      let slot : first + (c - first) ≡ c = omega (arith, low) in
-      subst P (get_or-range_with_len first len (c - first) 0 inside ∙ slot) (all (c - first) 0 (omega (arith, inside, length-range_with_len first len)))
-
--- what passes at the cells of segments passes at those of each
-pub segment_passes_too : (P : ℕ → Type 0) (first : ℕ) (segments : List Segment) (k : ℕ) (d : Segment) → k < length segments → All P (cells_from first segments) → All P (range_with_len (first + (get_or segments k d).start) (get_or segments k d).len)
-segment_passes_too P first segments k d below all =
-    let before = cells_from first (take k segments) in
-    let here = range_with_len (first + (get_or segments k d).start) (get_or segments k d).len in
-    let parts = subst (All P) (segments_split first segments k d below) all in
-    let so_far = (All-parts P (before ++ here) (cells_from first (drop (k + 1) segments)) parts).0 in
-    (All-parts P before here so_far).1
-
--- ---- the box of a pair
+use Rattle.plant_game.proofs.BoxGames.{successors_are}
+use Rattle.source_lists.proofs.Segments.{segments_end}
 
 module _ (axes : List Axis) (inputs : ℕ) (marks : List Mark) (boxes : List (Option CellBox)) (fans : List ℕ) (held : IsBoxGame axes inputs marks boxes fans) (pair : ℕ) (below : pair < pairs_of (box_game axes inputs marks boxes)) where
   abbrev game : Game

@@ -1,4 +1,3 @@
-pub mod BoxGame
 pub mod Table
 pub mod Faults
 pub mod inside

@@ -5,7 +5,7 @@ use Rattle.game_core.specs.Game.{Game}
 use Rattle.abstraction_table.specs.declared.abstraction.Abstraction.{Abstraction}
 use Rattle.abstraction_table.specs.declared.boxed_game.BoxedGame.{BoxedGame}
 use Rattle.abstraction_table.specs.declared.forward.ForwardAbstraction.{ForwardAbstraction}
-use Rattle.abstraction_table.specs.BoxGame.{box_game}
+use Rattle.plant_game.specs.BoxGame.{box_game}
 
 -- the game by the boxes of its pairs
 abbrev pub game_in : BoxedGame → Game

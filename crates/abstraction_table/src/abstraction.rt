@@ -1,10 +1,10 @@
-ghost use Rattle.abstraction_table.specs.inside.SourceLists.{AreSourceBands};
+ghost use Rattle.source_lists.specs.SourceLists.{AreSourceBands};
 ghost use Rattle.abstraction_table.specs.inside.Props.{box_props};
 
 use crate::boxed_game::BoxedGame;
-use crate::sources::Sources;
 use game_core::{Graph, Mark};
 use grid_quantiser::CellBox;
+use source_lists::Sources;
 
 /// The game of a plant, from both ends of its edges.
 #[derive(Drop)]
@@ -17,7 +17,7 @@ pub struct Abstraction {
 impl Abstraction {
     ghost use Rattle.std.specs.Prelude.{◌≡◌, ◌<◌};
     ghost use Rattle.game_core.specs.Game.{pairs_of};
-    ghost use Rattle.plant_game.specs.Abstraction.{box_at};
+    ghost use Rattle.pair_box.specs.PlantBoxes.{box_at};
     ghost use Rattle.abstraction_table.specs.Table.{game_of, boxes_of};
 
     /// The box of a pair: None where its input isn't enabled.

@@ -1,14 +1,14 @@
 ghost use Rattle.std.specs.Prelude.{◌≡◌, ◌<◌, length, slice_index};
 ghost use Rattle.grid_quantiser.specs.CellBoxes.{IsCellBox, cells_between};
-ghost use Rattle.abstraction_table.specs.inside.Fans.{HasFan};
+ghost use Rattle.source_lists.specs.Fans.{HasFan};
 ghost use Rattle.abstraction_table.specs.inside.StoredGame.{IsBoxGame};
 ghost use Rattle.abstraction_table.specs.inside.Props.{box_props};
 
-use crate::fans::Fans;
 use game_core::Mark;
 use grid_quantiser::{CellBox, Grid};
-use pair_boxes::PairBox;
+use pair_box::PairBox;
 use raw_slots::RawList;
+use source_lists::Fans;
 
 /// The game of a plant by the boxes of its pairs. A pair's successors are the cells of its box, in rising
 /// order; they are not listed in memory.
@@ -25,7 +25,7 @@ pub(crate) struct BoxedGame {
 impl BoxedGame {
     ghost use Rattle.std.specs.Prelude.{◌≡◌, ◌<◌, length, slice_index};
     ghost use Rattle.game_core.specs.Game.{pairs_of, mark_of, successors_at};
-    ghost use Rattle.plant_game.specs.Abstraction.{box_at};
+    ghost use Rattle.pair_box.specs.PlantBoxes.{box_at};
     ghost use Rattle.abstraction_table.specs.Table.{game_in};
 
     pub(crate) fn cells(&self) -> u32

@@ -1,22 +1,21 @@
 //! Building the abstraction of a plant.
 ghost use Rattle.std.specs.Prelude.{◌≡◌, IfOk, IfErr};
 ghost use Rattle.successor_box.specs.Deviations.{HasNoOverflow, deviations_of};
-ghost use Rattle.plant_game.specs.Abstraction.{IsGameOf, AreBoxesOf};
+ghost use Rattle.plant_game.specs.Abstraction.{IsGameOf};
+ghost use Rattle.pair_box.specs.PlantBoxes.{AreBoxesOf};
 ghost use Rattle.abstraction_table.specs.Faults.{IsFaultOf};
 ghost use Rattle.abstraction_table.specs.Table.{game_in, game_of, boxes_of, forward_game, boxes_forward};
 
 use crate::abstraction::Abstraction;
 use crate::boxed_game::BoxedGame;
 use crate::build_fault::BuildFault;
-use crate::fans::count_fans;
 use crate::forward::ForwardAbstraction;
-use crate::shapes::build_shapes;
-use crate::sources::build_sources;
 use base::limits::EDGES_LIMIT;
 use game_core::NoMemory;
 use pair_boxes::build_boxes;
 use plant_game::build_marks;
 use plant_record::Plant;
+use source_lists::{build_shapes, build_sources, count_fans};
 use std::alloc::Global;
 use std::thread::Threads;
 use successor_box::{Sampled, Slopes};

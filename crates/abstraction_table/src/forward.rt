@@ -1,10 +1,10 @@
 ghost use Rattle.abstraction_table.specs.inside.Props.{box_props};
-ghost use Rattle.abstraction_table.specs.inside.Shapes.{EachBoxHasSegments};
+ghost use Rattle.source_lists.specs.Shapes.{EachBoxHasSegments};
 
 use crate::boxed_game::BoxedGame;
-use crate::shapes::{Shapes, all_pass};
 use game_core::{CellTest, Forward, Mark};
 use grid_quantiser::CellBox;
+use source_lists::{Shapes, all_pass};
 
 /// The forward abstraction: the game of a plant by its boxes, with their segments.
 #[derive(Drop)]
@@ -17,7 +17,7 @@ pub struct ForwardAbstraction {
 impl ForwardAbstraction {
     ghost use Rattle.std.specs.Prelude.{◌≡◌, ◌<◌};
     ghost use Rattle.game_core.specs.Game.{pairs_of};
-    ghost use Rattle.plant_game.specs.Abstraction.{box_at};
+    ghost use Rattle.pair_box.specs.PlantBoxes.{box_at};
     ghost use Rattle.abstraction_table.specs.Table.{forward_game, boxes_forward};
 
     /// The box of a pair: None where its input isn't enabled.

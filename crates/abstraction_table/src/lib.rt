@@ -7,18 +7,10 @@
 #![tactic(auto)]
 
 mod abstraction;
-mod band;
-mod band_filling;
 mod boxed_game;
 mod build_fault;
 mod builders;
-mod cell_ranges;
-mod cuts;
-mod fans;
 mod forward;
-mod intake;
-mod shapes;
-mod sources;
 
 pub use abstraction::Abstraction;
 pub use build_fault::BuildFault;

@@ -7,7 +7,8 @@ use Rattle.fixed_expr.specs.Value.{value_of}
 use Rattle.grid_quantiser.specs.Axes.{cells_of}
 use Rattle.plant_record.specs.Description.{axes_of, count_of, vectors_of}
 use Rattle.successor_box.specs.SuccessorBoxes.{IsEnabledAt, AreSuccessors, central_values}
-use Rattle.plant_game.specs.Abstraction.{pairs_of, pair_of, AreEdges}
+use Rattle.pair_box.specs.PlantBoxes.{pairs_of, pair_of}
+use Rattle.plant_game.specs.Abstraction.{AreEdges}
 use Rattle.demo_plants.specs.Demo.{demo_plant_of, position, position_step, speed_step}
 use Rattle.demo_plants.specs.Laws.{DemoPlantsHaveFewEdges}
 use Rattle.demo_plants.proofs.Sizes.{within_limits}

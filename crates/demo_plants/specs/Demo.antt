@@ -14,7 +14,8 @@ use Rattle.plant_record.specs.Description.{Description, axes_of}
 use Rattle.game_core.specs.declared.game.Row.{Row}
 use Rattle.game_core.specs.Solution.{rank_in, greatest}
 use Rattle.plant_text.specs.Grammar.{Spells}
-use Rattle.plant_game.specs.Abstraction.{pairs_of, AreEdges}
+use Rattle.pair_box.specs.PlantBoxes.{pairs_of}
+use Rattle.plant_game.specs.Abstraction.{AreEdges}
 use Rattle.plant_game.specs.PlantSolution.{IsSolutionOf}
 
 -- the position of the cart

@@ -1,5 +1,5 @@
 -- What holds of every demo plant.
-use Rattle.std.specs.Prelude.{◌≡◌, ℕ, ◌*◌, ◌^◌, ◌<◌, ◌≤◌, List}
+use Rattle.std.specs.Prelude.{◌≡◌, ℕ, ◌*◌, ◌<◌, ◌≤◌, List}
 use Rattle.grid_quantiser.specs.Axes.{cells_of}
 use Rattle.plant_record.specs.declared.aims.GoalKind.TheVariants.{Reach}
 use Rattle.plant_record.specs.Description.{axes_of}
@@ -8,7 +8,8 @@ use Rattle.plant_writing.specs.CanonicalText.{text_of}
 use Rattle.plant_text.specs.Grammar.{Spells}
 use Rattle.plant_text.specs.PlantRefusals.{IsShort}
 use Rattle.successor_box.specs.Deviations.{HasNoOverflow}
-use Rattle.plant_game.specs.Abstraction.{pairs_of, AreEdges}
+use Rattle.pair_box.specs.PlantBoxes.{pairs_of}
+use Rattle.plant_game.specs.Abstraction.{AreEdges}
 use Rattle.command_line.specs.Command.{IsDemoNumber}
 use Rattle.demo_plants.specs.Demo.{demo_plant_of, demo_text, IsDemoLine}
 use Rattle.base.specs.declared.limits.TheConstants.{EDGES_LIMIT}

@@ -38,7 +38,7 @@ use Rattle.text_control.specs.Visits.{HasArrivedInTurn, with_turn, IsVisit}
 use Rattle.text_control.proofs.OneText.{turn_known}
 use Rattle.text_control.proofs.TextRefusals.{read_texts_tell}
 use Rattle.synth_run.specs.Headline.{IsPatrolTableFor, IsPatrolTableOf}
-use Rattle.synth_run.proofs.Below.{one_plant_per_text}
+use Rattle.command_outcomes.proofs.Below.{one_plant_per_text}
 use Rattle.text_control.specs.Followed.{FollowedSample, IsInItsBox}
 use Rattle.driven_loops.specs.Followed.{IsFollowedPatrolLoop, FollowedEndsTurn}
 use Rattle.driven_loops.specs.FollowedLaws.{FollowedPatrolTextsGoOn}

@@ -30,7 +30,7 @@ use Rattle.text_control.specs.Control.{AppliesAs, IsRank}
 use Rattle.text_control.specs.Loops.{AlwaysAnswers}
 use Rattle.text_control.proofs.TextRefusals.{read_texts_tell}
 use Rattle.synth_run.specs.Headline.{IsStayTableFor, IsStayTableOf}
-use Rattle.synth_run.proofs.Below.{one_plant_per_text}
+use Rattle.command_outcomes.proofs.Below.{one_plant_per_text}
 use Rattle.text_control.specs.Followed.{FollowedSample, IsInItsBox}
 use Rattle.driven_loops.specs.Followed.{IsFollowedLoop}
 use Rattle.driven_loops.specs.FollowedLaws.{FollowedStayTextsSettle}

@@ -17,7 +17,8 @@ use Rattle.plant_record.specs.Soundness.{IsSound}
 use Rattle.successor_box.specs.SuccessorBoxes.{IsBoxOf, low_corner, high_corner}
 use Rattle.successor_box.proofs.Below.{boxes_grow_by_extents}
 use Rattle.successor_box.proofs.PairExtents.{box_more, box_on_all}
-use Rattle.pair_boxes.specs.inside.Sums.{term, plus, enlarged}
+use Rattle.pair_box.specs.Sums.{term, plus}
+use Rattle.pair_boxes.specs.inside.TermSums.{enlarged}
 use Rattle.pair_boxes.specs.inside.Terms.{stride_of, IsTermAt, IsSumAlong}
 use Rattle.pair_boxes.proofs.RelativeExtents.{extent_ordered}
 

@@ -17,7 +17,7 @@ use Rattle.plant_record.specs.Soundness.{IsSound}
 use Rattle.plant_record.specs.Steps.{equation_at}
 use Rattle.successor_box.specs.PairExtents.{index_in, shifts_along, shifted_by, depends_on, IsExtentBeforeAt}
 use Rattle.successor_box.proofs.AlikePairs.{alike_extent}
-use Rattle.plant_game.specs.Abstraction.{pairs_of}
+use Rattle.pair_box.specs.PlantBoxes.{pairs_of}
 use Rattle.pair_boxes.specs.declared.digits.Digit.{Digit}
 use Rattle.pair_boxes.specs.declared.digits.Digits.{Digits}
 use Rattle.pair_boxes.specs.inside.Digits.{count_in, slot_at, index_at, IsReadable, IsDigitOf, HasDigit, ArePacked, AreDigitsOf, IsWithDigit, IsAsBefore}

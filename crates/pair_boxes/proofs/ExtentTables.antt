@@ -6,7 +6,7 @@ use Rattle.plant_record.specs.Plants.{IsPlant}
 use Rattle.plant_record.specs.Soundness.{IsSound}
 use Rattle.successor_box.specs.PairExtents.{index_in, shifts_along}
 use Rattle.pair_boxes.specs.declared.extent_table.ExtentTable.{ExtentTable}
-use Rattle.plant_game.specs.Abstraction.{pairs_of}
+use Rattle.pair_box.specs.PlantBoxes.{pairs_of}
 use Rattle.pair_boxes.specs.inside.Digits.{slot_at, HoldSlots, AreDigitsOf}
 use Rattle.pair_boxes.specs.inside.ExtentTables.{first_of, IsRelativeExtent, IsExtentTableOf, HoldExtentsFrom}
 use Rattle.pair_boxes.proofs.EquationDigits.{variables, slot_below}

@@ -10,7 +10,7 @@ use Rattle.plant_record.proofs.lemmas.SoundPlants.{sound as sound_plant}
 use Rattle.pair_boxes.specs.declared.terms.Terms.{Terms}
 use Rattle.pair_boxes.specs.declared.terms.Terms.TheVariants.{Listed}
 use Rattle.pair_boxes.specs.declared.terms.TermTable.{TermTable}
-use Rattle.pair_boxes.specs.inside.Sums.{plus}
+use Rattle.pair_box.specs.Sums.{plus}
 use Rattle.pair_boxes.specs.inside.Terms.{count_of, HasTermAt, IsTermAt, Brings, IsSumAlong, AreSumsAlong, IsTermTableOf}
 use Rattle.pair_boxes.proofs.BoxSums.{ends_fit, term_few, rest_more}
 use Rattle.plant_record.proofs.lemmas.InputVectors.{some_vectors}

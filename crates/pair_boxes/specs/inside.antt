@@ -1,6 +1,6 @@
 -- What only private clauses and proofs name.
 pub mod Digits
 pub mod ExtentTables
-pub mod Sums
+pub mod TermSums
 pub mod Terms
 pub mod CellLines

@@ -5,17 +5,18 @@ ghost use Rattle.fixed_expr.specs.declared.lanes.TheConstants.{LANES};
 ghost use Rattle.grid_quantiser.specs.Axes.{cells_of};
 ghost use Rattle.grid_quantiser.specs.ExtentBoxes.{one_cell};
 ghost use Rattle.plant_record.specs.Description.{axes_of, vectors_of};
-ghost use Rattle.pair_boxes.specs.inside.Sums.{plus, term_under, AreChangedBy};
+ghost use Rattle.pair_box.specs.Sums.{plus};
+ghost use Rattle.pair_boxes.specs.inside.TermSums.{term_under, AreChangedBy};
 ghost use Rattle.pair_boxes.specs.inside.CellLines.{AreInputsOfLine, AreSumsOfLine, AreCopiedTo, AreSumsOfCells, HaveCells, AddsToCells, BecomeWhole, BecomeBoxes, AreBoxesFrom};
 ghost use Rattle.pair_boxes.specs.inside.Terms.{AreIndicesOf, HasSums, HasSumsWith, AddsTerms, AddsState, IsTermTableOf, AreTermTablesOf};
-ghost use Rattle.pair_boxes.specs.declared.pair_box.TheConstants.{SUMS_LIMIT};
+ghost use Rattle.pair_box.specs.declared.pair_box.TheConstants.{SUMS_LIMIT};
 
 use crate::digits::indices_of;
-use crate::pair_box::PairBox;
 use crate::per_pair::add_per_pair;
 use crate::state_of::StateOf;
 use crate::terms::{StateTerms, TermTable, Terms};
 use fixed_expr::LANES;
+use pair_box::PairBox;
 use successor_box::{INDICES_LIMIT, Sampled};
 
 /// The boxes of about so many pairs are gone over at once.

@@ -8,11 +8,9 @@ mod cell_lines;
 mod digits;
 mod extent_lines;
 mod extent_table;
-mod pair_box;
 mod pair_boxes;
 mod per_pair;
 mod state_of;
 mod terms;
 
-pub use pair_box::PairBox;
 pub use pair_boxes::build_boxes;

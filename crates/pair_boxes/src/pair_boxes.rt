@@ -4,14 +4,14 @@ ghost use Rattle.std.specs.List.{All};
 ghost use Rattle.grid_quantiser.specs.Axes.{cells_of};
 ghost use Rattle.grid_quantiser.specs.ExtentBoxes.{one_cell};
 ghost use Rattle.plant_record.specs.Description.{axes_of, vectors_of};
-ghost use Rattle.plant_game.specs.Abstraction.{AreBoxesOf};
+ghost use Rattle.pair_box.specs.PlantBoxes.{AreBoxesOf};
 ghost use Rattle.pair_boxes.specs.declared.pair_boxes.TheConstants.{BOXES_PER_TASK};
 ghost use Rattle.pair_boxes.specs.inside.CellLines.{AreInputsOfCells, AreBoxesFrom};
 ghost use Rattle.pair_boxes.specs.inside.Terms.{AreTermTablesOf};
 
 use crate::cell_lines::boxes_in_line;
-use crate::pair_box::PairBox;
 use crate::terms::{StateTerms, build_tables};
+use pair_box::PairBox;
 use raw_slots::RawList;
 use std::alloc::{AllocError, Global};
 use std::thread::Threads;

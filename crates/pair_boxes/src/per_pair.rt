@@ -5,11 +5,11 @@ ghost use Rattle.plant_record.specs.Description.{vectors_of};
 ghost use Rattle.successor_box.specs.AdditiveInputs.{AreInputIncrements};
 ghost use Rattle.pair_boxes.specs.inside.CellLines.{HaveSums, AddsTo, AreExtentsUnder, AddsTermsUnder, AreSumsUnder, KeepsOtherInputs};
 
-use crate::pair_box::PairBox;
 use crate::state_of::StateOf;
 use crate::terms::term_of;
 use fixed_expr::LANES;
 use grid_quantiser::Extent;
+use pair_box::PairBox;
 use successor_box::{CellLine, INDICES_LIMIT};
 
 /// Adds the terms of a state to the boxes of cells in a line, from the one with these indices on.

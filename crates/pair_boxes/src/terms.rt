@@ -12,9 +12,9 @@ ghost use Rattle.base.specs.declared.limits.TheConstants.{PAIRS_LIMIT};
 
 use crate::digits::{Digit, Digits, build_digits, slot_of};
 use crate::extent_table::{ExtentTable, build_table};
-use crate::pair_box::PairBox;
 use crate::state_of::StateOf;
 use grid_quantiser::Extent;
+use pair_box::PairBox;
 use raw_slots::RawList;
 use std::alloc::{AllocError, Global};
 use std::thread::Threads;

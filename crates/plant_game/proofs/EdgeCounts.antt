@@ -11,7 +11,8 @@ use Rattle.game_core.specs.Game.{Game}
 use Rattle.successor_box.specs.SuccessorBoxes.{IsEnabledAt, AreSuccessors, low_corner, high_corner}
 use Rattle.successor_box.proofs.Enabled.{enabled_exactly}
 use Rattle.plant_record.proofs.lemmas.SoundPlants as plants
-use Rattle.plant_game.specs.Abstraction.{IsGameOf, pairs_of, pair_of}
+use Rattle.plant_game.specs.Abstraction.{IsGameOf}
+use Rattle.pair_box.specs.PlantBoxes.{pairs_of, pair_of}
 use Rattle.plant_game.specs.Laws.{OneEdgeCount, GamesCountTheirEdges}
 use Rattle.plant_game.proofs.GameLaws.{pair_split}
 

@@ -5,3 +5,4 @@ pub mod Marking
 pub mod PlantMarks
 pub mod Refining
 pub mod GameLaws
+pub mod BoxGames

@@ -1,12 +1,12 @@
 -- The abstraction of a plant: the game of its cells, input vectors, marks and successors.
-use Rattle.std.specs.Prelude.{◌≡◌, ℕ, ◌+◌, ◌*◌, ◌<◌, ◌↔◌, List, [], length, slice_index_or, sum_by, Option, None}
-use Rattle.grid_quantiser.specs.declared.boxes.CellBox.{CellBox}
+use Rattle.std.specs.Prelude.{◌≡◌, ℕ, ◌<◌, ◌↔◌, List, [], length, slice_index_or, sum_by}
 use Rattle.grid_quantiser.specs.Axes.{cells_of}
 use Rattle.game_core.specs.declared.game.Mark.TheVariants.{Goal, Obstacle}
 use Rattle.game_core.specs.Game.{Game, IsGame, mark_of, successors_of}
 use Rattle.plant_record.specs.Description.{Description, axes_of, vectors_of}
 use Rattle.plant_record.specs.CellMarks.{IsGoalCell, IsObstacleCell}
-use Rattle.successor_box.specs.SuccessorBoxes.{AreSuccessors, IsBoxOf}
+use Rattle.successor_box.specs.SuccessorBoxes.{AreSuccessors}
+use Rattle.pair_box.specs.PlantBoxes.{pairs_of, pair_of}
 
 -- A game is the game of a plant.
 pub record IsGameOf (p : Description) (g : Game) : Type 0 where
@@ -16,23 +16,6 @@ pub record IsGameOf (p : Description) (g : Game) : Type 0 where
   pub goals : (c : ℕ) → c < g.cells → (mark_of g c ≡ Goal) ↔ IsGoalCell p c
   pub obstacles : (c : ℕ) → c < g.cells → (mark_of g c ≡ Obstacle) ↔ IsObstacleCell p c
   pub successors : (c u : ℕ) → c < g.cells → u < g.inputs → AreSuccessors p c u (successors_of g c u)
-
--- how many pairs of a cell and an input a plant has
-abbrev pub pairs_of : Description → ℕ
-pairs_of p = cells_of (axes_of p) * vectors_of p.inputs
-
--- the number of the pair of a cell and an input
-abbrev pub pair_of : Description → ℕ → ℕ → ℕ
-pair_of p c u = c * vectors_of p.inputs + u
-
--- the box of a pair, by its number
-abbrev pub box_at : List (Option CellBox) → ℕ → Option CellBox
-box_at boxes pair = slice_index_or boxes pair None
-
--- The boxes of all pairs of a plant.
-pub record AreBoxesOf (p : Description) (boxes : List (Option CellBox)) : Type 0 where
-  pub one_each : length boxes ≡ pairs_of p
-  pub each : (c u : ℕ) → c < cells_of (axes_of p) → u < vectors_of p.inputs → IsBoxOf p c u (box_at boxes (pair_of p c u))
 
 -- The number of a plant's edges: how many successors all pairs have, those of obstacles and of goals included.
 pub record AreEdges (p : Description) (edges : ℕ) : Type 0 where

@@ -1,4 +1,5 @@
 pub mod Abstraction
+pub mod BoxGame
 pub mod Marks
 pub mod PlantSolution
 pub mod Refinement

@@ -9,9 +9,9 @@ use Rattle.command_line.specs.Statuses.{status_of}
 use Rattle.run_devices.specs.Devices.{next_count}
 use Rattle.run_devices.proofs.Laws.{rose_by_one}
 use Rattle.synth_run.specs.Sources.{NoReadFailed}
-use Rattle.synth_run.specs.IsOutcomeFor.{IsOutcomeFor}
+use Rattle.command_outcomes.specs.IsOutcomeFor.{IsOutcomeFor}
 use Rattle.synth_run.specs.RunClauses.{Ends, IsCompleteAnswer}
-use Rattle.synth_run.proofs.Outcomes.{one_outcome}
+use Rattle.command_outcomes.proofs.Outcomes.{one_outcome}
 
 pub answer_is_complete : (command : Command) (outcome : Outcome) (told : Option (List ℕ)) → Ends command told outcome → (outcome ≡ Failed Read → ⊥) → (outcome ≡ Failed Write → ⊥) → IfSome told (IsCompleteAnswer command (status_of outcome))
 answer_is_complete command outcome None ends read write = tt

@@ -7,15 +7,15 @@ use Rattle.command_line.specs.declared.command.Command.{Command}
 use Rattle.command_line.specs.declared.outcome.Failure.TheVariants.{Read, Write, Memory}
 use Rattle.command_line.specs.declared.outcome.Outcome.{Outcome}
 use Rattle.command_line.specs.declared.outcome.Outcome.TheVariants.{Done, Usage, Refused, Failed}
-use Rattle.synth_run.specs.declared.stop.Stop.{Stop}
-use Rattle.synth_run.specs.declared.stop.Stop.TheVariants as stops
-use Rattle.synth_run.specs.declared.text.Text.{Text}
+use Rattle.text_abstraction.specs.declared.stop.Stop.{Stop}
+use Rattle.text_abstraction.specs.declared.stop.Stop.TheVariants as stops
+use Rattle.command_texts.specs.declared.text.Text.{Text}
 use Rattle.synth_run.specs.Headline.{IsAnswer}
 use Rattle.synth_run.specs.Played.{IsPlayed}
 use Rattle.synth_run.specs.RunClauses.{IsAnswered, IsCutOff, Writes, Takes, IsRunOf}
 use Rattle.synth_run.specs.Sources.{bytes_for}
-use Rattle.synth_run.specs.inside.Texts.{bytes_of}
-use Rattle.synth_run.specs.inside.Causes.{outcome_of}
+use Rattle.command_texts.specs.Texts.{bytes_of}
+use Rattle.text_abstraction.specs.Causes.{outcome_of}
 use Rattle.synth_run.specs.inside.Working.{IsWorkedOut, IsStopped, IsWrittenOut, IsLeftAfter}
 use Rattle.command_line.proofs.Shown.{shown_done, shown_cut_off, shown_refused, shown_unread, shown_without_memory}
 use Rattle.base.proofs.Options.{IfSome-weaker}

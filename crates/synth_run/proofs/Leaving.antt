@@ -8,11 +8,11 @@ use Rattle.plant_game.specs.Abstraction.{IsGameOf}
 use Rattle.abstraction_table.specs.Table.{game_of}
 use Rattle.command_line.specs.declared.command.Command.{Command}
 use Rattle.command_line.specs.declared.command.Command.TheVariants.{Synth, Check, Upgrade, Sim, Demo, Stay, Patrol}
-use Rattle.synth_run.specs.declared.solved_abstraction.SolvedAbstraction.{SolvedAbstraction}
+use Rattle.goal_solver.specs.declared.solved_abstraction.SolvedAbstraction.{SolvedAbstraction}
 use Rattle.run_devices.specs.Devices.{Reading}
-use Rattle.synth_run.specs.Played.{IsReckonedOn, IsSolvedOn, LeavesTheGameOf, IsPlayed}
-use Rattle.synth_run.specs.inside.SolvedAbstractions.{IsSolvedAbstraction}
-use Rattle.synth_run.specs.IsOutcomeFor.{IsAccepted}
+use Rattle.goal_solver.specs.SolvedAbstractions.{IsReckonedOn, IsSolvedAbstraction}
+use Rattle.synth_run.specs.Played.{IsSolvedOn, LeavesTheGameOf, IsPlayed}
+use Rattle.command_outcomes.specs.IsOutcomeFor.{IsAccepted}
 use Rattle.synth_run.specs.inside.Making.{IsReadFor}
 use Rattle.synth_run.proofs.Limits.{of_front, long_front}
 

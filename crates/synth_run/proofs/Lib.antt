@@ -1,6 +1,4 @@
-pub mod Below
 pub mod Completeness
-pub mod Outcomes
 pub mod Ending
 pub mod Giving
 pub mod Leaving
@@ -13,8 +11,4 @@ pub mod StayTables
 pub mod Simulations
 pub mod Tables
 pub mod Working
-pub mod Undeniable
-pub mod SomeGame
-pub mod SomePlant
-pub mod SomeOutcome
-pub mod Stages
+pub mod DemoRefusals

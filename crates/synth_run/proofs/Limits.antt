@@ -17,7 +17,7 @@ use Rattle.command_line.specs.declared.command.Command.TheVariants.{Synth, Check
 use Rattle.command_line.specs.declared.outcome.Refusal.{Refusal}
 use Rattle.run_devices.specs.Transfers.{ReadUpTo}
 use Rattle.synth_run.specs.Sources.{most_read}
-use Rattle.synth_run.specs.inside.Stages.{IsReadRefusal, IsRefused, IsRefusedTable, IsOverflow, IsPlantRefusal, IsPatrolRefusal, IsTextRefusal, IsRowsRefusal, IsStartRefusal, IsTableRefusal, IsStagedRefusal}
+use Rattle.command_outcomes.specs.Stages.{IsReadRefusal, IsRefused, IsRefusedTable, IsOverflow, IsPlantRefusal, IsPatrolRefusal, IsTextRefusal, IsRowsRefusal, IsStartRefusal, IsTableRefusal, IsStagedRefusal}
 use Rattle.synth_run.specs.Headline.{IsAnswer}
 use Rattle.std.proofs.lemmas.List.{take_all}
 

@@ -5,7 +5,7 @@ use Rattle.plant_game.proofs.OneSolution.{one_plant_solution}
 use Rattle.controller_table.specs.TableText.{written_version, table_text}
 use Rattle.synth_run.specs.Headline.{IsTableOf}
 use Rattle.synth_run.specs.Laws.{OneTableForBytes}
-use Rattle.synth_run.proofs.Below.{one_plant_per_text}
+use Rattle.command_outcomes.proofs.Below.{one_plant_per_text}
 
 -- bytes spell one plant, which has one solution
 pub one_for_bytes : OneTableForBytes

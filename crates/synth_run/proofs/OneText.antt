@@ -15,7 +15,7 @@ use Rattle.turn_rows.specs.Rows.{rows_for}
 use Rattle.temporal_games.specs.Patrol.{IsReachedLaterBy, IsPatrolRow, IsPatrol}
 use Rattle.synth_run.specs.Headline.{IsStayTableOf, IsPatrolTableOf}
 use Rattle.synth_run.specs.Laws.{OneStayTextForBytes, OnePatrolTextForBytes}
-use Rattle.synth_run.proofs.Below.{one_plant_per_text}
+use Rattle.command_outcomes.proofs.Below.{one_plant_per_text}
 
 abbrev some_row : ℕ → ℕ → Option Row
 some_row k u = Some (record { rank = k; input = u })

@@ -10,10 +10,10 @@ use Rattle.temporal_games.specs.Patrol.{IsPatrol}
 use Rattle.temporal_texts.specs.PatrolText.{patrol_text}
 use Rattle.temporal_promises.proofs.PatrolLaws.{solution_has_patrol_text, patrol_text_patrols}
 use Rattle.command_line.specs.declared.outcome.Failure.TheVariants.{Read, Write, Memory}
-use Rattle.synth_run.specs.declared.stop.Stop.{Stop}
-use Rattle.synth_run.specs.declared.stop.Stop.TheVariants.{Refused, Failed}
-use Rattle.synth_run.specs.inside.Stages.{IsPlantRefusal, IsPatrolRefusal, IsTextRefusal}
-use Rattle.synth_run.specs.inside.Causes.{IsStopFor}
+use Rattle.text_abstraction.specs.declared.stop.Stop.{Stop}
+use Rattle.text_abstraction.specs.declared.stop.Stop.TheVariants.{Refused, Failed}
+use Rattle.command_outcomes.specs.Stages.{IsPlantRefusal, IsPatrolRefusal, IsTextRefusal}
+use Rattle.text_abstraction.specs.Causes.{IsStopFor}
 use Rattle.synth_run.specs.Headline.{IsPatrolTableOf}
 
 -- the text of a plant within the limits and of the solution of its patrol

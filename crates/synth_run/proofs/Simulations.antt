@@ -5,7 +5,7 @@ use Rattle.game_core.specs.declared.game.Row.{Row}
 use Rattle.grid_quantiser.specs.Cells.{point_of}
 use Rattle.plant_record.specs.Description.{Description}
 use Rattle.loop_sim.specs.Trace.{row_at}
-use Rattle.synth_run.specs.Traces.{HasRowFor}
+use Rattle.command_outcomes.specs.Traces.{HasRowFor}
 
 -- the row at a start of as many numbers as states
 pub row_found : (p : Description) (rows : List (Option Row)) (start : List ℤ) (r : Option Row) → length start ≡ length p.states → r ≡ row_at p rows (point_of start) → IfSome r (λ _. HasRowFor p rows start)

@@ -7,21 +7,21 @@ use Rattle.controller_table.proofs.ShortTexts.{tables_are_short}
 use Rattle.run_devices.specs.declared.transfer.ReadFault.{ReadFault as Fault}
 use Rattle.run_devices.specs.declared.transfer.ReadFault.TheVariants as faults
 use Rattle.command_line.specs.declared.outcome.Failure.TheVariants.{Read, Write, Memory}
-use Rattle.synth_run.specs.declared.stop.Stop.{Stop}
-use Rattle.synth_run.specs.declared.stop.Stop.TheVariants.{Refused, Failed}
-use Rattle.synth_run.specs.declared.text.Text.{Text}
+use Rattle.text_abstraction.specs.declared.stop.Stop.{Stop}
+use Rattle.text_abstraction.specs.declared.stop.Stop.TheVariants.{Refused, Failed}
+use Rattle.command_texts.specs.declared.text.Text.{Text}
 use Rattle.run_devices.specs.Devices.{next_count, Reading, TakesAtMost}
-use Rattle.synth_run.specs.inside.Texts.{bytes_of, CanBeWritten}
+use Rattle.command_texts.specs.Texts.{bytes_of, CanBeWritten}
 use Rattle.run_devices.specs.Transfers.{ReadUpTo}
 use Rattle.synth_run.specs.inside.Working.{IsWorkedOut, IsStopped}
 use Rattle.synth_run.specs.Sources.{Reads, bytes_for, most_read}
-use Rattle.synth_run.specs.IsOutcomeFor.{IsAnswerable}
+use Rattle.command_outcomes.specs.IsOutcomeFor.{IsAnswerable}
 use Rattle.synth_run.specs.Headline.{IsAnswer}
-use Rattle.synth_run.specs.inside.Causes.{of_read, IsStopFor}
+use Rattle.text_abstraction.specs.Causes.{of_read, IsStopFor}
 use Rattle.synth_run.specs.inside.Making.{IsReadFor}
-use Rattle.synth_run.specs.inside.Stages.{IsStagedRefusal}
+use Rattle.command_outcomes.specs.Stages.{IsStagedRefusal}
 use Rattle.synth_run.proofs.Limits.{of_front, of_some, passes_on, read_to_the_limit}
-use Rattle.synth_run.proofs.Stages.{unstaged}
+use Rattle.command_outcomes.proofs.Stages.{unstaged}
 
 -- a text that has an answer is to be answered
 answered_is_answerable : (command : Command) (bytes text : List ℕ) → IsAnswer command bytes text → IsAnswerable command bytes

@@ -19,8 +19,8 @@ use Rattle.plant_refine.specs.Controls.{Controls}
 use Rattle.command_line.specs.declared.command.Command.{Command}
 use Rattle.command_line.specs.declared.command.Command.TheVariants.{Synth, Check, Upgrade, Sim, Demo, Stay, Patrol}
 use Rattle.demo_plants.specs.Demo.{IsDemoLine}
-use Rattle.synth_run.specs.IsOutcomeFor.{IsAccepted, IsSolvable, IsPatrollable}
-use Rattle.synth_run.specs.Traces.{IsTraceFor}
+use Rattle.command_outcomes.specs.IsOutcomeFor.{IsAccepted, IsSolvable, IsPatrollable}
+use Rattle.command_outcomes.specs.Traces.{IsTraceFor}
 
 -- The text is the table of the solution of a plant's game.
 -- With `goal reach`: ranks are least depths of winning strategies in the abstraction, cells without a row have none, and

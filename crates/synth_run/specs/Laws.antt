@@ -1,26 +1,6 @@
 -- What holds of every run.
-use Rattle.std.specs.Prelude.{◌≡◌, ℕ, ℤ, List}
-use Rattle.game_core.specs.Game.{Game}
-use Rattle.plant_record.specs.Description.{Description}
-use Rattle.plant_record.specs.Limits.{IsWithinLimits}
-use Rattle.plant_game.specs.Abstraction.{IsGameOf}
-use Rattle.command_line.specs.declared.command.Command.{Command}
-use Rattle.command_line.specs.declared.outcome.Outcome.{Outcome}
-use Rattle.synth_run.specs.IsOutcomeFor.{IsOutcomeFor}
+use Rattle.std.specs.Prelude.{◌≡◌, ℕ, List}
 use Rattle.synth_run.specs.Headline.{IsTableFor, IsStayTableFor, IsPatrolTableFor}
-use Rattle.synth_run.specs.Traces.{IsTraceFor}
-
--- no plant within the limits lacks a game; none is named, since that would take an algorithm for marks and successors
-abbrev pub SomeGamePerPlant : Type 0
-SomeGamePerPlant = (p : Description) → IsWithinLimits p → ((g : Game) → IsGameOf p g → ⊥) → ⊥
-
--- a text demands one thing of a command
-abbrev pub OneOutcomePerText : Type 0
-OneOutcomePerText = (command : Command) (bytes : List ℕ) (a b : Outcome) → IsOutcomeFor command bytes a → IsOutcomeFor command bytes b → a ≡ b
-
--- no text demands nothing of a command
-abbrev pub SomeOutcomePerText : Type 0
-SomeOutcomePerText = (command : Command) (bytes : List ℕ) → ((outcome : Outcome) → IsOutcomeFor command bytes outcome → ⊥) → ⊥
 
 -- bytes have one table
 abbrev pub OneTableForBytes : Type 0
@@ -33,7 +13,3 @@ OneStayTextForBytes = (bytes a b : List ℕ) → IsStayTableFor bytes a → IsSt
 -- bytes have one text of a patrol
 abbrev pub OnePatrolTextForBytes : Type 0
 OnePatrolTextForBytes = (bytes a b : List ℕ) → IsPatrolTableFor bytes a → IsPatrolTableFor bytes b → a ≡ b
-
--- bytes have one trace, from a start under the noises of a seed
-abbrev pub OneTraceForBytes : Type 0
-OneTraceForBytes = (bytes : List ℕ) (samples seed : ℕ) (start : List ℤ) (a b : List ℕ) → IsTraceFor bytes samples seed start a → IsTraceFor bytes samples seed start b → a ≡ b

@@ -1,6 +1,4 @@
 pub mod Sources
-pub mod Traces
-pub mod IsOutcomeFor
 pub mod Headline
 pub mod Played
 pub mod RunClauses

@@ -10,7 +10,7 @@ use Rattle.command_line.specs.Command.{IsOfCommand, AreOfNoCommand}
 use Rattle.command_line.specs.Statuses.{status_of}
 use Rattle.command_line.specs.Ends.{IsShownBy, IsReported}
 use Rattle.synth_run.specs.Sources.{Reads, bytes_for, most_read}
-use Rattle.synth_run.specs.IsOutcomeFor.{IsOutcomeFor}
+use Rattle.command_outcomes.specs.IsOutcomeFor.{IsOutcomeFor}
 use Rattle.synth_run.specs.Headline.{IsAnswer}
 use Rattle.synth_run.specs.Played.{IsPlayed}
 

@@ -1,7 +1,3 @@
-pub mod Causes
 pub mod Judging
 pub mod Making
-pub mod SolvedAbstractions
-pub mod Stages
-pub mod Texts
 pub mod Working

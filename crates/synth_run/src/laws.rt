@@ -1,6 +1,10 @@
 //! What holds of every run.
 
-ghost use Rattle.synth_run.specs.Laws.{OneTableForBytes, OneStayTextForBytes, OnePatrolTextForBytes, OneTraceForBytes, OneOutcomePerText, SomeOutcomePerText, SomeGamePerPlant};
+ghost use Rattle.synth_run.specs.Laws.{OneTableForBytes, OneStayTextForBytes, OnePatrolTextForBytes};
+
+pub use command_outcomes::laws::{
+    one_outcome_per_text, one_trace_for_bytes, some_game_per_plant, some_outcome_per_text,
+};
 
 /// What holds of every demo plant.
 pub mod demo {
@@ -23,24 +27,4 @@ pub fn one_stay_text_for_bytes()
 /// Bytes that spell a plant have one text of a patrol: `patrol` has no choice of what to write.
 pub fn one_patrol_text_for_bytes()
     ensures { OnePatrolTextForBytes }
-{}
-
-/// A table has one trace, from a start under the noises of a seed: `sim` has no choice of what to write.
-pub fn one_trace_for_bytes()
-    ensures { OneTraceForBytes }
-{}
-
-/// A text demands one thing: one refusal, or one answer.
-pub fn one_outcome_per_text()
-    ensures { OneOutcomePerText }
-{}
-
-/// No text demands nothing: each is refused for some reason, or is to be answered.
-pub fn some_outcome_per_text()
-    ensures { SomeOutcomePerText }
-{}
-
-/// No plant within the limits lacks a game; it has one at most.
-pub fn some_game_per_plant()
-    ensures { SomeGamePerPlant }
 {}

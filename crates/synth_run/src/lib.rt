@@ -6,12 +6,8 @@
 //! settles the plant or patrols its targets.
 #![tactic(auto)]
 
-mod abstraction;
 mod commands;
 pub mod laws;
-mod solved_abstraction;
-mod stop;
-mod text;
 mod top;
 mod work;
 

@@ -4,12 +4,11 @@ ghost use Rattle.command_line.specs.Command.{IsOfCommand, as_words};
 ghost use Rattle.synth_run.specs.Sources.{bytes_for, most_read, NoReadFailed};
 ghost use Rattle.synth_run.specs.RunClauses.{Gives, IsRun, IsRunOf, IsAnswered, IsCompleteAnswer};
 ghost use Rattle.command_line.specs.declared.command.Command.{Command};
-ghost use Rattle.synth_run.specs.inside.Causes.{IsStopFor};
+ghost use Rattle.text_abstraction.specs.Causes.{IsStopFor};
 ghost use Rattle.synth_run.specs.inside.Making.{IsReadFor, IsMade};
-ghost use Rattle.synth_run.specs.inside.SolvedAbstractions.{HasItsGame};
-ghost use Rattle.synth_run.specs.inside.Stages.{IsStagedRefusal};
-ghost use Rattle.synth_run.specs.inside.Texts.{CanBeWritten};
-ghost use Rattle.synth_run.specs.inside.Working.{HasItsAnswer, IsStopped, IsWrittenOut, IsLeftAfter};
+ghost use Rattle.synth_run.specs.inside.Working.{HasItsGame, HasItsAnswer, IsStopped, IsWrittenOut, IsLeftAfter};
+ghost use Rattle.command_outcomes.specs.Stages.{IsStagedRefusal};
+ghost use Rattle.command_texts.specs.Texts.{CanBeWritten};
 
 use crate::commands::check::check;
 use crate::commands::demo::demo;
@@ -18,16 +17,16 @@ use crate::commands::sim::sim;
 use crate::commands::stay::stay;
 use crate::commands::synth::synth;
 use crate::commands::upgrade::upgrade;
-use crate::stop::Stop;
-use crate::text::Text;
 use crate::work::Work;
 use base::limits::{TABLE_LIMIT, TEXT_LIMIT};
 use cell_counters::{Board, Root};
 use command_line::{Command, Failure, Outcome, parse_command};
+use command_texts::Text;
 use frontier_pool::Gate;
 use run_devices::{Sink, Source, WriteFault, read_up_to};
 use std::alloc::Global;
 use std::thread::Threads;
+use text_abstraction::Stop;
 
 /// The top call: does what the arguments request, and answers the exit status.
 ///
@@ -89,7 +88,7 @@ fn outcome_of<R: Threads + Sync, S: Source, O: Sink, G: Gate>(
     }
 }
 
-/// Works the answer of a command out, and writes it. The game is left only where the whole answer was written.
+/// Works the answer of a command out, and writes it.
 fn carry_out<R: Threads + Sync, S: Source, O: Sink, G: Gate>(
     rt: &R,
     alloc: Global,
@@ -104,11 +103,7 @@ fn carry_out<R: Threads + Sync, S: Source, O: Sink, G: Gate>(
         IsRunOf command result.0 read written result.1 }
 {
     match work_of(rt, alloc, command, source, gate) {
-        Ok(work) => {
-            let Work { text, played } = work;
-            let outcome = write_out(alloc, &text, out);
-            (outcome, left_after(outcome, played))
-        }
+        Ok(work) => finish(alloc, work, out),
         Err(stop) => (stop.outcome(), None),
     }
 }
@@ -179,6 +174,16 @@ fn work_on<R: Threads + Sync, G: Gate>(
         Command::Stay { workers } => stay(rt, alloc, bytes, workers, gate),
         Command::Patrol { workers } => patrol(rt, alloc, bytes, workers, gate),
     }
+}
+
+/// Writes the text of a work, and leaves its game where the whole text was written.
+fn finish<O: Sink>(alloc: Global, work: Work, out: &mut O) -> (Outcome, Option<(Board, Root)>)
+    requires { CanBeWritten work.text }
+    ensures written { IsWrittenOut work.text result.0 (writing O.got O.faults O.capacity out.old out.new) }
+    ensures left { IsLeftAfter result.0 work.played result.1 }
+{
+    let outcome = write_out(alloc, &work.text, out);
+    (outcome, left_after(outcome, work.played))
 }
 
 /// Writes what was worked out.

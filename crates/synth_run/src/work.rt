@@ -1,7 +1,7 @@
 ghost use Rattle.std.specs.Prelude.{◌≡◌, None};
 
-use crate::text::Text;
 use cell_counters::{Board, Root};
+use command_texts::Text;
 
 /// What a command has worked out: its text, and the board and the root of the game that it solved.
 #[derive(Drop)]

@@ -7,10 +7,10 @@ use Rattle.grid_quantiser.specs.declared.axis.Axis.{Axis}
 use Rattle.grid_quantiser.specs.declared.boxes.CellBox.{CellBox}
 use Rattle.grid_quantiser.specs.Axes.{cells_of}
 use Rattle.grid_quantiser.specs.CellBoxes.{IsCellBox}
-use Rattle.abstraction_table.specs.declared.shapes.Shapes.{Shapes}
-use Rattle.abstraction_table.specs.inside.Fans.{HasFan, FanIsKnown}
-use Rattle.abstraction_table.specs.inside.Shapes.{HasSegmentsOf}
-use Rattle.abstraction_table.specs.inside.SourceLists.{IsBox}
+use Rattle.source_lists.specs.declared.shapes.Shapes.{Shapes}
+use Rattle.source_lists.specs.Fans.{HasFan, FanIsKnown}
+use Rattle.source_lists.specs.Shapes.{HasSegmentsOf}
+use Rattle.plant_game.specs.BoxGame.{IsBox}
 
 pub IsCellBox-prop : (axes : List Axis) (first last : ℕ) → IsProp (IsCellBox axes first last)
 IsCellBox-prop [] first last = Unit-prop

@@ -6,9 +6,8 @@ use Rattle.grid_quantiser.specs.declared.boxes.CellBox.{CellBox}
 use Rattle.grid_quantiser.specs.Axes.{AreAxes}
 use Rattle.game_core.specs.declared.game.Mark.{Mark}
 use Rattle.game_core.specs.Game.{IsGraph}
-use Rattle.abstraction_table.specs.BoxGame.{box_game}
-use Rattle.abstraction_table.specs.inside.Fans.{AreFansOf}
-use Rattle.abstraction_table.specs.inside.SourceLists.{IsBox}
+use Rattle.plant_game.specs.BoxGame.{box_game, IsBox}
+use Rattle.source_lists.specs.Fans.{AreFansOf}
 
 -- Marks and boxes are a game within the limits on the axes of a grid, the corners of each box are in order, and its cells are counted.
 pub record IsBoxGame (axes : List Axis) (inputs : ℕ) (marks : List Mark) (boxes : List (Option CellBox)) (fans : List ℕ) : Type 0 where

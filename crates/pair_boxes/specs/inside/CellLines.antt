@@ -11,8 +11,8 @@ use Rattle.successor_box.specs.SuccessorBoxes.{IsBoxOf}
 use Rattle.grid_quantiser.specs.ExtentBoxes.{one_cell}
 use Rattle.pair_boxes.specs.declared.digits.Digit.{Digit}
 use Rattle.pair_boxes.specs.declared.terms.TermTable.{TermTable}
-use Rattle.pair_boxes.specs.declared.pair_box.TheConstants.{SUMS_LIMIT}
-use Rattle.pair_boxes.specs.inside.Sums.{plus}
+use Rattle.pair_box.specs.declared.pair_box.TheConstants.{SUMS_LIMIT}
+use Rattle.pair_box.specs.Sums.{plus}
 use Rattle.pair_boxes.specs.inside.Terms.{AreIndicesOf, IsTermFrom, IsSumAlong, AreSumsAlong}
 
 -- the last state

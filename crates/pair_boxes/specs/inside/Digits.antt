@@ -4,7 +4,7 @@ use Rattle.std.specs.List.{All}
 use Rattle.grid_quantiser.specs.Axes.{counts_of}
 use Rattle.plant_record.specs.Description.{Description, axes_of, vectors_of}
 use Rattle.plant_record.specs.ValueIndices.{value_count}
-use Rattle.plant_game.specs.Abstraction.{pairs_of}
+use Rattle.pair_box.specs.PlantBoxes.{pairs_of}
 use Rattle.successor_box.specs.PairExtents.{depends_on, index_in}
 use Rattle.successor_box.specs.declared.central_value.TheConstants.{INDICES_LIMIT}
 use Rattle.pair_boxes.specs.declared.digits.Digit.{Digit}

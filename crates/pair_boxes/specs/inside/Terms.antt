@@ -15,7 +15,8 @@ use Rattle.pair_boxes.specs.declared.terms.StateTerms.{StateTerms}
 use Rattle.pair_boxes.specs.declared.terms.StateTerms.TheVariants.{Table, PerPair}
 use Rattle.pair_boxes.specs.inside.Digits.{slot_at}
 use Rattle.pair_boxes.specs.inside.ExtentTables.{first_of}
-use Rattle.pair_boxes.specs.inside.Sums.{term, plus, enlarged}
+use Rattle.pair_box.specs.Sums.{term, plus}
+use Rattle.pair_boxes.specs.inside.TermSums.{enlarged}
 use Rattle.base.specs.declared.limits.TheConstants.{CELLS_LIMIT, PAIRS_LIMIT}
 
 -- how many cells one index along the axis of a state makes

@@ -10,9 +10,9 @@ use Rattle.table_check.specs.declared.verdict.Verdict.{Verdict}
 use Rattle.table_check.specs.declared.verdict.Verdict.TheVariants.{Invalid}
 use Rattle.table_check.specs.Verdicts.{IsVerdict}
 use Rattle.command_line.specs.declared.outcome.Refusal.TheVariants as refusals
-use Rattle.synth_run.specs.declared.stop.Stop.{Stop}
-use Rattle.synth_run.specs.declared.stop.Stop.TheVariants.{Refused}
-use Rattle.synth_run.specs.IsOutcomeFor.{IsRightFor}
+use Rattle.text_abstraction.specs.declared.stop.Stop.{Stop}
+use Rattle.text_abstraction.specs.declared.stop.Stop.TheVariants.{Refused}
+use Rattle.command_outcomes.specs.IsOutcomeFor.{IsRightFor}
 
 -- the verdict on rows for a goal: valid exactly for the solution, else the first cell that isn't right
 abbrev pub IsVerdictFor : GoalKind → Game → List (Option Row) → Verdict → Type 0

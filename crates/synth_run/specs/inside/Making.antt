@@ -8,7 +8,7 @@ use Rattle.synth_run.specs.Sources.{bytes_for, most_read}
 use Rattle.synth_run.specs.Headline.{IsAnswer}
 use Rattle.synth_run.specs.Played.{IsPlayed}
 use Rattle.synth_run.specs.RunClauses.{Takes}
-use Rattle.synth_run.specs.inside.Texts.{bytes_of, CanBeWritten}
+use Rattle.command_texts.specs.Texts.{bytes_of, CanBeWritten}
 
 -- A command has the bytes that it works on: what it is given, up to one byte past the limit of its text.
 pub record IsReadFor (command : Command) (bytes : List ℕ) (source : Reading) : Type 0 where

@@ -5,17 +5,18 @@ use Rattle.command_line.specs.declared.command.Command.{Command}
 use Rattle.command_line.specs.declared.outcome.Failure.TheVariants.{Read, Write, Memory}
 use Rattle.command_line.specs.declared.outcome.Outcome.{Outcome}
 use Rattle.command_line.specs.declared.outcome.Outcome.TheVariants as outcomes
-use Rattle.synth_run.specs.declared.stop.Stop.{Stop}
-use Rattle.synth_run.specs.declared.stop.Stop.TheVariants.{Failed}
+use Rattle.text_abstraction.specs.declared.stop.Stop.{Stop}
+use Rattle.text_abstraction.specs.declared.stop.Stop.TheVariants.{Failed}
 use Rattle.run_devices.specs.Devices.{next_count, Reading, Writing, GainsWhole, GainsPart}
 use Rattle.run_devices.specs.Transfers.{IsUntouched}
 use Rattle.synth_run.specs.Sources.{bytes_for}
 use Rattle.synth_run.specs.Headline.{IsAnswer}
 use Rattle.synth_run.specs.RunClauses.{Ends, Takes}
-use Rattle.synth_run.specs.declared.text.Text.{Text}
+use Rattle.command_texts.specs.declared.text.Text.{Text}
 use Rattle.synth_run.specs.declared.work.Work.{Work}
-use Rattle.synth_run.specs.inside.Causes.{outcome_of}
-use Rattle.synth_run.specs.inside.Texts.{bytes_of, CanBeWritten}
+use Rattle.text_abstraction.specs.Causes.{outcome_of}
+use Rattle.command_texts.specs.Texts.{bytes_of, CanBeWritten}
+use Rattle.synth_run.specs.Played.{IsPlayed}
 
 -- The text of the answer was worked out.
 pub record IsWorkedOut (command : Command) (text : Text) (source : Reading) : Type 0 where
@@ -28,6 +29,10 @@ pub record IsWorkedOut (command : Command) (text : Text) (source : Reading) : Ty
 -- the text of a work is that of the command's answer
 abbrev pub HasItsAnswer : Command → Reading → Work → Type 0
 HasItsAnswer command source work = IsWorkedOut command work.text source
+
+-- a work has what its command is to leave, once its answer is written
+abbrev pub HasItsGame : Command → Reading → Work → Type 0
+HasItsGame command source work = IsPlayed command source.before work.played
 
 -- There is no answer, for this reason.
 pub record IsStopped (command : Command) (source : Reading) (stop : Stop) : Type 0 where

@@ -5,23 +5,22 @@ ghost use Rattle.command_line.specs.declared.command.Command.{Command};
 ghost use Rattle.table_check.specs.declared.verdict.Verdict.TheVariants.{Valid};
 ghost use Rattle.plant_record.specs.declared.aims.GoalKind.TheVariants.{Reach, Keep};
 ghost use Rattle.plant_game.specs.PlantSolution.{IsSolutionOf};
-ghost use Rattle.synth_run.specs.IsOutcomeFor.{IsSolvable};
-ghost use Rattle.synth_run.specs.inside.Stages.{IsStagedRefusal, IsRowsRefusal};
-ghost use Rattle.synth_run.specs.inside.Causes.{IsStopFor};
+ghost use Rattle.command_outcomes.specs.IsOutcomeFor.{IsSolvable};
+ghost use Rattle.command_outcomes.specs.Stages.{IsStagedRefusal, IsRowsRefusal};
+ghost use Rattle.text_abstraction.specs.Causes.{IsStopFor};
 ghost use Rattle.synth_run.specs.inside.Judging.{IsJudged, IsStopBy};
 ghost use Rattle.synth_run.specs.inside.Making.{IsMade};
 
-use crate::abstraction::forward_of;
-use crate::stop::Stop;
-use crate::text::Text;
 use crate::work::Work;
 use abstraction_table::add_sources;
 use command_line::Refusal;
+use command_texts::Text;
 use controller_table::{Table, read_table};
 use plant_record::GoalKind;
 use std::alloc::Global;
 use std::thread::Threads;
 use table_check::{Verdict, check_keep, check_reach};
+use text_abstraction::{Stop, forward_of};
 
 /// That the bytes are the table of their plant.
 pub fn check<R: Threads + Sync>(rt: &R, alloc: Global, bytes: &[u8]) -> Result<Work, Stop>

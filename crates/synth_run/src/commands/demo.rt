@@ -7,20 +7,19 @@ ghost use Rattle.base.specs.Workers.{AreWorkers};
 ghost use Rattle.demo_plants.specs.Demo.{demo_plant_of};
 ghost use Rattle.plant_game.specs.Abstraction.{IsGameOf};
 ghost use Rattle.abstraction_table.specs.Table.{forward_game};
-ghost use Rattle.synth_run.specs.inside.Causes.{without_memory};
+ghost use Rattle.text_abstraction.specs.Causes.{without_memory};
 ghost use Rattle.synth_run.specs.inside.Making.{IsMade};
 
-use crate::abstraction::forward_of;
-use crate::solved_abstraction::solve_game;
-use crate::stop::Stop;
-use crate::text::Text;
 use crate::work::Work;
 use abstraction_table::ForwardAbstraction;
+use command_texts::Text;
 use demo_plants::{demo_line, demo_plant};
 use frontier_pool::Gate;
+use goal_solver::solve_game;
 use plant_record::GoalKind;
 use std::alloc::Global;
 use std::thread::Threads;
+use text_abstraction::{Stop, forward_of};
 
 /// The line of a demo plant, which nothing refuses, whatever the bytes are; and the board on which its game was solved, with
 /// its root.

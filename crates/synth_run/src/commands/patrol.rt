@@ -4,24 +4,23 @@ ghost use Rattle.std.specs.Prelude.{◌≡◌, ◌<◌, ◌≤◌, IfOk, IfErr, 
 ghost use Rattle.command_line.specs.declared.command.Command.{Command};
 ghost use Rattle.command_line.specs.declared.outcome.Refusal.TheVariants.{TooManyTurns};
 ghost use Rattle.base.specs.Workers.{AreWorkers};
-ghost use Rattle.synth_run.specs.declared.stop.Stop.TheVariants.{Refused};
-ghost use Rattle.synth_run.specs.IsOutcomeFor.{turns_of};
-ghost use Rattle.synth_run.specs.inside.Stages.{IsStagedRefusal};
-ghost use Rattle.synth_run.specs.inside.Causes.{IsStopFor};
+ghost use Rattle.text_abstraction.specs.declared.stop.Stop.TheVariants.{Refused};
+ghost use Rattle.command_outcomes.specs.IsOutcomeFor.{turns_of};
+ghost use Rattle.command_outcomes.specs.Stages.{IsStagedRefusal};
+ghost use Rattle.text_abstraction.specs.Causes.{IsStopFor};
 ghost use Rattle.synth_run.specs.inside.Making.{IsMade};
 ghost use Rattle.base.specs.declared.limits.TheConstants.{TURNS_LIMIT};
 
-use crate::abstraction::forward_of_text;
-use crate::stop::Stop;
-use crate::text::{SolvedPlant, Text};
 use crate::work::Work;
 use abstraction_table::add_sources;
 use base::limits::TURNS_LIMIT;
 use command_line::Refusal;
+use command_texts::{SolvedPlant, Text};
 use frontier_pool::Gate;
 use plant_record::Plant;
 use std::alloc::Global;
 use std::thread::Threads;
+use text_abstraction::{Stop, forward_of_text};
 
 /// The patrol text of the plant that the bytes spell.
 pub fn patrol<R: Threads + Sync, G: Gate>(

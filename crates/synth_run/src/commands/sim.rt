@@ -3,21 +3,21 @@
 ghost use Rattle.std.specs.Prelude.{◌≡◌, ◌≤◌, IfSome, IfNone, IfOk, IfErr, OnOk};
 ghost use Rattle.successor_box.specs.Deviations.{HasNoOverflow, deviations_of};
 ghost use Rattle.command_line.specs.declared.command.Command.{Command};
-ghost use Rattle.synth_run.specs.inside.Stages.{IsStagedRefusal, IsStartRefusal};
-ghost use Rattle.synth_run.specs.Traces.{HasRowFor, HasNoRowFor};
-ghost use Rattle.synth_run.specs.inside.Causes.{without_row, IsStopFor};
+ghost use Rattle.command_outcomes.specs.Stages.{IsStagedRefusal, IsStartRefusal};
+ghost use Rattle.command_outcomes.specs.Traces.{HasRowFor, HasNoRowFor};
+ghost use Rattle.text_abstraction.specs.Causes.{without_row, IsStopFor};
 ghost use Rattle.synth_run.specs.inside.Making.{IsMade};
 ghost use Rattle.base.specs.declared.limits.TheConstants.{SAMPLES_LIMIT};
 
-use crate::stop::Stop;
-use crate::text::{Simulation, Text};
 use crate::work::Work;
 use command_line::{Refusal, StateNumbers};
+use command_texts::{Simulation, Text};
 use controller_table::{Table, read_table};
 use game_core::Row;
 use loop_sim::row_at;
 use std::alloc::Global;
 use successor_box::{Slopes, find_slopes};
+use text_abstraction::Stop;
 
 /// The trace of the table that the bytes are.
 pub fn sim(

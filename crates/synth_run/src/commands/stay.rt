@@ -3,18 +3,17 @@
 ghost use Rattle.std.specs.Prelude.{IfOk, IfErr};
 ghost use Rattle.command_line.specs.declared.command.Command.{Command};
 ghost use Rattle.base.specs.Workers.{AreWorkers};
-ghost use Rattle.synth_run.specs.inside.Stages.{IsStagedRefusal};
-ghost use Rattle.synth_run.specs.inside.Causes.{IsStopFor};
+ghost use Rattle.command_outcomes.specs.Stages.{IsStagedRefusal};
+ghost use Rattle.text_abstraction.specs.Causes.{IsStopFor};
 ghost use Rattle.synth_run.specs.inside.Making.{IsMade};
 
-use crate::abstraction::forward_of_text;
-use crate::stop::Stop;
-use crate::text::{SolvedPlant, Text};
 use crate::work::Work;
 use abstraction_table::add_sources;
+use command_texts::{SolvedPlant, Text};
 use frontier_pool::Gate;
 use std::alloc::Global;
 use std::thread::Threads;
+use text_abstraction::{Stop, forward_of_text};
 
 /// The stay text of the plant that the bytes spell.
 pub fn stay<R: Threads + Sync, G: Gate>(

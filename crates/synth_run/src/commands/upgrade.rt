@@ -2,16 +2,16 @@
 
 ghost use Rattle.std.specs.Prelude.{IfOk, IfErr};
 ghost use Rattle.command_line.specs.declared.command.Command.{Command};
-ghost use Rattle.synth_run.specs.inside.Stages.{IsStagedRefusal};
-ghost use Rattle.synth_run.specs.inside.Causes.{IsStopFor};
+ghost use Rattle.command_outcomes.specs.Stages.{IsStagedRefusal};
+ghost use Rattle.text_abstraction.specs.Causes.{IsStopFor};
 ghost use Rattle.synth_run.specs.inside.Making.{IsMade};
 
-use crate::stop::Stop;
-use crate::text::Text;
 use crate::work::Work;
+use command_texts::Text;
 use controller_table::read_table;
 use std::alloc::Global;
 use successor_box::find_slopes;
+use text_abstraction::Stop;
 
 /// The table that the bytes are, of a plant whose numbers stay in the range.
 pub fn upgrade(alloc: Global, bytes: &[u8]) -> Result<Work, Stop>

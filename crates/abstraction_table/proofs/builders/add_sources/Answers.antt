@@ -1,7 +1,7 @@
 use Rattle.std.proofs.Common.{length, ap, arith}
 use Rattle.std.proofs.lemmas.List.{length-map}
 use Rattle.successor_box.specs.SuccessorBoxes.{cells_in}
-use Rattle.abstraction_table.proofs.PlantGame.{total}
+use Rattle.plant_game.proofs.BoxGames.{total}
 use Rattle.abstraction_table.proofs.builders.add_sources.Goals as goal
 
 pub build_sources-found-requires-clause-ordered : goal.build_sources-found-requires-clause-ordered

@@ -1,6 +1,6 @@
 use Rattle.std.proofs.Common.{arith}
-use Rattle.abstraction_table.proofs.ListedShapes.{have_segments}
-use Rattle.abstraction_table.proofs.PlantGame.{total}
+use Rattle.source_lists.proofs.ListedShapes.{have_segments}
+use Rattle.plant_game.proofs.BoxGames.{total}
 use Rattle.abstraction_table.proofs.builders.build_forward.Goals as goal
 
 pub build_shapes-requires-clause-few : goal.build_shapes-requires-clause-few

@@ -1,8 +1,9 @@
 use Rattle.std.proofs.Common.{◌^◌, ◌≤◌, arith}
-use Rattle.abstraction_table.specs.inside.Tallies.{edges_of}
+use Rattle.plant_game.specs.BoxGame.{edges_of}
 use Rattle.plant_record.specs.Description.{axes_of, vectors_of}
 use Rattle.plant_record.proofs.lemmas.SoundPlants.{sound}
-use Rattle.abstraction_table.proofs.PlantGame.{ordered, are_edges, in_memory, is_game_of}
+use Rattle.plant_game.proofs.BoxGames.{ordered, are_edges, is_game_of}
+use Rattle.abstraction_table.proofs.PlantGame.{in_memory}
 use Rattle.abstraction_table.proofs.builders.build_game.Goals as goal
 
 pub count_fans-requires-clause-grid : goal.count_fans-requires-clause-grid

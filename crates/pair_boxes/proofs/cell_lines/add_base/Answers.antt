@@ -1,7 +1,7 @@
 use Rattle.std.proofs.Common.{ℕ, ◌^◌, ◌<◌, Option, None, length, subst, arith}
 use Rattle.std.specs.Prelude.{IfSome}
 use Rattle.grid_quantiser.specs.declared.boxes.CellBox.{CellBox}
-use Rattle.pair_boxes.specs.inside.Sums.{plus}
+use Rattle.pair_box.specs.Sums.{plus}
 use Rattle.pair_boxes.proofs.ChangedElements.{none_changed, next_was, next_changed}
 use Rattle.pair_boxes.proofs.cell_lines.add_base.Goals as goal
 

@@ -6,7 +6,7 @@ use Rattle.grid_quantiser.specs.declared.boxes.CellBox.{CellBox}
 use Rattle.plant_record.specs.Description.{vectors_of}
 use Rattle.plant_record.proofs.lemmas.SoundPlants.{sound as sound_plant}
 use Rattle.successor_box.specs.SuccessorBoxes.{IsBoxOf}
-use Rattle.pair_boxes.specs.inside.Sums.{plus}
+use Rattle.pair_box.specs.Sums.{plus}
 use Rattle.pair_boxes.proofs.BoxSums.{ends_fit, sum_all}
 use Rattle.pair_boxes.proofs.CellLineLists.{cell_before}
 use Rattle.pair_boxes.proofs.LineBoxes.{cell_count}

@@ -2,7 +2,7 @@ use Rattle.std.proofs.Common.{◌≡◌, ℕ, ◌^◌, ◌<◌, ◌∙◌, Optio
 use Rattle.std.specs.Prelude.{IfSome}
 use Rattle.std.proofs.lemmas.List.{get_or_default}
 use Rattle.grid_quantiser.specs.declared.boxes.CellBox.{CellBox}
-use Rattle.pair_boxes.specs.inside.Sums.{plus}
+use Rattle.pair_box.specs.Sums.{plus}
 use Rattle.pair_boxes.proofs.ChangedElements.{none_changed, next_was, next_changed}
 use Rattle.pair_boxes.proofs.cell_lines.add_listed.Goals as goal
 

@@ -1,6 +1,6 @@
 use Rattle.std.proofs.Common.{ℕ, Option, None, get_or}
 use Rattle.grid_quantiser.specs.declared.boxes.CellBox.{CellBox}
-use Rattle.pair_boxes.specs.inside.Sums.{plus}
+use Rattle.pair_box.specs.Sums.{plus}
 use Rattle.pair_boxes.proofs.ChangedElements.{AreChangedBelow}
 use Rattle.pair_boxes.proofs.cell_lines.add_listed.Given as goal
 

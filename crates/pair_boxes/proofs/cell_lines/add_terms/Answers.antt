@@ -1,7 +1,7 @@
 use Rattle.std.proofs.Common.{◌≡◌, ℕ, ◌^◌, ◌<◌, ◌∙◌, All, List, length, None, get_or, sym, ap, subst}
 use Rattle.std.specs.Prelude.{IfSome}
 use Rattle.grid_quantiser.specs.declared.boxes.CellBox.{CellBox}
-use Rattle.pair_boxes.specs.inside.Sums.{plus}
+use Rattle.pair_box.specs.Sums.{plus}
 use Rattle.pair_boxes.proofs.ListedRows.{FindsTerms, found, first_within, inputs_within, terms_fit, boxes_fit, listed_added}
 use Rattle.pair_boxes.proofs.cell_lines.add_terms.Goals as goal
 use Rattle.pair_boxes.proofs.cell_lines.add_terms.Goals.{After-deref-in-Listed}

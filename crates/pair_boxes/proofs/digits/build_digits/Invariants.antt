@@ -2,7 +2,7 @@ use Rattle.std.proofs.Common.{◌*◌, ◌+◌, ◌≤◌, drop, length}
 use Rattle.mixed_radix.specs.Radix.{size}
 use Rattle.grid_quantiser.specs.Axes.{counts_of}
 use Rattle.plant_record.specs.Description.{axes_of, value_counts}
-use Rattle.plant_game.specs.Abstraction.{pairs_of}
+use Rattle.pair_box.specs.PlantBoxes.{pairs_of}
 use Rattle.pair_boxes.proofs.EquationDigits.{AreDigitsBetween}
 use Rattle.pair_boxes.proofs.digits.build_digits.Given as goal
 

@@ -3,7 +3,7 @@ use Rattle.std.proofs.lemmas.List.{length-replicate, get_or-replicate}
 use Rattle.grid_quantiser.specs.Axes.{cells_of}
 use Rattle.grid_quantiser.specs.ExtentBoxes.{one_cell}
 use Rattle.plant_record.specs.Description.{axes_of, vectors_of}
-use Rattle.plant_game.specs.Abstraction.{pairs_of, pair_of}
+use Rattle.pair_box.specs.PlantBoxes.{pairs_of, pair_of}
 use Rattle.pair_boxes.specs.inside.CellLines.{AreBoxesFrom}
 use Rattle.pair_boxes.proofs.CellBlocks.{among}
 use Rattle.pair_boxes.proofs.IfOks.{IfOk-both}

@@ -6,7 +6,7 @@ use Rattle.grid_quantiser.specs.declared.boxes.CellBox.{CellBox}
 use Rattle.grid_quantiser.specs.Axes.{IsAxis, no_axis}
 use Rattle.plant_record.specs.Description.{axis_of, axes_of, vectors_of}
 use Rattle.plant_record.proofs.lemmas.SoundPlants.{sound as sound_plant}
-use Rattle.pair_boxes.specs.inside.Sums.{plus}
+use Rattle.pair_box.specs.Sums.{plus}
 use Rattle.pair_boxes.specs.inside.Terms.{IsTermFrom}
 use Rattle.pair_boxes.proofs.BoxSums.{ends_fit, term_few}
 use Rattle.pair_boxes.proofs.CellBlocks.{cells_apart, inputs_apart, among, few_boxes}

@@ -2,7 +2,7 @@ use Rattle.std.proofs.Common.{◌≡◌, ℕ, ◌+◌, ◌*◌, ◌<◌, ◌≤�
 use Rattle.grid_quantiser.specs.declared.boxes.CellBox.{CellBox}
 use Rattle.plant_record.specs.Description.{vectors_of}
 use Rattle.pair_boxes.specs.inside.CellLines.{KeepsOtherInputs}
-use Rattle.pair_boxes.specs.inside.Sums.{plus}
+use Rattle.pair_box.specs.Sums.{plus}
 use Rattle.pair_boxes.specs.inside.Terms.{IsTermFrom}
 use Rattle.pair_boxes.proofs.per_pair.add_extents.Given as goal
 

@@ -11,7 +11,7 @@ use Rattle.plant_record.proofs.lemmas.SoundPlants.{sound as sound_plant}
 use Rattle.successor_box.specs.CellLines.{AreCellsOn, LiesInGrid, HaveCentresOf, AreCentresOf, HoldExtentsAtCentres}
 use Rattle.successor_box.proofs.AdditiveInputs.{additive_at}
 use Rattle.pair_boxes.specs.inside.CellLines.{last_state, AreCellsFrom, AreExtentsUnder}
-use Rattle.pair_boxes.specs.inside.Sums.{plus}
+use Rattle.pair_box.specs.Sums.{plus}
 use Rattle.pair_boxes.specs.inside.Terms.{IsTermAt, IsSumAlong}
 use Rattle.pair_boxes.proofs.BoxSums.{ends_fit, rest_more}
 use Rattle.pair_boxes.proofs.LineBoxes.{cell_count}

@@ -7,7 +7,7 @@ use Rattle.plant_record.proofs.lemmas.SoundPlants.{sound as sound_plant}
 use Rattle.plant_record.specs.Description.{axes_of}
 use Rattle.successor_box.specs.SuccessorBoxes.{low_corner, high_corner}
 use Rattle.successor_box.proofs.ExtentEnds.{ends_ordered}
-use Rattle.pair_boxes.specs.inside.Sums.{term}
+use Rattle.pair_box.specs.Sums.{term}
 use Rattle.pair_boxes.proofs.RelativeExtents.{shifted_range}
 use Rattle.pair_boxes.proofs.BoxSums.{extent_term_fits}
 use Rattle.pair_boxes.proofs.terms.term_of.Goals as goal

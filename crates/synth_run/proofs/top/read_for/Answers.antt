@@ -1,7 +1,7 @@
 use Rattle.std.proofs.Common.{ℕ, subst}
 use Rattle.run_devices.specs.Devices.{TakesAtMost, reading}
 use Rattle.run_devices.specs.Transfers.{ReadUpTo}
-use Rattle.synth_run.specs.inside.Causes.{of_read}
+use Rattle.text_abstraction.specs.Causes.{of_read}
 use Rattle.base.proofs.Results.{passed_on}
 use Rattle.synth_run.proofs.Working.{demo_is_read, reads_unless_demo, is_read, is_unread}
 use Rattle.synth_run.proofs.top.read_for.Goals as goal

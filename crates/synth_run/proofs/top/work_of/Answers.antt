@@ -1,11 +1,10 @@
 use Rattle.std.proofs.Common.{List, ℕ, subst}
 use Rattle.std.specs.Prelude.{IfOk, IfErr}
 use Rattle.run_devices.specs.Devices.{reading}
-use Rattle.synth_run.specs.inside.Causes.{IsStopFor}
+use Rattle.text_abstraction.specs.Causes.{IsStopFor}
 use Rattle.synth_run.specs.inside.Making.{IsMade}
-use Rattle.synth_run.specs.inside.SolvedAbstractions.{HasItsGame}
-use Rattle.synth_run.specs.inside.Stages.{IsStagedRefusal}
-use Rattle.synth_run.specs.inside.Working.{HasItsAnswer, IsStopped}
+use Rattle.synth_run.specs.inside.Working.{HasItsGame, HasItsAnswer, IsStopped}
+use Rattle.command_outcomes.specs.Stages.{IsStagedRefusal}
 use Rattle.synth_run.proofs.Leaving.{to_be_left}
 use Rattle.base.proofs.Results.{passed_on}
 use Rattle.synth_run.proofs.Working.{worked_out, stopped}

@@ -1,10 +1,10 @@
 use Rattle.std.proofs.Common.{◌≡◌, ℕ, List, sym, subst}
 use Rattle.command_line.specs.declared.command.Command.TheVariants.{Demo}
-use Rattle.synth_run.specs.declared.stop.Stop.{Stop}
+use Rattle.text_abstraction.specs.declared.stop.Stop.{Stop}
 use Rattle.synth_run.specs.declared.work.Work.{Work}
-use Rattle.synth_run.specs.inside.Causes.{IsStopFor, without_memory}
+use Rattle.text_abstraction.specs.Causes.{IsStopFor, without_memory}
 use Rattle.synth_run.specs.inside.Making.{IsMade}
-use Rattle.synth_run.specs.inside.Stages.{IsStagedRefusal}
+use Rattle.command_outcomes.specs.Stages.{IsStagedRefusal}
 use Rattle.synth_run.proofs.top.work_on.Goals as goal
 use Rattle.std.proofs.lemmas.Result.{IfOk-weaker, IfErr-weaker}
 

@@ -2,7 +2,7 @@ use Rattle.std.proofs.Common.{subst}
 use Rattle.run_devices.specs.Devices.{writing}
 use Rattle.run_devices.specs.declared.transfer.WriteFault.{WriteFault}
 use Rattle.run_devices.specs.Transfers.{StopsBy}
-use Rattle.synth_run.specs.inside.Texts.{bytes_of}
+use Rattle.command_texts.specs.Texts.{bytes_of}
 use Rattle.synth_run.proofs.top.write_out.Goals as goal
 
 pub returns-in-Err-Device : goal.returns-in-Err-Device

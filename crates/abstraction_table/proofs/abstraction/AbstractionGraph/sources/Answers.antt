@@ -2,7 +2,7 @@ use Rattle.std.proofs.Common.{◌≡◌, ℕ, ◌∙◌, List, length, sym, subs
 use Rattle.std.proofs.lemmas.List.{length-map}
 use Rattle.game_core.specs.Game.{AreSources}
 use Rattle.abstraction_table.specs.Table.{game_of}
-use Rattle.abstraction_table.proofs.LeadingPairs.{sources_are}
+use Rattle.abstraction_table.proofs.GameSources.{sources_are}
 use Rattle.abstraction_table.proofs.abstraction.AbstractionGraph.sources.Goals as goal
 
 pub returns : goal.returns

@@ -2,7 +2,7 @@ use Rattle.std.proofs.Common.{◌≡◌, All, None, sym, ap, subst, ◌∙◌, a
 use Rattle.std.proofs.lemmas.Bool.{false≢true}
 use Rattle.game_core.specs.Game.{successors_at}
 use Rattle.abstraction_table.specs.Table.{forward_game}
-use Rattle.abstraction_table.specs.inside.Shapes.{cells_from}
+use Rattle.source_lists.specs.Shapes.{cells_from}
 use Rattle.abstraction_table.proofs.PassingBoxes.{leads, first_passes, last_passes, first_below, last_below, cells_by_segments, segments_end_below, inside}
 use Rattle.abstraction_table.proofs.forward.ForwardAbstractionForward.leads_only_to.Goals as goal
 use Rattle.abstraction_table.proofs.forward.ForwardAbstractionForward.leads_only_to.Goals.{then-passes, else-passes}

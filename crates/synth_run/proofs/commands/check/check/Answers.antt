@@ -1,7 +1,7 @@
 use Rattle.std.proofs.Common.{refl}
 use Rattle.plant_refine.proofs.SolutionTables.{tables_control}
-use Rattle.synth_run.specs.inside.Stages.{IsRowsRefusal}
-use Rattle.synth_run.specs.inside.Causes.{of_table}
+use Rattle.command_outcomes.specs.Stages.{IsRowsRefusal}
+use Rattle.text_abstraction.specs.Causes.{of_table}
 use Rattle.base.proofs.Results.{passed_on}
 use Rattle.synth_run.proofs.Tables.{table_stop, rows_stop}
 use Rattle.synth_run.proofs.commands.check.check.Goals as goal

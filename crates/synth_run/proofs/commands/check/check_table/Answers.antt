@@ -1,8 +1,8 @@
 use Rattle.std.proofs.Common.{inr, ◌≡◌, refl, sym, subst}
 use Rattle.table_check.specs.declared.verdict.Verdict.TheVariants.{Valid}
-use Rattle.synth_run.specs.declared.stop.Stop.{Stop}
-use Rattle.synth_run.specs.inside.Stages.{IsRowsRefusal}
-use Rattle.synth_run.specs.inside.Causes.{IsStopFor}
+use Rattle.text_abstraction.specs.declared.stop.Stop.{Stop}
+use Rattle.command_outcomes.specs.Stages.{IsRowsRefusal}
+use Rattle.text_abstraction.specs.Causes.{IsStopFor}
 use Rattle.synth_run.specs.inside.Judging.{IsStopBy}
 use Rattle.synth_run.proofs.Reporting.{on_ok_both}
 use Rattle.synth_run.proofs.commands.check.check_table.Goals as goal

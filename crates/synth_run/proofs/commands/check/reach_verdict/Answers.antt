@@ -3,7 +3,7 @@ use Rattle.plant_record.specs.declared.aims.GoalKind.{GoalKind}
 use Rattle.plant_record.specs.Description.{Description}
 use Rattle.plant_game.specs.Abstraction.{IsGameOf}
 use Rattle.abstraction_table.specs.Table.{forward_game}
-use Rattle.synth_run.specs.IsOutcomeFor.{IsSolvable}
+use Rattle.command_outcomes.specs.IsOutcomeFor.{IsSolvable}
 use Rattle.synth_run.specs.inside.Judging.{IsVerdictFor}
 use Rattle.synth_run.proofs.commands.check.reach_verdict.Goals as goal
 

@@ -4,8 +4,8 @@ use Rattle.plant_record.specs.declared.aims.GoalKind.TheVariants.{Reach}
 use Rattle.plant_game.specs.Abstraction.{IsGameOf}
 use Rattle.demo_plants.specs.Demo.{demo_plant_of}
 use Rattle.demo_plants.proofs.Texts.{texts_spell}
-use Rattle.synth_run.specs.inside.Causes.{without_memory}
-use Rattle.synth_run.specs.declared.stop.Stop.{Stop}
+use Rattle.text_abstraction.specs.Causes.{without_memory}
+use Rattle.text_abstraction.specs.declared.stop.Stop.{Stop}
 use Rattle.synth_run.proofs.Leaving.{left, solved_on}
 use Rattle.base.proofs.Results.{passed_on}
 use Rattle.synth_run.proofs.commands.demo.demo.Goals as goal

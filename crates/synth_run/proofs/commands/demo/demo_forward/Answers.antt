@@ -5,10 +5,10 @@ use Rattle.plant_game.specs.Abstraction.{IsGameOf}
 use Rattle.demo_plants.proofs.Solvable.{solvable}
 use Rattle.abstraction_table.specs.Table.{forward_game}
 use Rattle.abstraction_table.specs.declared.forward.ForwardAbstraction.{ForwardAbstraction}
-use Rattle.synth_run.specs.inside.Stages.{IsPlantRefusal}
-use Rattle.synth_run.specs.inside.Causes.{IsStopFor, without_memory}
-use Rattle.synth_run.specs.declared.stop.Stop.{Stop}
-use Rattle.synth_run.proofs.Outcomes.{no_refusal}
+use Rattle.command_outcomes.specs.Stages.{IsPlantRefusal}
+use Rattle.text_abstraction.specs.Causes.{IsStopFor, without_memory}
+use Rattle.text_abstraction.specs.declared.stop.Stop.{Stop}
+use Rattle.synth_run.proofs.DemoRefusals.{no_refusal}
 use Rattle.synth_run.proofs.commands.demo.demo_forward.Goals as goal
 use Rattle.std.proofs.lemmas.Result.{IfErr-weaker}
 

@@ -1,10 +1,10 @@
 use Rattle.std.proofs.Common.{inr, ◌*◌, ◌^◌, ◌<◌, ◌≤◌, ℕ, length, refl, sym, subst, arith}
 use Rattle.plant_game.specs.Abstraction.{IsGameOf}
 use Rattle.abstraction_table.specs.Table.{game_of}
-use Rattle.synth_run.specs.declared.stop.Stop.{Stop}
-use Rattle.synth_run.specs.IsOutcomeFor.{turns_of}
-use Rattle.synth_run.specs.inside.Stages.{IsPatrolRefusal, IsTextRefusal}
-use Rattle.synth_run.specs.inside.Causes.{IsStopFor}
+use Rattle.text_abstraction.specs.declared.stop.Stop.{Stop}
+use Rattle.command_outcomes.specs.IsOutcomeFor.{turns_of}
+use Rattle.command_outcomes.specs.Stages.{IsPatrolRefusal, IsTextRefusal}
+use Rattle.text_abstraction.specs.Causes.{IsStopFor}
 use Rattle.synth_run.proofs.PatrolTables.{patrol_table, patrol_stop}
 use Rattle.base.proofs.Results.{passed_on}
 use Rattle.synth_run.proofs.commands.patrol.patrol.Goals as goal

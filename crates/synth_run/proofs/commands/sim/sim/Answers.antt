@@ -2,8 +2,8 @@ use Rattle.std.proofs.Common.{List, refl, ap, ◌∙◌}
 use Rattle.std.specs.Prelude.{ℤ}
 use Rattle.loop_sim.specs.Trace.{row_at}
 use Rattle.loop_sim.specs.TraceText.{trace_text}
-use Rattle.synth_run.specs.inside.Stages.{IsStartRefusal}
-use Rattle.synth_run.specs.inside.Causes.{of_table}
+use Rattle.command_outcomes.specs.Stages.{IsStartRefusal}
+use Rattle.text_abstraction.specs.Causes.{of_table}
 use Rattle.base.proofs.Results.{passed_on}
 use Rattle.synth_run.proofs.Tables.{table_stop, rows_stop}
 use Rattle.synth_run.proofs.commands.sim.sim.Goals as goal

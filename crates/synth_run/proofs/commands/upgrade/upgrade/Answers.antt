@@ -1,5 +1,5 @@
-use Rattle.synth_run.specs.inside.Stages.{IsOverflow}
-use Rattle.synth_run.specs.inside.Causes.{of_table}
+use Rattle.command_outcomes.specs.Stages.{IsOverflow}
+use Rattle.text_abstraction.specs.Causes.{of_table}
 use Rattle.base.proofs.Results.{passed_on}
 use Rattle.synth_run.proofs.Tables.{table_stop}
 use Rattle.synth_run.proofs.commands.upgrade.upgrade.Goals as goal

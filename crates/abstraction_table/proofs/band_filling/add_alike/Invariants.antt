@@ -1,7 +1,0 @@
-use Rattle.std.proofs.Common.{take}
-use Rattle.abstraction_table.specs.inside.Shapes.{cells_from}
-use Rattle.abstraction_table.proofs.band_filling.add_alike.Given as goal
-
--- the pair is added at the cells of the segments so far
-abbrev pub invariant-loop-segment : goal.invariant-loop-segment
-invariant-loop-segment g l = g.I.Intake.IsAdded l.pair l.fn.intake l.intake (cells_from l.first (take l.segment-index l.segments))

@@ -1,7 +1,0 @@
-use Rattle.std.proofs.Common.{ℕ, ◌<◌, ◌≤◌, None, get_or}
-use Rattle.abstraction_table.specs.inside.CellRanges.{LiesIn}
-use Rattle.abstraction_table.proofs.cell_ranges.range_of.Given as goal
-
--- the boxes so far lie in the range
-abbrev pub invariant-loop-pair : goal.invariant-loop-pair
-invariant-loop-pair l = (j : ℕ) → l.from ≤ j → j < l.pair → LiesIn (record { first = l.first; last = l.last }) (get_or l.boxes j None)

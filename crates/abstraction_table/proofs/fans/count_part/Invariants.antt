@@ -1,5 +1,0 @@
-use Rattle.abstraction_table.proofs.CountedFans.{FansSoFar}
-use Rattle.abstraction_table.proofs.fans.count_part.Given as goal
-
-abbrev pub invariant-loop-b : goal.invariant-loop-b
-invariant-loop-b l = FansSoFar l.grid l.boxes l.b-index l.fans.counts.items l.edges

@@ -1,0 +1,7 @@
+pub mod Below
+pub mod Undeniable
+pub mod SomeGame
+pub mod SomePlant
+pub mod Stages
+pub mod Outcomes
+pub mod SomeOutcome

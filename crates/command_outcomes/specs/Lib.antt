@@ -1,0 +1,4 @@
+pub mod Traces
+pub mod IsOutcomeFor
+pub mod OutcomeLaws
+pub mod Stages

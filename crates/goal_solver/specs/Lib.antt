@@ -1,0 +1,2 @@
+pub mod SolvedAbstractions
+pub mod inside

@@ -1,0 +1,4 @@
+pub mod Packed
+pub mod PlantBoxes
+pub mod Sums
+pub mod inside

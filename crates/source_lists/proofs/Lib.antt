@@ -1,0 +1,13 @@
+pub mod BelowBoxes
+pub mod Mapped
+pub mod CountedFans
+pub mod MergedFans
+pub mod Tallying
+pub mod BandSlots
+pub mod BandCuts
+pub mod SourceBands
+pub mod LeadingPairs
+pub mod SourceSteps
+pub mod Segments
+pub mod ListedShapes
+pub mod PassingCells

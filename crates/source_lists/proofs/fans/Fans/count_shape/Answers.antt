@@ -1,0 +1,42 @@
+use Rattle.std.proofs.Common.{◌-◌, ℕ, List, Some, set, refl, arith}
+use Rattle.std.proofs.lemmas.List.{length-set}
+use Rattle.std.proofs.lemmas.List.Sums.{sum_by-set}
+use Rattle.source_lists.specs.inside.FanCounts.{KeepsFans}
+use Rattle.source_lists.proofs.CountedFans.{is_moved, box_below, keeps_all, keeps_both, same_sum, IsAdded, is_added}
+use Rattle.source_lists.proofs.fans.Fans.count_shape.Goals as goal
+
+pub overflow_sub-distance : goal.overflow_sub-distance
+overflow_sub-distance c = (is_moved c.args.grid.now (Some c.args.b) c.args.b refl c.requires.grid c.requires.ordered).ordered
+
+pub make_count_for-requires : goal.make_count_for-requires
+make_count_for-requires c = omega (arith, box_below c.args.grid.now (Some c.args.b) c.args.b refl c.requires.grid c.requires.ordered, c.requires.limit)
+
+pub index_mut-requires : goal.index_mut-requires
+index_mut-requires c = omega (arith, c.in_ok-make_count_for.ensures.within, c.make_count_for.new.self.counts.ok.0)
+
+-- the counts before and after
+module _ (c : goal.After-self-1) where
+  kept_first : KeepsFans c.args.grid.now c.args.self.now.counts.items c.make_count_for.new.self.counts.items
+  kept_first = keeps_all c.args.grid.now c.args.self.now.counts.items c.make_count_for.new.self.counts.items c.in_ok-make_count_for.ensures.same c.requires.shapes
+
+  abbrev now : List ℕ
+  now = set c.make_count_for.new.self.counts.items (c.args.b.last - c.args.b.first) c.box_count-cells.result
+
+  added : IsAdded c.args.grid.now c.make_count_for.new.self.counts.items now c.args.b
+  added = is_added c.args.grid.now (Some c.args.b) c.args.b refl c.requires.grid c.requires.ordered c.make_count_for.new.self.counts.items c.box_count-cells.result c.in_ok-make_count_for.ensures.within kept_first.shapes c.box_count-cells.ensures.some c.box_count-cells.ensures.count
+
+pub returns-clause-distances : goal.returns-clause-distances
+returns-clause-distances c =
+    let long = length-set c.make_count_for.new.self.counts.items (c.args.b.last - c.args.b.first) c.box_count-cells.result in
+    omega (arith, long, c.in_ok-make_count_for.ensures.few, c.requires.distances, box_below c.args.grid.now (Some c.args.b) c.args.b refl c.requires.grid c.requires.ordered)
+
+pub returns-clause-counted : goal.returns-clause-counted
+returns-clause-counted c = (added c).counted
+
+pub returns-clause-kept : goal.returns-clause-kept
+returns-clause-kept c = keeps_both c.args.grid.now c.args.self.now.counts.items c.make_count_for.new.self.counts.items (now c) (kept_first c) (added c).kept
+
+pub returns-clause-few : goal.returns-clause-few
+returns-clause-few c =
+    let before = c.make_count_for.new.self.counts.items in
+    omega (arith, sum_by-set (λ n. n) before (c.args.b.last - c.args.b.first) c.box_count-cells.result 0 c.in_ok-make_count_for.ensures.within, same_sum c.args.self.now.counts.items before c.in_ok-make_count_for.ensures.same)

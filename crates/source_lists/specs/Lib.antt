@@ -1,0 +1,4 @@
+pub mod Fans
+pub mod Shapes
+pub mod SourceLists
+pub mod inside

@@ -1,0 +1,42 @@
+-- How cells are counted, box by box and part by part.
+use Rattle.std.specs.Prelude.{◌≡◌, ℕ, zero, suc, ◌+◌, ◌-◌, max, ◌<◌, ◌≤◌, List, ◌++◌, length, slice_index, sum, Option, IfSome}
+use Rattle.std.specs.List.{All}
+use Rattle.grid_quantiser.specs.declared.axis.Axis.{Axis}
+use Rattle.grid_quantiser.specs.declared.boxes.CellBox.{CellBox}
+use Rattle.plant_game.specs.BoxGame.{edges_of}
+use Rattle.source_lists.specs.Fans.{IsCounted, AreShapes, AreFansOf}
+
+-- counts of 0 stand after those before
+abbrev pub GoesOnInZeros : List ℕ → List ℕ → Type 0
+GoesOnInZeros before after = (more : List ℕ) × (after ≡ before ++ more) × All (λ n. n ≡ 0) more
+
+-- Counts of 0 stand after those before, as far as a distance.
+pub record Reaches (distance : ℕ) (before after : List ℕ) : Type 0 where
+  pub within : distance < length after
+  pub few : length after ≤ max (length before) (distance + 1)
+  pub same : GoesOnInZeros before after
+
+-- the shape of a box is counted, where there is a box
+abbrev pub ShapeIsCounted : List Axis → List ℕ → Option CellBox → Type 0
+ShapeIsCounted axes fans b = IfSome b (λ b. IsCounted axes fans (b.last - b.first))
+
+-- Each shape that was counted still is, and each count but 0 is that of a shape.
+pub record KeepsFans (axes : List Axis) (before after : List ℕ) : Type 0 where
+  pub shapes : AreShapes axes after
+  pub kept : (distance : ℕ) → IsCounted axes before distance → IsCounted axes after distance
+
+-- the first of two counts, and where it is 0 the other
+abbrev pub known_count : ℕ → ℕ → ℕ
+known_count zero other = other
+known_count (suc n) other = suc n
+
+-- Where there was no count, there is that of other boxes, and the counts are no more together.
+pub record AreMerged (before other after : List ℕ) : Type 0 where
+  pub few : length after ≤ max (length before) (length other)
+  pub each : (distance : ℕ) → slice_index after distance ≡ known_count (slice_index before distance) (slice_index other distance)
+  pub total : sum after ≤ sum before + sum other
+
+-- Counts are those of boxes, and so many edges they have.
+pub record CountBoxes (axes : List Axis) (boxes : List (Option CellBox)) (fans : List ℕ) (edges : ℕ) : Type 0 where
+  pub fans_are : AreFansOf axes boxes fans
+  pub edges_are : edges ≡ edges_of axes boxes

@@ -1,0 +1,19 @@
+//! The pairs that lead to each cell, found from the boxes of all pairs.
+//!
+//! The layer above gives the boxes. `count_fans` counts the cells of each, `build_shapes` lists the segments of their
+//! shapes, and `build_sources` the pairs that lead to each cell, in bands of cells that are filled side by side.
+#![tactic(auto)]
+
+mod band;
+mod band_filling;
+mod cell_ranges;
+mod cuts;
+mod fans;
+mod intake;
+mod shapes;
+mod sources;
+
+pub use cuts::Group;
+pub use fans::{Fans, count_fans};
+pub use shapes::{Segment, SegmentRange, Shapes, all_pass, build_shapes};
+pub use sources::{Sources, build_sources};
