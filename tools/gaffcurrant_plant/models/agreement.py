@@ -73,8 +73,11 @@ def check_steps(path, model, plant):
                 [(value, value) for value in point.whole + point.inputs] + [ends[1:] for ends in plant.noises],
             )
             beside = value / float(unit) - low
-            beside = around(beside, model, state) if name in model.wraps else beside
+            if name in model.wraps:
+                # Up to a turn above the low end, since the span may be all of the circle.
+                beside = (beside + BESIDE) % float((state[2] - state[1]) / unit) - BESIDE
             if not -BESIDE <= beside <= high - low + 1 + BESIDE:
+                beside = around(beside, model, state) if name in model.wraps else beside
                 away = (
                     f"{short(Fraction(abs(beside)) * unit)} away from where"
                     if math.isfinite(beside)
