@@ -142,8 +142,9 @@ def text_between(planting, word, has_bounds, progress=None):
     with progress.during(looks.said):
         for choice in CHOICES:
             looks.begin()
+            most = max([one.rows for one in found], default=0)
             try:
-                found.append(Widened(looks, *choice))
+                found.append(Widened(looks, *choice, most))
             except Trouble as trouble:
                 faults.append(trouble)
             if found and found[0].rounds == 0:
@@ -292,9 +293,10 @@ def ends_of(plant, cells, vectors):
 
 class Widened:
     """text: the plant text; before and rows: the rows of its table without widened obstacles and with them; rounds: how
-    often they were widened."""
+    often they were widened. Raises Trouble where no more rows would be left than another choice leaves: they become
+    fewer from plant to plant."""
 
-    def __init__(self, looks, dear, has_ends):
+    def __init__(self, looks, dear, has_ends, most):
         self.looks, self.planting, self.model = looks, looks.planting, looks.model
         self.layers, self.before, last = Layers(self.model, dear, has_ends), None, None
         for self.rounds in range(MOST_ROUNDS):
@@ -304,6 +306,8 @@ class Widened:
             self.before = self.rows if self.before is None else self.before
             if not self.rows:
                 raise Trouble(self.nothing_left(last))
+            if self.rows <= most:
+                raise Trouble(f"between: another way to widen obstacles leaves {most} rows")
             if not look.walls.any():
                 self.text = self.text_of(list(self.comments()))
                 return
