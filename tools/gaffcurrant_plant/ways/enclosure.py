@@ -177,13 +177,14 @@ class Ways:
             done = numpy.logical_and.reduce([one.lies_in(other) for one, other in zip(after, box)])
             if done.all():
                 break
-            box = [
+            wider = [
                 Span(
-                    numpy.where(done, old.low, new.low - (old_start.low - new.low) * WIDER - 1e-12),
-                    numpy.where(done, old.high, new.high + (new.high - old_start.high) * WIDER + 1e-12),
+                    new.low - ((old.low - new.low) * WIDER + 1e-12),
+                    new.high + ((new.high - old.high) * WIDER + 1e-12),
                 )
-                for old, new, old_start in zip(box, after, start)
+                for new, old in zip(after, start)
             ]
+            box = [old.chosen(done, new) for old, new in zip(box, wider)] if done.any() else wider
         return box, slopes, done
 
 
@@ -247,15 +248,16 @@ class Walls:
 
     def left(self, box):
         """For each state and side of the domain, low then high, which columns may leave it."""
-        return [part for one, (low, high) in zip(box, self.domain) for part in (one.low < low, one.high > high)]
+        return [part for one, (low, high) in zip(box, self.domain) for part in (~(one.low >= low), ~(one.high <= high))]
 
 
 def meets(one, low, high, turn):
-    """Which columns of a span meet what lies between two ends, and again each turn on, where there is one."""
+    """Which columns of a span meet what lies between two ends, and again each turn on, where there is one; those whose
+    ends are no numbers do."""
     if turn is None:
-        return (one.low < high) & (one.high > low)
+        return ~((one.low >= high) | (one.high <= low))
     first, last = (one.low - high) / turn - ROUNDED, (one.high - low) / turn + ROUNDED
-    return numpy.floor(first) + 1 < last
+    return ~(numpy.floor(first) + 1 >= last)
 
 
 class Touch:

@@ -1,20 +1,26 @@
 """Intervals of doubles as arrays, whose ends are rounded outward. Needs numpy."""
 
 from fractions import Fraction
+from functools import lru_cache
 
 from ..faults import Trouble
 from .doubles import OF_NUMPY, numpy
 
-# How far functions of numpy may be beside, as a share of the value and at least: far more than they are.
+# How far functions of numpy may be beside, as a share of the value and at least: far more than they are; and a share
+# that is more than the distance to the next double.
 SHARE, LEAST = 2.0**-48, 1e-300
+NEXT = 2.0**-52
 
 
 def down(values):
-    return numpy.nextafter(values, -numpy.inf)
+    """Doubles below the exact results of which values may be the rounding; of what is infinite no number. Faster than
+    numpy.nextafter, and at most a double or LEAST farther off."""
+    return values - (abs(values) * NEXT + LEAST)
 
 
 def up(values):
-    return numpy.nextafter(values, numpy.inf)
+    """Doubles above the exact results of which values may be the rounding."""
+    return values + (abs(values) * NEXT + LEAST)
 
 
 class Span:
@@ -35,20 +41,32 @@ class Span:
         return Span(-self.high, -self.low)
 
     def __mul__(self, other):
+        if not isinstance(other.low, numpy.ndarray) and (other.low >= 0 or other.high <= 0):
+            return self.times(other.low, other.high)
+        if not isinstance(self.low, numpy.ndarray) and (self.low >= 0 or self.high <= 0):
+            return other.times(self.low, self.high)
         ends = (self.low * other.low, self.low * other.high, self.high * other.low, self.high * other.high)
         return Span(
             down(numpy.minimum(numpy.minimum(*ends[:2]), numpy.minimum(*ends[2:]))),
             up(numpy.maximum(numpy.maximum(*ends[:2]), numpy.maximum(*ends[2:]))),
         )
 
-    def hull(self, other):
-        return Span(numpy.minimum(self.low, other.low), numpy.maximum(self.high, other.high))
+    def times(self, least, most):
+        """The product with numbers between two that have one sign."""
+        low, high = (self.low, self.high) if least >= 0 else (self.high, self.low)
+        if least == most:
+            return Span(down(low * least), up(high * least))
+        return Span(
+            down(numpy.minimum(low * least, low * most)),
+            up(numpy.maximum(high * least, high * most)),
+        )
 
     def lies_in(self, other):
         return (other.low <= self.low) & (self.high <= other.high)
 
-    def taken(self, where):
-        return Span(self.low[where], self.high[where])
+    def chosen(self, where, other):
+        """This span in some columns, another one in the others."""
+        return Span(numpy.where(where, self.low, other.low), numpy.where(where, self.high, other.high))
 
 
 def widened(low, high):
@@ -56,8 +74,9 @@ def widened(low, high):
     return Span(low - (numpy.abs(low) * SHARE + LEAST), high + (numpy.abs(high) * SHARE + LEAST))
 
 
+@lru_cache(maxsize=2**12)
 def around(value):
-    """The least span of doubles about a fraction."""
+    """The least span of doubles about a number or a fraction, found once."""
     value = Fraction(value)
     near = float(value)
     return Span(near, near) if Fraction(near) == value else Span(down(near), up(near))
