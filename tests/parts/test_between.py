@@ -4,6 +4,7 @@ are widened until none does, and what is wrong is told in a line."""
 import itertools
 import random
 import re
+from fractions import Fraction
 
 from gaffcurrant_plant.models.model import read_model
 
@@ -13,7 +14,7 @@ from .tool_case import TOP, ToolCase, has, needs_numpy
 if has("numpy"):
     import numpy
     from gaffcurrant_plant.ways.enclosure import Walls
-    from gaffcurrant_plant.ways.spans import Span
+    from gaffcurrant_plant.ways.spans import Span, around
     from gaffcurrant_plant.ways.wider_obstacles import Looks, widenings_left
 
 # A carriage that steps by up to a metre and a half, and a wall a tenth of a metre thick with a gap; with another target
@@ -100,6 +101,31 @@ class Enclosures(ToolCase):
             faults = ways.faults_of(text, sides, is_flow, random.Random(6))
             self.equal(f"ways outside of the enclosures of {text[:40]!r}", [], list(itertools.islice(faults, 3)))
 
+    def test_ends(self):
+        """Sums and products of spans hold the exact ones, also of numbers and of what is next to nothing."""
+        draws = random.Random(3)
+        numbers = [0.0, 1.0, -2.0, 1e-305, -3e-290, 1 / 3, -0.1, 7e5, *(draws.uniform(-9, 9) for _ in range(40))]
+        spans = [Span(*sorted(draws.sample(numbers, 2))) for _ in range(400)]
+        columns = Span(*(numpy.array([getattr(one, end) for one in spans]) for end in ("low", "high")))
+        fractions = [Fraction(1, 3), Fraction(-2, 7), Fraction(0), Fraction(3), Fraction(-1, 2)]
+        others = [around(one) for one in fractions] + [Span(-0.5, 2.0), Span(-3.0, -0.1), Span(0.1, 4.0), columns]
+        for other in others:
+            for name, got, exact in (
+                ("sum", columns + other, lambda a, b: a + b),
+                ("product", columns * other, lambda a, b: a * b),
+                ("product the other way", other * columns, lambda a, b: a * b),
+            ):
+                ends = zip(spans, got.low.tolist(), got.high.tolist(), [other] * 400 if other is not columns else spans)
+                wrong = [k for k, (one, low, high, two) in enumerate(ends) if not holds(exact, one, two, low, high)]
+                self.equal(f"{name} with {other.low} to {other.high}, not held", [], wrong)
+
+    def test_no_numbers(self):
+        """A way whose ends overflow may touch everything, and leave the domain."""
+        wall = b"state h 0 360 cells 36\ninput u 10 -10 10\nnext h = h + u\nobstacle 0 10\ngoal keep\n"
+        for text in (wall, wall.replace(b"input", b"wrap h\ninput")):
+            walls, way = Walls(read_model(text)), [Span(numpy.array([numpy.nan]), numpy.array([numpy.nan]))]
+            self.holds(f"it may touch, by {text[:40]}", walls.met(way).all())
+
     def test_turns(self):
         """A way over the end of a state that comes round meets an obstacle at its beginning, and one that ends before
         it doesn't."""
@@ -108,6 +134,12 @@ class Enclosures(ToolCase):
         for low, high, wanted in TURNS:
             way = [Span(numpy.array([low]), numpy.array([high]))]
             self.equal(f"a way from {low} to {high} meets it", wanted, bool(walls.touched(way)[0][0]))
+
+
+def holds(operation, one, other, low, high):
+    """Whether two ends hold what an operation makes of the ends of two spans, exactly."""
+    pairs = itertools.product(*([Fraction(float(span.low)), Fraction(float(span.high))] for span in (one, other)))
+    return all(Fraction(low) <= operation(*pair) <= Fraction(high) for pair in pairs)
 
 
 @needs_numpy

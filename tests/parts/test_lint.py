@@ -73,6 +73,7 @@ NOTED = [
     (LINE, 4, "next x = x + 3", "the input u stands in no equation"),
     (LINE, 5, "# no target", "there is no target"),
     (LINE, 5, "target 13 14", "no cell of x lies between 13 and 14"),
+    (LINE, 5, "target 20 30", "20 to 30 is outside of the range of x, 0 to 14"),
     (LINE, 5, "target 11 14", "the cells of x fill 12 to 14 alone"),
     (LINE, 5, "target 12 14\nobstacle 12 12", "an obstacle meets each of its cells"),
     (LINE, 3, "input u 3 3", "more than once"),

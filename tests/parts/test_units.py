@@ -39,6 +39,16 @@ WHOLES = [("0", 0), ("0.02", 1), ("0.0399", 1), ("-0.001", -1), ("1e-1", 5)]
 ROUND = b"lut(h + u, -54:-18, -19:17, -18:-18, 17:17, 18:-18, 53:17)"
 ANGLE = b"plant 2\nstate h -18 17 3\nstate x 0 9 1\ninput u -4 4\nnext h = " + ROUND + b"\nnext x = x\ngoal keep\nend\n"
 METRES = Units({"x": Fraction(1, 50)}, {"x": "m"})
+# A pointer that steps over the end of its circle, where its next value may be any of the range.
+CIRCLE = """state h -180 180 cells 36 1
+wrap h
+input u 1 -15 0 15
+noise w -1 1
+next h = h + u + w
+target 80 150
+obstacle 20 60
+goal reach
+"""
 
 
 class Sizes(ToolCase):
@@ -107,6 +117,17 @@ class OtherSizes(ToolCase):
 
     def test_own_model(self):
         self.equal("a table's own model", 0, self.why(self.model_of("docks"))[0])
+
+    def test_angle(self):
+        """A state that comes round, whose step over the end of its range may lead anywhere."""
+        plant = self.scaled(CIRCLE)
+        table = self.placed("circle.table", self.solved("synth", plant))
+        model = self.placed("circle.model", CIRCLE)
+        status, _, error = self.tool("why", table, "0", "--model", model)
+        self.equal("the table's own model", (0, ""), (status, error))
+        faster = self.placed("faster.model", CIRCLE.replace("h + u", "h + 2*u"))
+        answer = self.tool("why", table, "0", "--model", faster)
+        self.refused("a model that steps twice as far", answer, "by the model a sample leads h")
 
     def test_larger_model(self):
         text = self.model_of("docks").read_text()

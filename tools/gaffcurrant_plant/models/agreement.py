@@ -82,8 +82,11 @@ def check_steps(path: str, model: Model, plant: Plant) -> None:
                 [(value, value) for value in point.whole + point.inputs] + [ends[1:] for ends in plant.noises],
             )
             beside: Real = value / float(unit) - low
-            beside = around(beside, model, state) if name in model.wraps else beside
+            if name in model.wraps:
+                # Up to a turn above the low end, since the span may be all of the circle.
+                beside = (beside + BESIDE) % float((state[2] - state[1]) / unit) - BESIDE
             if not -BESIDE <= beside <= high - low + 1 + BESIDE:
+                beside = around(beside, model, state) if name in model.wraps else beside
                 away = (
                     f"{short(abs(Fraction(beside)) * unit)} away from where"
                     if math.isfinite(beside)

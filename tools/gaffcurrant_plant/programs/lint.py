@@ -128,6 +128,8 @@ def goals(plant: Plant) -> Iterator[str]:
 def ill_fitting(ends: Interval, extent: Interval, state: State) -> Optional[str]:
     """What to say of a target's ends along a state between which no cells fit, or not up to the ends."""
     (low, high), (first, last), (name, least, most, width) = ends, extent, state
+    if high < least or low > most:
+        return f"{low} to {high} is outside of the range of {name}, {least} to {most}"
     if first > last:
         return (
             f"no cell of {name} lies between {low} and {high}; cells begin at {least} + {width} * k and have "

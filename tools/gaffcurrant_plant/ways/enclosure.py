@@ -197,13 +197,14 @@ class Ways:
             done = numpy.logical_and.reduce([one.lies_in(other) for one, other in zip(after, box)])
             if done.all():
                 break
-            box = [
+            wider = [
                 Span(
-                    numpy.where(done, old.low, new.low - (old_start.low - new.low) * WIDER - 1e-12),
-                    numpy.where(done, old.high, new.high + (new.high - old_start.high) * WIDER + 1e-12),
+                    new.low - ((old.low - new.low) * WIDER + 1e-12),
+                    new.high + ((new.high - old.high) * WIDER + 1e-12),
                 )
-                for old, new, old_start in zip(box, after, start)
+                for new, old in zip(after, start)
             ]
+            box = [old.chosen(done, new) for old, new in zip(box, wider)] if done.any() else wider
         return box, slopes, done
 
 
@@ -268,20 +269,23 @@ class Walls:
     def left(self, box: Sequence[Span]) -> list[Flags]:
         """For each state and side of the domain, low then high, which columns may leave it."""
         sides = (
-            (numpy.less(one.low, low), numpy.greater(one.high, high)) for one, (low, high) in zip(box, self.domain)
+            # What is no number may leave it.
+            (~numpy.greater_equal(one.low, low), ~numpy.less_equal(one.high, high))
+            for one, (low, high) in zip(box, self.domain)
         )
         return [part for pair in sides for part in pair]
 
 
 def meets(one: Span, low: float, high: float, turn: Optional[float]) -> Flags:
-    """Which columns of a span meet what lies between two ends, and again each turn on, where there is one."""
-    met: Flags
+    """Which columns of a span meet what lies between two ends, and again each turn on, where there is one; those whose
+    ends are no numbers do."""
+    beside: Flags
     if turn is None:
-        met = numpy.logical_and(one.low < high, one.high > low)
+        beside = numpy.logical_or(one.low >= high, one.high <= low)
     else:
         first, last = (one.low - high) / turn - ROUNDED, (one.high - low) / turn + ROUNDED
-        met = numpy.floor(first) + 1 < last
-    return met
+        beside = numpy.greater_equal(numpy.floor(first) + 1, last)
+    return ~beside
 
 
 def lower(value: Fraction) -> float:

@@ -155,8 +155,9 @@ def text_between(planting: Planting, word: str, has_bounds: bool, progress: Opti
     with progress.during(looks.said):
         for choice in CHOICES:
             looks.begin()
+            most = max([one.rows for one in found], default=0)
             try:
-                found.append(Widened(looks, *choice))
+                found.append(Widened(looks, *choice, most))
             except Trouble as trouble:
                 faults.append(trouble)
             if found and found[0].rounds == 0:
@@ -310,9 +311,10 @@ def ends_of(plant: Plant, cells: Wholes, vectors: Wholes) -> Wholes:
 
 class Widened:
     """text: the plant text; before and rows: the rows of its table without widened obstacles and with them; rounds: how
-    often they were widened."""
+    often they were widened. Raises Trouble where no more rows would be left than another choice leaves: they become
+    fewer from plant to plant."""
 
-    def __init__(self, looks: Looks, dear: int, has_ends: bool) -> None:
+    def __init__(self, looks: Looks, dear: int, has_ends: bool, most: int) -> None:
         self.looks, self.planting, self.model = looks, looks.planting, looks.model
         self.layers, self.before, last = Layers(self.model, dear, has_ends), None, None
         for self.rounds in range(MOST_ROUNDS):
@@ -322,6 +324,8 @@ class Widened:
             self.before = self.rows if self.before is None else self.before
             if not self.rows:
                 raise Trouble(self.nothing_left(last))
+            if self.rows <= most:
+                raise Trouble(f"between: another way to widen obstacles leaves {most} rows")
             if not look.walls.any():
                 self.text = self.text_of(list(self.comments()))
                 return
