@@ -1,2 +1,4 @@
 pub mod Packed
+pub mod CellsFrom
+pub mod Finders
 pub mod inside
