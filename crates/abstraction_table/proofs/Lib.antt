@@ -13,3 +13,9 @@ pub mod ListedShapes
 pub mod PlantGame
 pub mod BoxCorners
 pub mod PassingBoxes
+pub mod PaddedBoxes
+pub mod AddedShapes
+pub mod PartGames
+pub mod PartFindings
+pub mod SummedFindings
+pub mod PartSteps

@@ -1,4 +1,5 @@
 pub mod BoxGame
+pub mod GameParts
 pub mod Table
 pub mod Faults
 pub mod inside

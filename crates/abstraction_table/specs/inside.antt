@@ -5,6 +5,10 @@ pub mod Props
 pub mod Shapes
 pub mod BandCuts
 pub mod CellRanges
+pub mod Padded
+pub mod GameParts
+pub mod Findings
+pub mod KnownShapes
 pub mod SourceLists
 pub mod Tallies
 pub mod Intakes

@@ -3,7 +3,7 @@ ghost use Rattle.std.specs.Prelude.{◌≡◌, ◌+◌, ◌-◌, ◌*◌, ◌^�
 ghost use Rattle.std.specs.List.{All};
 ghost use Rattle.grid_quantiser.specs.Axes.{cells_of, AreAxes};
 ghost use Rattle.successor_box.specs.SuccessorBoxes.{cells_in};
-ghost use Rattle.abstraction_table.specs.inside.Fans.{fan_of, Reaches, IsCounted, ShapeIsCounted, AreShapes, KeepsFans, AreFansOf, AreMerged, CountBoxes};
+ghost use Rattle.abstraction_table.specs.inside.Fans.{fan_of, Reaches, IsCounted, ShapeIsCounted, AreShapes, KeepsFans, AreSameBut, AreFansOf, AreMerged, CountBoxes};
 ghost use Rattle.abstraction_table.specs.inside.SourceLists.{IsBox};
 ghost use Rattle.abstraction_table.specs.inside.Tallies.{edges_of};
 ghost use Rattle.abstraction_table.specs.declared.fans.TheConstants.{BOXES_FOR_A_PART, PARTS_LIMIT};
@@ -85,7 +85,7 @@ impl Fans {
 
     /// Counts the cells of the shape of a box.
     #[cold]
-    fn count_shape(&mut self, grid: &Grid, b: CellBox) -> Result<u32, AllocError>
+    pub(crate) fn count_shape(&mut self, grid: &Grid, b: CellBox) -> Result<u32, AllocError>
         requires grid { AreAxes grid.now }
         requires limit { cells_of grid.now ≤ CELLS_LIMIT }
         requires ordered { IsBox grid.now (Some b) }
@@ -94,6 +94,7 @@ impl Fans {
         ensures distances { IfOk result (λ _. length self.new.counts.items ≤ cells_of grid.now) }
         ensures kept { IfOk result (λ _. KeepsFans grid.now self.old.counts.items self.new.counts.items) }
         ensures counted { IfOk result (λ _. IsCounted grid.now self.new.counts.items (b.last - b.first)) }
+        ensures others { IfOk result (λ _. AreSameBut (b.last - b.first) self.old.counts.items self.new.counts.items) }
         ensures cells { IfOk result (λ cells. cells ≡ length (cells_in grid.now (Some b))) }
         ensures few { IfOk result (λ cells. sum self.new.counts.items ≤ sum self.old.counts.items + cells) }
     {

@@ -1,5 +1,5 @@
 -- How many cells boxes have, by the distance from their first cell to their last.
-use Rattle.std.specs.Prelude.{◌≡◌, ℕ, zero, suc, ◌+◌, ◌-◌, max, ◌<◌, ◌≤◌, List, ◌++◌, length, slice_index, sum, Option, Some, None, IfSome}
+use Rattle.std.specs.Prelude.{◌≡◌, ◌≢◌, ℕ, zero, suc, ◌+◌, ◌-◌, max, ◌<◌, ◌≤◌, List, ◌++◌, length, slice_index, sum, Option, Some, None, IfSome}
 use Rattle.std.specs.List.{All}
 use Rattle.grid_quantiser.specs.declared.axis.Axis.{Axis}
 use Rattle.grid_quantiser.specs.declared.boxes.CellBox.{CellBox}
@@ -40,6 +40,10 @@ AreShapes axes fans = (distance : ℕ) → 1 ≤ slice_index fans distance → I
 pub record KeepsFans (axes : List Axis) (before after : List ℕ) : Type 0 where
   pub shapes : AreShapes axes after
   pub kept : (distance : ℕ) → IsCounted axes before distance → IsCounted axes after distance
+
+-- counts but that of a distance stay
+abbrev pub AreSameBut : ℕ → List ℕ → List ℕ → Type 0
+AreSameBut distance before after = (k : ℕ) → k ≢ distance → slice_index after k ≡ slice_index before k
 
 -- The count at the distance of a box is how many cells the box has: one at least.
 pub record HasFan (axes : List Axis) (fans : List ℕ) (b : CellBox) : Type 0 where
