@@ -18,3 +18,4 @@ pub mod SomeGame
 pub mod SomePlant
 pub mod SomeOutcome
 pub mod Stages
+pub mod RightCells

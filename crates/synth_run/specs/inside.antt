@@ -1,5 +1,6 @@
 pub mod Causes
 pub mod Judging
+pub mod RightLaws
 pub mod Making
 pub mod SolvedAbstractions
 pub mod Stages
