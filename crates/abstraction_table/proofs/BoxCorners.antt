@@ -35,6 +35,10 @@ module _ (axes : List Axis) (f l : ℕ) (grid : AreAxes axes) (box : IsCellBox a
   rising : IsStrictlyIncreasing cells
   rising = rising_between axes f l grid.each box
 
+  -- there is one at least
+  pub some_cell : 1 ≤ length cells
+  some_cell = let has = contains_from_between axes f l f grid.each (corners_below axes f l grid.each grid.some_state box).0 (first_between axes f l box) in omega (arith, has.1)
+
   pub first_corner : get_or cells 0 0 ≡ f
   first_corner =
       let has = contains_from_between axes f l f grid.each (corners_below axes f l grid.each grid.some_state box).0 (first_between axes f l box) in

@@ -11,14 +11,17 @@ use Rattle.game_core.specs.Game.{Game, pairs_of, successors_at}
 use Rattle.successor_box.specs.SuccessorBoxes.{cells_in}
 use Rattle.source_lists.specs.declared.shapes.Shapes.{Shapes}
 use Rattle.plant_game.specs.BoxGame.{box_game, IsBox}
-use Rattle.source_lists.specs.Fans.{HasFan, FanIsKnown}
-use Rattle.abstraction_table.specs.inside.StoredGame.{IsBoxGame}
+use Rattle.abstraction_table.specs.inside.StoredGame.{IsBoxGame, IsBoxGraph}
 use Rattle.source_lists.specs.Shapes.{cells_from, EndsBy, segments_at, HasSegmentsOf}
-use Rattle.abstraction_table.proofs.BoxCorners.{first_corner, last_corner}
+use Rattle.abstraction_table.proofs.BoxCorners.{some_cell, first_corner, last_corner}
 use Rattle.plant_game.proofs.BoxGames.{successors_are}
 use Rattle.source_lists.proofs.Segments.{segments_end}
 
-module _ (axes : List Axis) (inputs : ℕ) (marks : List Mark) (boxes : List (Option CellBox)) (fans : List ℕ) (held : IsBoxGame axes inputs marks boxes fans) (pair : ℕ) (below : pair < pairs_of (box_game axes inputs marks boxes)) where
+-- a game in memory is a graph
+pub drawn : (axes : List Axis) (inputs : ℕ) (marks : List Mark) (boxes : List (Option CellBox)) (fans : List ℕ) → IsBoxGame axes inputs marks boxes fans → IsBoxGraph axes inputs marks boxes
+drawn axes inputs marks boxes fans held = record { grid = held.grid; graph = held.graph; ordered = held.ordered }
+
+module _ (axes : List Axis) (inputs : ℕ) (marks : List Mark) (boxes : List (Option CellBox)) (held : IsBoxGraph axes inputs marks boxes) (pair : ℕ) (below : pair < pairs_of (box_game axes inputs marks boxes)) where
   abbrev game : Game
   game = box_game axes inputs marks boxes
 
@@ -32,17 +35,14 @@ module _ (axes : List Axis) (inputs : ℕ) (marks : List Mark) (boxes : List (Op
   cells_below = held.graph.game.within pair [] (omega (arith, below, held.graph.game.one_list_each))
 
   module _ (b : CellBox) (is : get_or boxes pair None ≡ Some b) where
-    cells_are : cells ≡ cells_between axes b.first b.last
+    pub cells_are : cells ≡ cells_between axes b.first b.last
     cells_are = successors_are axes inputs marks boxes pair ∙ ap (cells_in axes) is
 
-    corners : IsCellBox axes b.first b.last
+    pub corners : IsCellBox axes b.first b.last
     corners = subst (IsBox axes) is (held.ordered pair None inside)
 
-    fan : HasFan axes fans b
-    fan = subst (FanIsKnown axes fans) is (held.counted.each pair None inside)
-
     some : 1 ≤ length cells
-    some = omega (arith, fan.some, fan.cells, ap length cells_are)
+    some = omega (arith, some_cell axes b.first b.last held.grid corners, ap length cells_are)
 
     pub leads : cells ≢ []
     leads none = absurd (omega (arith, some, ap length none))

@@ -1,3 +1,4 @@
+pub mod GameParts
 pub mod Table
 pub mod Faults
 pub mod inside

@@ -7,7 +7,7 @@ use Rattle.grid_quantiser.specs.declared.boxes.CellBox.{CellBox}
 use Rattle.plant_record.specs.Description.{Description, vectors_of}
 use Rattle.successor_box.specs.SuccessorBoxes.{IsBoxOf}
 use Rattle.pair_box.specs.PlantBoxes.{pair_of}
-use Rattle.pair_boxes.specs.inside.CellLines.{AreBoxesFrom}
+use Rattle.pair_boxes.specs.CellsFrom.{AreBoxesFrom}
 use Rattle.pair_boxes.proofs.CellLineLists.{range, cell_before}
 
 -- the cell at which a chunk of whole cells begins

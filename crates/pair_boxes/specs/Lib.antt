@@ -1,1 +1,3 @@
+pub mod CellsFrom
+pub mod Finders
 pub mod inside

@@ -6,7 +6,7 @@ ghost use Rattle.grid_quantiser.specs.ExtentBoxes.{one_cell};
 ghost use Rattle.plant_record.specs.Description.{axes_of, vectors_of};
 ghost use Rattle.pair_box.specs.PlantBoxes.{AreBoxesOf};
 ghost use Rattle.pair_boxes.specs.declared.pair_boxes.TheConstants.{BOXES_PER_TASK};
-ghost use Rattle.pair_boxes.specs.inside.CellLines.{AreInputsOfCells, AreBoxesFrom};
+ghost use Rattle.pair_boxes.specs.CellsFrom.{AreInputsOfCells, AreBoxesFrom};
 ghost use Rattle.pair_boxes.specs.inside.Terms.{AreTermTablesOf};
 
 use crate::cell_lines::boxes_in_line;
@@ -73,7 +73,12 @@ fn cells_in_chunk(cells: usize, inputs: usize) -> usize
 }
 
 /// The boxes of cells from one on, line by line.
-fn boxes_of_cells(sampled: &Sampled<'_>, tables: &[StateTerms], c: u32, boxes: &mut [PairBox])
+pub(crate) fn boxes_of_cells(
+    sampled: &Sampled<'_>,
+    tables: &[StateTerms],
+    c: u32,
+    boxes: &mut [PairBox],
+)
     requires tables { AreTermTablesOf sampled.now.plant.now tables.now }
     requires cells { AreInputsOfCells sampled.now.plant.now c boxes.old }
     requires start { All (λ b. b ≡ one_cell) boxes.old }

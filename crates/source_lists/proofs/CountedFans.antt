@@ -128,7 +128,7 @@ pub record FansSoFar (axes : List Axis) (boxes : List (Option CellBox)) (n : ℕ
   pub edges_so_far : edges ≡ edges_of axes (take n boxes)
   pub few : sum fans ≤ edges
 
-kept_for : (axes : List Axis) (before after : List ℕ) (o : Option CellBox) → KeepsFans axes before after →
+pub kept_for : (axes : List Axis) (before after : List ℕ) (o : Option CellBox) → KeepsFans axes before after →
     IfSome o (λ (b : CellBox). IsCounted axes before (b.last - b.first)) → IfSome o (λ (b : CellBox). IsCounted axes after (b.last - b.first))
 kept_for axes before after None keep h = tt
 kept_for axes before after (Some b) keep h = keep.kept (b.last - b.first) h

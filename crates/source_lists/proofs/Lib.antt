@@ -10,4 +10,5 @@ pub mod LeadingPairs
 pub mod SourceSteps
 pub mod Segments
 pub mod ListedShapes
+pub mod AddedShapes
 pub mod PassingCells

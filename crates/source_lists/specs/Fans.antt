@@ -22,6 +22,10 @@ pub record IsCounted (axes : List Axis) (fans : List ℕ) (distance : ℕ) : Typ
 abbrev pub AreShapes : List Axis → List ℕ → Type 0
 AreShapes axes fans = (distance : ℕ) → 1 ≤ slice_index fans distance → IsCounted axes fans distance
 
+-- the shape of a box is counted, where there is a box
+abbrev pub ShapeIsCounted : List Axis → List ℕ → Option CellBox → Type 0
+ShapeIsCounted axes fans b = IfSome b (λ b. IsCounted axes fans (b.last - b.first))
+
 -- The count at the distance of a box is how many cells the box has: one at least.
 pub record HasFan (axes : List Axis) (fans : List ℕ) (b : CellBox) : Type 0 where
   pub ordered : b.first ≤ b.last

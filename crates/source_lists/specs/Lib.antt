@@ -1,4 +1,5 @@
 pub mod Fans
 pub mod Shapes
+pub mod KnownShapes
 pub mod SourceLists
 pub mod inside

@@ -3,8 +3,8 @@ ghost use Rattle.std.specs.Prelude.{◌≡◌, ◌+◌, ◌-◌, ◌*◌, ◌^�
 ghost use Rattle.std.specs.List.{All};
 ghost use Rattle.grid_quantiser.specs.Axes.{cells_of, AreAxes};
 ghost use Rattle.successor_box.specs.SuccessorBoxes.{cells_in};
-ghost use Rattle.source_lists.specs.Fans.{fan_of, IsCounted, AreShapes, AreFansOf};
-ghost use Rattle.source_lists.specs.inside.FanCounts.{Reaches, ShapeIsCounted, KeepsFans, AreMerged, CountBoxes};
+ghost use Rattle.source_lists.specs.Fans.{fan_of, IsCounted, ShapeIsCounted, AreShapes, AreFansOf};
+ghost use Rattle.source_lists.specs.inside.FanCounts.{Reaches, KeepsFans, AreSameBut, AreMerged, CountBoxes};
 ghost use Rattle.plant_game.specs.BoxGame.{IsBox, edges_of};
 ghost use Rattle.source_lists.specs.declared.fans.TheConstants.{BOXES_FOR_A_PART, PARTS_LIMIT};
 ghost use Rattle.base.specs.declared.limits.TheConstants.{CELLS_LIMIT, PAIRS_LIMIT};
@@ -85,7 +85,7 @@ impl Fans {
 
     /// Counts the cells of the shape of a box.
     #[cold]
-    fn count_shape(&mut self, grid: &Grid, b: CellBox) -> Result<u32, AllocError>
+    pub(crate) fn count_shape(&mut self, grid: &Grid, b: CellBox) -> Result<u32, AllocError>
         requires grid { AreAxes grid.now }
         requires limit { cells_of grid.now ≤ CELLS_LIMIT }
         requires ordered { IsBox grid.now (Some b) }
@@ -94,6 +94,7 @@ impl Fans {
         ensures distances { IfOk result (λ _. length self.new.counts.items ≤ cells_of grid.now) }
         ensures kept { IfOk result (λ _. KeepsFans grid.now self.old.counts.items self.new.counts.items) }
         ensures counted { IfOk result (λ _. IsCounted grid.now self.new.counts.items (b.last - b.first)) }
+        ensures others { IfOk result (λ _. AreSameBut (b.last - b.first) self.old.counts.items self.new.counts.items) }
         ensures cells { IfOk result (λ cells. cells ≡ length (cells_in grid.now (Some b))) }
         ensures few { IfOk result (λ cells. sum self.new.counts.items ≤ sum self.old.counts.items + cells) }
     {

@@ -2,6 +2,7 @@
 //!
 //! The layer above gives the boxes. `count_fans` counts the cells of each, `build_shapes` lists the segments of their
 //! shapes, and `build_sources` the pairs that lead to each cell, in bands of cells that are filled side by side.
+//! `KnownShapes` counts and lists the shapes of boxes that come some at a time.
 #![tactic(auto)]
 
 mod band;
@@ -10,10 +11,12 @@ mod cell_ranges;
 mod cuts;
 mod fans;
 mod intake;
+mod known_shapes;
 mod shapes;
 mod sources;
 
 pub use cuts::Group;
 pub use fans::{Fans, count_fans};
+pub use known_shapes::KnownShapes;
 pub use shapes::{Segment, SegmentRange, Shapes, all_pass, build_shapes};
 pub use sources::{Sources, build_sources};

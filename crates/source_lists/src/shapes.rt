@@ -29,7 +29,7 @@ pub struct SegmentRange {
 }
 
 /// What stands for a shape that isn't listed.
-const NO_SEGMENTS: SegmentRange = SegmentRange { from: 0, to: 0 };
+pub(crate) const NO_SEGMENTS: SegmentRange = SegmentRange { from: 0, to: 0 };
 
 /// The segments of the shapes of boxes. A box is its shape, shifted by its first cell, and how far its last
 /// cell is from its first gives the shape.
@@ -53,7 +53,7 @@ impl Shapes {
     }
 
     /// Pushes the segments of the shape of a distance.
-    fn push_shape(&mut self, grid: &Grid, distance: u32) -> Result<(), AllocError>
+    pub(crate) fn push_shape(&mut self, grid: &Grid, distance: u32) -> Result<(), AllocError>
         requires shape { IsCellBox grid.now 0 distance }
         requires within { distance < length self.old.ranges.items }
         requires few { length self.old.segments.items + length (cells_between grid.now 0 distance) ≤ EDGES_LIMIT }

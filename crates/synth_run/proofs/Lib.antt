@@ -12,3 +12,4 @@ pub mod Simulations
 pub mod Tables
 pub mod Working
 pub mod DemoRefusals
+pub mod RightCells

@@ -1,3 +1,4 @@
 pub mod Judging
+pub mod RightLaws
 pub mod Making
 pub mod Working

@@ -2,3 +2,4 @@ pub mod Best
 pub mod Unwinnable
 pub mod Fitting
 pub mod Verdicts
+pub mod FirstWrong

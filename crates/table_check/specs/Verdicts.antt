@@ -1,5 +1,5 @@
 -- What a checker says of rows: that they are the solution of a game, or which cell is the first that isn't right.
-use Rattle.std.specs.Prelude.{◌≡◌, ℕ, ◌<◌, ◌↔◌, List, Option}
+use Rattle.std.specs.Prelude.{◌≡◌, ℕ, ◌<◌, ◌≤◌, ◌↔◌, List, Option, Some, None}
 use Rattle.game_core.specs.declared.game.Row.{Row}
 use Rattle.game_core.specs.Game.{Game}
 use Rattle.game_core.specs.Keep.{IsKeepSolution}
@@ -19,9 +19,19 @@ pub record IsVerdict (IsSolution : Type 0) (IsRightCell : ℕ → Type 0) (cells
   pub valid : (verdict ≡ Valid) ↔ IsSolution
   pub invalid : (c : ℕ) → (verdict ≡ Invalid c) ↔ IsFirstWithout IsRightCell cells c
 
+-- the verdict by the first cell that isn't right, where there is one
+abbrev pub verdict_by : Option ℕ → Verdict
+verdict_by None = Valid
+verdict_by (Some c) = Invalid c
+
 -- the verdict on the rows of a reach table
 abbrev pub IsReachVerdict : Game → List (Option Row) → Verdict → Type 0
 IsReachVerdict g rows verdict = IsVerdict (IsReachSolution g rows) (IsRight g rows) g.cells verdict
+
+-- the first of the cells from one up to another that isn't right, where there is one
+abbrev pub IsFirstNotRight : Game → List (Option Row) → ℕ → ℕ → Option ℕ → Type 0
+IsFirstNotRight g rows from to None = (c : ℕ) → from ≤ c → c < to → IsRight g rows c
+IsFirstNotRight g rows from to (Some c) = (from ≤ c) × (c < to) × (IsRight g rows c → ⊥) × ((b : ℕ) → from ≤ b → b < c → IsRight g rows b)
 
 -- a cell has the same row in two lists, or none in both
 abbrev pub HasSameRow : List (Option Row) → List (Option Row) → ℕ → Type 0

@@ -15,3 +15,9 @@ pub record IsBoxGame (axes : List Axis) (inputs : ℕ) (marks : List Mark) (boxe
   pub graph : IsGraph (box_game axes inputs marks boxes)
   pub ordered : All (IsBox axes) boxes
   pub counted : AreFansOf axes boxes fans
+
+-- Marks and boxes are a game within the limits on the axes of a grid, and the corners of each box are in order.
+pub record IsBoxGraph (axes : List Axis) (inputs : ℕ) (marks : List Mark) (boxes : List (Option CellBox)) : Type 0 where
+  pub grid : AreAxes axes
+  pub graph : IsGraph (box_game axes inputs marks boxes)
+  pub ordered : All (IsBox axes) boxes

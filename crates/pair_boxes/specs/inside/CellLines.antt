@@ -7,8 +7,8 @@ use Rattle.grid_quantiser.specs.declared.extents.Extent.{Extent}
 use Rattle.grid_quantiser.specs.Axes.{no_axis, cells_of}
 use Rattle.plant_record.specs.Description.{Description, axes_of, vectors_of}
 use Rattle.successor_box.specs.PairExtents.{IsExtentBeforeAt}
-use Rattle.successor_box.specs.SuccessorBoxes.{IsBoxOf}
 use Rattle.grid_quantiser.specs.ExtentBoxes.{one_cell}
+use Rattle.pair_boxes.specs.CellsFrom.{AreBoxesFrom}
 use Rattle.pair_boxes.specs.declared.digits.Digit.{Digit}
 use Rattle.pair_boxes.specs.declared.terms.TermTable.{TermTable}
 use Rattle.pair_box.specs.declared.pair_box.TheConstants.{SUMS_LIMIT}
@@ -51,10 +51,6 @@ pub record AreSumsOfCells (p : Description) (states c n : ℕ) (bases boxes : Li
 abbrev pub AreInputsOfLine : Description → ℕ → List (Option CellBox) → Type 0
 AreInputsOfLine p c boxes = (n : ℕ) × (length boxes ≡ n * vectors_of p.inputs) × AreInLine p c n
 
--- boxes, one for each input, of cells of the grid from one on
-abbrev pub AreInputsOfCells : Description → ℕ → List (Option CellBox) → Type 0
-AreInputsOfCells p c boxes = (n : ℕ) × (length boxes ≡ n * vectors_of p.inputs) × (c + n ≤ cells_of (axes_of p))
-
 -- boxes are with bases the sums of some cells, from one with these indices on
 abbrev pub HaveCells : Description → ℕ → List ℕ → List (Option CellBox) → List (Option CellBox) → Type 0
 HaveCells p states indices bases boxes = (c n : ℕ) × AreCellsFrom p indices c n × AreSumsOfCells p states c n bases boxes
@@ -62,10 +58,6 @@ HaveCells p states indices bases boxes = (c n : ℕ) × AreCellsFrom p indices c
 -- the sums of cells from one with these indices on become their sums on the axes of one more state
 abbrev pub AddsToCells : Description → ℕ → List ℕ → List (Option CellBox) → List (Option CellBox) → List (Option CellBox) → List (Option CellBox) → Type 0
 AddsToCells p i indices bases after old new = (c n : ℕ) → AreCellsFrom p indices c n → AreSumsOfCells p i c n bases old → AreSumsOfCells p (i + 1) c n after new
-
--- boxes, as many as there are inputs for each cell from one on
-abbrev pub AreBoxesFrom : Description → ℕ → List (Option CellBox) → Type 0
-AreBoxesFrom p c boxes = (k u : ℕ) → u < vectors_of p.inputs → k * vectors_of p.inputs + u < length boxes → IsBoxOf p (c + k) u (slice_index_or boxes (k * vectors_of p.inputs + u) None)
 
 -- boxes are with some bases such sums
 abbrev pub HaveSums : Description → ℕ → List ℕ → List (Option CellBox) → Type 0

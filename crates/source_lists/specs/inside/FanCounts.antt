@@ -1,5 +1,5 @@
 -- How cells are counted, box by box and part by part.
-use Rattle.std.specs.Prelude.{◌≡◌, ℕ, zero, suc, ◌+◌, ◌-◌, max, ◌<◌, ◌≤◌, List, ◌++◌, length, slice_index, sum, Option, IfSome}
+use Rattle.std.specs.Prelude.{◌≡◌, ◌≢◌, ℕ, zero, suc, ◌+◌, max, ◌<◌, ◌≤◌, List, ◌++◌, length, slice_index, sum, Option}
 use Rattle.std.specs.List.{All}
 use Rattle.grid_quantiser.specs.declared.axis.Axis.{Axis}
 use Rattle.grid_quantiser.specs.declared.boxes.CellBox.{CellBox}
@@ -16,14 +16,14 @@ pub record Reaches (distance : ℕ) (before after : List ℕ) : Type 0 where
   pub few : length after ≤ max (length before) (distance + 1)
   pub same : GoesOnInZeros before after
 
--- the shape of a box is counted, where there is a box
-abbrev pub ShapeIsCounted : List Axis → List ℕ → Option CellBox → Type 0
-ShapeIsCounted axes fans b = IfSome b (λ b. IsCounted axes fans (b.last - b.first))
-
 -- Each shape that was counted still is, and each count but 0 is that of a shape.
 pub record KeepsFans (axes : List Axis) (before after : List ℕ) : Type 0 where
   pub shapes : AreShapes axes after
   pub kept : (distance : ℕ) → IsCounted axes before distance → IsCounted axes after distance
+
+-- counts but that of a distance stay
+abbrev pub AreSameBut : ℕ → List ℕ → List ℕ → Type 0
+AreSameBut distance before after = (k : ℕ) → k ≢ distance → slice_index after k ≡ slice_index before k
 
 -- the first of two counts, and where it is 0 the other
 abbrev pub known_count : ℕ → ℕ → ℕ

@@ -4,7 +4,7 @@ use Rattle.grid_quantiser.specs.Axes.{cells_of}
 use Rattle.grid_quantiser.specs.ExtentBoxes.{one_cell}
 use Rattle.plant_record.specs.Description.{axes_of, vectors_of}
 use Rattle.pair_box.specs.PlantBoxes.{pairs_of, pair_of}
-use Rattle.pair_boxes.specs.inside.CellLines.{AreBoxesFrom}
+use Rattle.pair_boxes.specs.CellsFrom.{AreBoxesFrom}
 use Rattle.pair_boxes.proofs.CellBlocks.{among}
 use Rattle.pair_boxes.proofs.IfOks.{IfOk-both}
 use Rattle.pair_boxes.proofs.PairBoxes.{box_in_chunk, chunk_cells}

@@ -1,8 +1,8 @@
-use Rattle.std.proofs.Common.{◌-◌, ℕ, List, Some, set, refl, arith}
-use Rattle.std.proofs.lemmas.List.{length-set}
+use Rattle.std.proofs.Common.{◌-◌, ℕ, List, Some, set, refl, ◌∙◌, arith}
+use Rattle.std.proofs.lemmas.List.{length-set, get_or-set_other}
 use Rattle.std.proofs.lemmas.List.Sums.{sum_by-set}
 use Rattle.source_lists.specs.inside.FanCounts.{KeepsFans}
-use Rattle.source_lists.proofs.CountedFans.{is_moved, box_below, keeps_all, keeps_both, same_sum, IsAdded, is_added}
+use Rattle.source_lists.proofs.CountedFans.{is_moved, box_below, keeps_all, keeps_both, same_count, same_sum, IsAdded, is_added}
 use Rattle.source_lists.proofs.fans.Fans.count_shape.Goals as goal
 
 pub overflow_sub-distance : goal.overflow_sub-distance
@@ -40,3 +40,8 @@ pub returns-clause-few : goal.returns-clause-few
 returns-clause-few c =
     let before = c.make_count_for.new.self.counts.items in
     omega (arith, sum_by-set (λ n. n) before (c.args.b.last - c.args.b.first) c.box_count-cells.result 0 c.in_ok-make_count_for.ensures.within, same_sum c.args.self.now.counts.items before c.in_ok-make_count_for.ensures.same)
+
+pub returns-clause-others : goal.returns-clause-others
+returns-clause-others c = λ k other.
+    let before = c.make_count_for.new.self.counts.items in
+    get_or-set_other before (c.args.b.last - c.args.b.first) k c.box_count-cells.result 0 other ∙ same_count c.args.self.now.counts.items before c.in_ok-make_count_for.ensures.same k

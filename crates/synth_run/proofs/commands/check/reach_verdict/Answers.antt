@@ -1,20 +1,22 @@
 use Rattle.std.proofs.Common.{sym, subst}
-use Rattle.plant_record.specs.declared.aims.GoalKind.{GoalKind}
 use Rattle.plant_record.specs.Description.{Description}
-use Rattle.plant_game.specs.Abstraction.{IsGameOf}
-use Rattle.abstraction_table.specs.Table.{forward_game}
+use Rattle.game_core.specs.Right.{IsRight}
+use Rattle.abstraction_table.specs.GameParts.{IsFirstInGame}
 use Rattle.command_outcomes.specs.IsOutcomeFor.{IsSolvable}
-use Rattle.synth_run.specs.inside.Judging.{IsVerdictFor}
+use Rattle.synth_run.specs.inside.Judging.{IsJudged}
+use Rattle.synth_run.proofs.RightCells.{judged_by_first}
+use Rattle.text_abstraction.proofs.PlantTexts.{is_solvable}
 use Rattle.synth_run.proofs.commands.check.reach_verdict.Goals as goal
 
 pub returns-clause-solvable : goal.returns-clause-solvable
-returns-clause-solvable g c = subst IsSolvable c.plant.ensures c.in_ok-game.ensures.solvable
+returns-clause-solvable g c =
+    let found = c.in_ok-first.ensures.first in
+    subst IsSolvable c.plant-plant.ensures (is_solvable c.plant-plant.result.now found.game c.in_ok-slopes.ensures.fits found.abstraction found.graph)
 
 pub returns-clause-verdict : goal.returns-clause-verdict
 returns-clause-verdict g c =
-    let game = forward_game c.in_ok-game.game in
-    record {
-      game = game;
-      abstraction = subst (λ (q : Description). IsGameOf q game) c.plant.ensures c.in_ok-game.ensures.game;
-      judged = subst (λ (kind : GoalKind). IsVerdictFor kind game c.args.table.now.rows c.check_reach.result) (sym c.requires) c.check_reach.ensures;
-    }
+    let p = c.args.table.now.plant in
+    let rows = c.args.table.now.rows in
+    let first = c.in_ok-first.first in
+    let found = subst (λ (q : Description). IsFirstInGame q (λ h cell. IsRight h rows cell) first) c.plant-plant.ensures c.in_ok-first.ensures.first in
+    subst (IsJudged p rows) (sym c.by_first_wrong.ensures) (judged_by_first p rows first c.requires c.every_table_fits.ensures.rows.one_each found)

@@ -1,0 +1,34 @@
+use Rattle.std.proofs.Common.{Option, None, length, ap, subst, ◌∙◌, arith}
+use Rattle.std.proofs.lemmas.List.{get_or_default}
+use Rattle.std.proofs.lemmas.List.Sums.{sum_by_more_le}
+use Rattle.grid_quantiser.specs.declared.boxes.CellBox.{CellBox}
+use Rattle.successor_box.specs.SuccessorBoxes.{cells_in}
+use Rattle.source_lists.specs.Fans.{ShapeIsCounted}
+use Rattle.source_lists.proofs.AddedShapes.{added_more}
+use Rattle.source_lists.proofs.SourceSteps.{kept_box}
+use Rattle.source_lists.proofs.known_shapes.KnownShapes.add.Goals as goal
+
+pub overflow_add-edges : goal.overflow_add-edges
+overflow_add-edges c =
+    let axes = c.args.grid.now in
+    let boxes = c.args.boxes.now in
+    let box = kept_box boxes c.loop-b.b-index c.get.result c.b-item.result c.get.ensures c.b-item.is c.loop-b-test.true in
+    let count = rw box at c.in_ok-cells.ensures.cells in
+    omega (arith, c.from-edges.ensures, count, c.loop-b.invariant.edges_so_far, sum_by_more_le (λ b. length (cells_in axes b)) boxes c.loop-b.b-index None c.loop-b-test.true, c.requires.fits)
+
+pub loop-b-preserved : goal.loop-b-preserved
+loop-b-preserved c =
+    let axes = c.args.grid.now in
+    let boxes = c.args.boxes.now in
+    let added = c.in_ok-cells.ensures in
+    let box = kept_box boxes c.loop-b.b-index c.get.result c.b-item.result c.get.ensures c.b-item.is c.loop-b-test.true in
+    let counted = subst (ShapeIsCounted axes c.add_box.new.self.fans.counts.items) box added.counted in
+    let cells = added.cells ∙ ap (λ (o : Option CellBox). length (cells_in axes o)) box in
+    rw c.from-edges.ensures
+    (added_more axes boxes c.loop-b.b-index c.args.self.now.fans.edges c.loop-b.edges c.in_ok-cells.cells c.loop-b.self.fans.counts.items c.add_box.new.self.fans.counts.items c.loop-b.self.shapes c.add_box.new.self.shapes c.loop-b-test.true c.loop-b.invariant
+    added.known added.kept counted cells)
+
+pub returns-clause-counted : goal.returns-clause-counted
+returns-clause-counted c = λ k d lt.
+    let boxes = c.args.boxes.now in
+    subst (ShapeIsCounted c.args.grid.now c.loop-b.self.fans.counts.items) (get_or_default boxes k None d lt) (c.loop-b.invariant.counted k (omega (arith, lt, c.loop-b-test.false)))

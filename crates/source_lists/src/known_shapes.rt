@@ -1,0 +1,124 @@
+//! Shapes of boxes that come one after another.
+ghost use Rattle.std.specs.Prelude.{◌≡◌, ◌+◌, ◌-◌, ◌^◌, ◌<◌, ◌≤◌, length, Some, IfOk};
+ghost use Rattle.std.specs.List.{All};
+ghost use Rattle.grid_quantiser.specs.Axes.{cells_of, AreAxes};
+ghost use Rattle.successor_box.specs.SuccessorBoxes.{cells_in};
+ghost use Rattle.source_lists.specs.Fans.{ShapeIsCounted};
+ghost use Rattle.source_lists.specs.inside.FanCounts.{KeepsFans};
+ghost use Rattle.source_lists.specs.KnownShapes.{AreKnown};
+ghost use Rattle.source_lists.specs.inside.ListedSegments.{HasRangeFor};
+ghost use Rattle.plant_game.specs.BoxGame.{IsBox, edges_of};
+ghost use Rattle.base.specs.declared.limits.TheConstants.{CELLS_LIMIT};
+
+use crate::fans::Fans;
+use crate::shapes::{NO_SEGMENTS, SegmentRange, Shapes};
+use base::limits::EDGES_LIMIT;
+use grid_quantiser::{CellBox, Grid};
+use pair_box::PairBox;
+use std::alloc::{AllocError, Global};
+
+/// How many cells the shapes of the boxes so far have, and their segments. A shape is counted and listed with the first box
+/// that has it. Past the limit on edges no more are listed.
+#[derive(Drop)]
+pub struct KnownShapes {
+    pub fans: Fans,
+    pub shapes: Shapes,
+}
+
+impl KnownShapes {
+    /// Before the first box.
+    pub fn new(alloc: Global, grid: &Grid) -> Result<KnownShapes, AllocError>
+        ensures edges { IfOk result (λ known. known.fans.edges ≡ 0) }
+        ensures known { IfOk result (λ known. AreKnown grid.now 0 known.fans.counts.items known.shapes) }
+    {
+        let cells = grid.cells() as usize;
+        let fans = Fans {
+            counts: Vec::with_capacity(alloc, cells)?,
+            edges: 0,
+        };
+        let shapes = Shapes {
+            ranges: Vec::with_capacity(alloc, cells)?,
+            segments: Vec::new(alloc),
+        };
+        Ok(KnownShapes { fans, shapes })
+    }
+
+    /// Takes in boxes that come next.
+    pub fn add(&mut self, grid: &Grid, boxes: &[PairBox]) -> Result<(), AllocError>
+        requires grid { AreAxes grid.now }
+        requires limit { cells_of grid.now ≤ CELLS_LIMIT }
+        requires ordered { All (IsBox grid.now) boxes.now }
+        requires known { AreKnown grid.now self.old.fans.edges self.old.fans.counts.items self.old.shapes }
+        requires fits { self.old.fans.edges + edges_of grid.now boxes.now < 2 ^ 64 }
+        ensures edges { IfOk result (λ _. self.new.fans.edges ≡ self.old.fans.edges + edges_of grid.now boxes.now) }
+        ensures known { IfOk result (λ _. AreKnown grid.now self.new.fans.edges self.new.fans.counts.items self.new.shapes) }
+        ensures counted { IfOk result (λ _. All (ShapeIsCounted grid.now self.new.fans.counts.items) boxes.now) }
+    {
+        let mut edges = self.fans.edges;
+        for b in boxes {
+            let cells = self.add_box(grid, b.get(), edges)?;
+            edges += u64::from(cells);
+        }
+        self.fans.edges = edges;
+        Ok(())
+    }
+
+    /// How many cells a box has, which comes after so many edges.
+    #[inline]
+    fn add_box(&mut self, grid: &Grid, b: Option<CellBox>, edges: u64) -> Result<u32, AllocError>
+        requires grid { AreAxes grid.now }
+        requires limit { cells_of grid.now ≤ CELLS_LIMIT }
+        requires ordered { IsBox grid.now b }
+        requires known { AreKnown grid.now edges self.old.fans.counts.items self.old.shapes }
+        requires fits { edges + length (cells_in grid.now b) < 2 ^ 64 }
+        ensures known { IfOk result (λ cells. AreKnown grid.now (edges + cells) self.new.fans.counts.items self.new.shapes) }
+        ensures kept { IfOk result (λ _. KeepsFans grid.now self.old.fans.counts.items self.new.fans.counts.items) }
+        ensures counted { IfOk result (λ _. ShapeIsCounted grid.now self.new.fans.counts.items b) }
+        ensures cells { IfOk result (λ cells. cells ≡ length (cells_in grid.now b)) }
+    {
+        let Some(b) = b else {
+            return Ok(0);
+        };
+        let distance = (b.last - b.first) as usize;
+        if let Some(known) = self.fans.counts.get(distance) {
+            if *known > 0 {
+                return Ok(*known);
+            }
+        }
+        self.add_shape(grid, b, edges)
+    }
+
+    /// Counts the cells of a box whose shape is new, and lists its segments.
+    #[cold]
+    fn add_shape(&mut self, grid: &Grid, b: CellBox, edges: u64) -> Result<u32, AllocError>
+        requires grid { AreAxes grid.now }
+        requires limit { cells_of grid.now ≤ CELLS_LIMIT }
+        requires ordered { IsBox grid.now (Some b) }
+        requires known { AreKnown grid.now edges self.old.fans.counts.items self.old.shapes }
+        requires fits { edges + length (cells_in grid.now (Some b)) < 2 ^ 64 }
+        ensures known { IfOk result (λ cells. AreKnown grid.now (edges + cells) self.new.fans.counts.items self.new.shapes) }
+        ensures kept { IfOk result (λ _. KeepsFans grid.now self.old.fans.counts.items self.new.fans.counts.items) }
+        ensures counted { IfOk result (λ _. ShapeIsCounted grid.now self.new.fans.counts.items (Some b)) }
+        ensures cells { IfOk result (λ cells. cells ≡ length (cells_in grid.now (Some b))) }
+    {
+        let distance = b.last - b.first;
+        let cells = self.fans.count_shape(grid, b)?;
+        if edges + u64::from(cells) > EDGES_LIMIT {
+            return Ok(cells);
+        }
+        make_range_for(&mut self.shapes.ranges, distance as usize)?;
+        self.shapes.push_shape(grid, distance)?;
+        Ok(cells)
+    }
+}
+
+/// Makes the range of a distance, an empty one if it is new.
+fn make_range_for(ranges: &mut Vec<SegmentRange>, distance: usize) -> Result<(), AllocError>
+    requires { distance < CELLS_LIMIT }
+    ensures { IfOk result (λ _. HasRangeFor distance ranges.old.items ranges.new.items) }
+{
+    if distance >= ranges.len() {
+        ranges.resize(distance + 1, NO_SEGMENTS)?;
+    }
+    Ok(())
+}
