@@ -25,6 +25,8 @@ ORDERS, LAST, STEPS = (1, 2, 3), 4, (2, 3, 4)
 WORTH, SIMPLER = Fraction(9, 10), Fraction(19, 20)
 # Boxes on the way that are tried before nothing more is that isn't asked for.
 MOST_TRIALS = 10_000
+# The share of a cell that may be left out before areas are halved, and how many are.
+MUCH, HALVINGS = 1, 60
 # Boxes in which the domain is looked at, and the most input vectors for which it is each time: at first, and again for
 # the planting that is chosen.
 COARSE, FINE = (96, 12), (288, 64)
@@ -59,10 +61,10 @@ def needs_mpmath(model):
 
 class Chooser:
     """Tries plantings of a model, and keeps the best one. tried: what was tried, in words, and the planting or what is
-    wrong with it."""
+    wrong with it; halvings: how many areas are halved in which a sampling leaves out much."""
 
-    def __init__(self, model):
-        self.model, self.best, self.tried = model, None, []
+    def __init__(self, model, halvings=0):
+        self.model, self.halvings, self.best, self.tried = model, halvings, None, []
         self.block = Block(model) if model.flows else None
         self.trials = 0
         # Whether polynomials as they are, and those about the middles of the ranges, are tried.
@@ -74,6 +76,8 @@ class Chooser:
             self.take("as the equations are", None)
         else:
             self.take_samplings()
+            if self.best and self.best.flow and self.best.is_rest_wide(MUCH):
+                self.look_closer()
         if not self.best:
             raise self.tried[0][1]
         if self.best.flow and self.best.is_rest_wide() and self.trials <= MOST_TRIALS:
@@ -93,6 +97,13 @@ class Chooser:
         for steps in () if model.steps else STEPS:
             if not self.best or not self.best.is_rest_wide() or not self.take_finer(steps):
                 break
+
+    def look_closer(self):
+        """Tries all samplings again with areas halved, and takes over what is better."""
+        closer = Chooser(self.model, HALVINGS)
+        closer.take_samplings()
+        if closer.best and box_size(closer.best) < box_size(self.best):
+            self.best, self.tried, self.trials, self.halvings = closer.best, closer.tried, closer.trials, HALVINGS
 
     def words_of_best(self):
         return next(words for words, one in self.tried if one is self.best)
@@ -121,7 +132,7 @@ class Chooser:
                 return
             words = f"order {order}" + (f" in {steps} steps" if steps > 1 else "")
             try:
-                flow = flow_of(self.model, order, steps, self.block)
+                flow = flow_of(self.model, order, steps, self.block, COARSE, self.halvings)
                 self.trials += flow.trials
             except Failure as failure:
                 self.tried.append((words, failure))
@@ -161,7 +172,7 @@ class Chooser:
         try:
             sharper = with_pieces(
                 self.model,
-                flow_of(self.model, best.flow.order, best.flow.count, self.block, FINE),
+                flow_of(self.model, best.flow.order, best.flow.count, self.block, FINE, self.halvings),
                 self.block,
                 best.room.is_nested,
             )
@@ -175,10 +186,11 @@ class Chooser:
 FLOWS = {}
 
 
-def flow_of(model, order, steps, block, boxes=COARSE):
-    """The Flow of a model by an order and in steps, which doesn't rest on its cells: the same one is made once."""
+def flow_of(model, order, steps, block, boxes, halvings):
+    """The Flow of a model by an order and in steps, which doesn't depend on its cells unless areas are halved: the same
+    one is made once."""
     key = (
-        *(tuple(state[:3]) for state in model.states),
+        *(tuple(state[:4] if halvings else state[:3]) for state in model.states),
         *((name, tuple(values)) for name, _, values in model.inputs),
         *map(tuple, model.noises),
         *model.flows,
@@ -186,9 +198,10 @@ def flow_of(model, order, steps, block, boxes=COARSE):
         order,
         steps,
         boxes,
+        halvings,
     )
     if key not in FLOWS:
-        FLOWS[key] = Flow(model, intervals(), order, steps, block, boxes)
+        FLOWS[key] = Flow(model, intervals(), order, steps, block, boxes, halvings)
     return FLOWS[key]
 
 

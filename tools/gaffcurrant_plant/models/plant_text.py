@@ -135,10 +135,10 @@ class Planting:
         self.room.variables[noise] = Variable("noise", Fraction(1), *rest)
         return added(self.flattened(i, node), {(noise,): Fraction(1)})
 
-    def is_rest_wide(self):
-        """Whether a polynomial leaves out much beside a cell."""
+    def is_rest_wide(self, share=WIDE):
+        """Whether a polynomial leaves out more than a share of a cell."""
         return any(
-            high - low > WIDE * state[3]
+            high - low > share * state[3]
             for step in range(self.flow.count)
             for state, (low, high) in zip(self.model.states, self.flow.rests(step + 1))
         )
