@@ -71,6 +71,10 @@ MESSAGES_OF_FUNCTIONS = [
         "line 2: the sampling time is too long: no box was found that holds the solutions up to it; `sample ",
     ),
     (
+        "sample 2\n" + CELL + "d x = -9*x/(0.1 + x)\ngoal keep\n",
+        "line 1: the sampling time is too long: on the way the divisor `0.1 + x` may lie between -",
+    ),
+    (
         "sample 5\n" + CELL + "d x = -50*x\ngoal keep\n",
         "line 1: the sampling time is too long beside the fastest time of the system; `sample 1` would do",
     ),

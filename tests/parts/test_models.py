@@ -5,6 +5,8 @@ import math
 import random
 import re
 
+from gaffcurrant_plant.models.arithmetic import Floats
+from gaffcurrant_plant.models.formula import parse, text_of, value_of
 from gaffcurrant_plant.plants.reader import read_plant
 from gaffcurrant_plant.texts.table import read_table
 
@@ -75,6 +77,12 @@ TRIED = [
         "d x = x*y*u/5 - x^3/20\nd y = x*x*y/50 - x*sqrt(y)*u/9\ngoal keep\n",
         "about the middles",
     ),
+    # A chemostat, whose kinetics bend where little is left.
+    (
+        "sample 0.1\norder 2\nstate s 0 10 cells 20\nstate x 0 5 cells 20\ninput D 0.1 0 0.1 0.3\n"
+        "d s = D*(10 - s) - 0.5*s/(1 + s)*x/0.4\nd x = (0.5*s/(1 + s) - D)*x\ntarget 2 4 2 3\ngoal reach\n",
+        "by a Taylor polynomial of order 2",
+    ),
     (
         "version 2\nsample 0.1\n" + STATE + "input u 1 -1 0 1\nd x = atan(x)*sinh(u/2) - tanh(x)\ngoal keep\n",
         "functions of one input alone",
@@ -88,6 +96,18 @@ TRIED = [
         "next h = h + u + 5*sin(pi/180*h) + w\ngoal keep\n",
         "next h = lut(",
     ),
+]
+# Quotients, and how some of them are written.
+QUOTIENTS = [
+    ("3*x/(2 + x)", "3 - 6 * 1 / (2 + x)"),
+    ("y*x/(2 + x)", None),
+    ("x^2/(2 + x^2)*y", None),
+    ("(x + y)/(x - 20)", None),
+    ("(x - y)/(2*x + y + 30)", None),
+    ("(2 + x)/(2 + x)", None),
+    ("x/(4*x)", None),
+    ("x/3 + 3/(x + 2) + (x*x + x)/(x/2 + 5)", None),
+    ("sin(x)/(sin(x) + 2)", "1 - 2 * 1 / (sin(x) + 2)"),
 ]
 COMPLAINTS = [
     ("param x\n", "line 1: `param NAME VALUE`"),
@@ -138,6 +158,26 @@ class Lines(ToolCase):
             answer = self.tool("scale", "-", data=model.encode())
             if "mpmath" not in answer[2]:
                 self.refused(f"scale of {model[-40:]!r}", answer, said)
+
+
+class Quotients(ToolCase):
+    """A quotient whose divisor stands in the dividend too is written so that it names that once."""
+
+    def test_values(self):
+        draws = random.Random(5)
+        for text, written in QUOTIENTS:
+            node = parse(text, ["x", "y"])
+            for _ in range(20):
+                values = {"x": draws.uniform(0.1, 9), "y": draws.uniform(-9, 9)}
+                right = eval(text.replace("^", "**"), {"sin": math.sin}, values)
+                far = abs(value_of(node, values, Floats) - right)
+                self.holds(f"{text} at {values}", far <= 1e-12 * (1 + abs(right)), far)
+            self.equal(f"how {text} is written", written or text_of(node), text_of(node))
+
+    def test_divisor_stays(self):
+        """Where the divisor would be gone it has to keep off 0 still."""
+        model = "state x 0 1 0.1 0.01\nnext x = x/(2*x)\ngoal keep\n"
+        self.refused("x/(2*x)", self.tool("scale", "-", data=model.encode()), "has to keep off 0")
 
 
 @needs_mpmath

@@ -28,6 +28,8 @@ ORDERS, LAST, STEPS = (1, 2, 3), 4, (2, 3, 4)
 WORTH, SIMPLER = Fraction(9, 10), Fraction(19, 20)
 # Boxes on the way that are tried before nothing more is that isn't asked for.
 MOST_TRIALS = 10_000
+# The share of a cell that may be left out before areas are halved, and how many are.
+MUCH, HALVINGS = Fraction(1), 60
 # Boxes in which the domain is looked at, and the most input vectors for which it is each time: at first, and again for
 # the planting that is chosen.
 COARSE, FINE = (96, 12), (288, 64)
@@ -62,10 +64,10 @@ def needs_mpmath(model: Model) -> bool:
 
 class Chooser:
     """Tries plantings of a model, and keeps the best one. tried: what was tried, in words, and the planting or what is
-    wrong with it."""
+    wrong with it; halvings: how many areas are halved in which a sampling leaves out much."""
 
-    def __init__(self, model: Model) -> None:
-        self.model = model
+    def __init__(self, model: Model, halvings: int = 0) -> None:
+        self.model, self.halvings = model, halvings
         self.best: Optional[Planting] = None
         self.tried: list[Tried] = []
         self.block = Block(model) if model.flows else None
@@ -79,6 +81,8 @@ class Chooser:
             self.take("as the equations are", None)
         else:
             self.take_samplings()
+            if self.best and self.best.flow and self.best.is_rest_wide(MUCH):
+                self.look_closer()
         if not self.best:
             raise self.first_fault()
         if self.best.flow and self.best.is_rest_wide() and self.trials <= MOST_TRIALS:
@@ -102,6 +106,13 @@ class Chooser:
     def first_fault(self) -> Failure:
         """What is wrong with the first planting that was tried, where each has a fault."""
         return next(one for _, one in self.tried if isinstance(one, Failure))
+
+    def look_closer(self) -> None:
+        """Tries all samplings again with areas halved, and takes over what is better."""
+        closer = Chooser(self.model, HALVINGS)
+        closer.take_samplings()
+        if self.best and closer.best and box_size(closer.best) < box_size(self.best):
+            self.best, self.tried, self.trials, self.halvings = closer.best, closer.tried, closer.trials, HALVINGS
 
     def words_of_best(self) -> str:
         return next(words for words, one in self.tried if one is self.best)
@@ -134,7 +145,7 @@ class Chooser:
                 return
             words = f"order {order}" + (f" in {steps} steps" if steps > 1 else "")
             try:
-                flow = flow_of(self.model, order, steps, self.block)
+                flow = flow_of(self.model, order, steps, self.block, COARSE, self.halvings)
                 self.trials += flow.trials
             except Failure as failure:
                 self.tried.append((words, failure))
@@ -176,7 +187,7 @@ class Chooser:
         try:
             sharper = with_pieces(
                 self.model,
-                flow_of(self.model, best.flow.order, best.flow.count, self.block, FINE),
+                flow_of(self.model, best.flow.order, best.flow.count, self.block, FINE, self.halvings),
                 self.block,
                 best.room.is_nested,
             )
@@ -190,10 +201,13 @@ class Chooser:
 FLOWS: dict[tuple[Hashable, ...], Flow] = {}
 
 
-def flow_of(model: Model, order: int, steps: int, block: Optional[Block], boxes: tuple[int, int] = COARSE) -> Flow:
-    """The Flow of a model by an order and in steps, which doesn't rest on its cells: the same one is made once."""
+def flow_of(
+    model: Model, order: int, steps: int, block: Optional[Block], boxes: tuple[int, int] = COARSE, halvings: int = 0
+) -> Flow:
+    """The Flow of a model by an order and in steps, which doesn't depend on its cells unless areas are halved: the same
+    one is made once."""
     key = (
-        *(tuple(state[:3]) for state in model.states),
+        *(tuple(state[:4] if halvings else state[:3]) for state in model.states),
         *((name, tuple(values)) for name, _, values in model.inputs),
         *model.noises,
         *model.flows,
@@ -201,9 +215,10 @@ def flow_of(model: Model, order: int, steps: int, block: Optional[Block], boxes:
         order,
         steps,
         boxes,
+        halvings,
     )
     if key not in FLOWS:
-        FLOWS[key] = Flow(model, intervals(), order, steps, block, boxes)
+        FLOWS[key] = Flow(model, intervals(), order, steps, block, boxes, halvings)
     return FLOWS[key]
 
 

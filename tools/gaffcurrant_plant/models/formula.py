@@ -87,6 +87,53 @@ def power(a: Node, exponent: Fraction) -> Node:
     return made("call", ("power", exponent), a)
 
 
+def quotient(a: Node, b: Node) -> Node:
+    """The quotient of two nodes. Where the divisor is p + q*z by numbers, and the dividend c + d*z, it is written as
+    d/q + (c - d*p/q)/(p + q*z), which names z once: so s/(K + s) is known to intervals as well as 1/(K + s) is."""
+    inverse = power(b, Fraction(-1))
+    constant, factor, z = affine(b)
+    parts = split(a, z) if z else None
+    if not parts or parts[1] == ZERO:
+        return mul(a, inverse)
+    c, d = parts[0], mul(number(1 / factor), parts[1])
+    rest = add(c, mul(number(-constant), d))
+    # A divisor that would be gone has to keep off 0 still.
+    return mul(a, inverse) if rest == ZERO else add(d, mul(rest, inverse))
+
+
+def affine(node: Node) -> tuple[Fraction, Fraction, Optional[Node]]:
+    """Numbers p and q and a node z, so that a node is p + q*z; z is None where the node is no such sum."""
+    kind = node[0]
+    if kind == "num":
+        return node[1], Fraction(0), None
+    if kind == "add":
+        (p, q, z), (other_p, other_q, other_z) = map(affine, node[1:])
+        return (p + other_p, q or other_q, z or other_z) if not (z and other_z) else (Fraction(0), Fraction(1), None)
+    if kind == "mul" and node[1][0] == "num":
+        p, q, z = affine(node[2])
+        return p * node[1][1], q * node[1][1], z
+    return Fraction(0), Fraction(1), node
+
+
+def split(node: Node, z: Node) -> Optional[tuple[Node, Node]]:
+    """Nodes c and d, so that a node is c + d*z; None where z stands in it in other ways."""
+    if node is z:
+        return ZERO, ONE
+    if not names_of(node) & names_of(z):
+        return node, ZERO
+    if node[0] not in ("add", "mul"):
+        return None
+    parts = [split(part, z) for part in node[1:]]
+    if parts[0] is None or parts[1] is None:
+        return None
+    (c, d), (other_c, other_d) = parts[0], parts[1]
+    if node[0] == "add":
+        return add(c, other_c), add(d, other_d)
+    if d != ZERO and other_d != ZERO:
+        return None
+    return mul(c, other_c), add(mul(d, other_c), mul(c, other_d))
+
+
 class _Reader:
     def __init__(self, text: str, names: Sequence[str], parameters: Mapping[str, Fraction]) -> None:
         self.tokens = [token for token in TOKEN.findall(text.strip())]
@@ -117,7 +164,7 @@ class _Reader:
                 divisor = self.factor()
                 if divisor == ZERO:
                     raise Fault("a quotient by 0")
-                total = mul(total, power(divisor, Fraction(-1)))
+                total = quotient(total, divisor)
         return total
 
     def factor(self) -> Node:

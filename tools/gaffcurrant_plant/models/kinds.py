@@ -40,6 +40,8 @@ Whole = Union[int, Fraction]
 # An interval of mpmath, which has no types, and a box of such by the variables' names.
 Interval = Any
 Area = Dict[str, Interval]
+# For each step the ends of what the polynomials leave out, and of the states behind it.
+Course = List[Tuple[List[Ends], List[Ends]]]
 
 
 class Maths(Protocol[Value]):

@@ -147,11 +147,11 @@ class Planting:
         self.room.variables[noise] = Variable("noise", Fraction(1), *rest)
         return added(self.flattened(i, node), {(noise,): Fraction(1)})
 
-    def is_rest_wide(self) -> bool:
-        """Whether a polynomial leaves out much beside a cell."""
+    def is_rest_wide(self, share: Fraction = WIDE) -> bool:
+        """Whether a polynomial leaves out more than a share of a cell."""
         flow = self.flow
         return flow is not None and any(
-            high - low > WIDE * state[3]
+            high - low > share * state[3]
             for step in range(flow.count)
             for state, (low, high) in zip(self.model.states, flow.rests(step + 1))
         )

@@ -16,8 +16,8 @@ from fractions import Fraction
 from typing import TYPE_CHECKING, Iterable, Iterator, Mapping, Optional, Sequence
 
 from ..faults import Trouble
-from .formula import add, derivative, is_smooth, mul, number, replaced, value_of
-from .kinds import Area, Ends, Interval, Node
+from .formula import add, derivative, is_smooth, mul, names_of, number, replaced, value_of
+from .kinds import Area, Course, Ends, Interval, Node
 from .linear_sampling import SYSTEM, too_long
 
 if TYPE_CHECKING:
@@ -29,21 +29,33 @@ if TYPE_CHECKING:
 BESIDE = Fraction(1, 1000)
 MOST_TRIALS, TERMS, FASTEST, HALVINGS = 30, 24, 100, 12
 TINY = Fraction(1, 10**12)
-# In how many parts a box for a step is looked for, one after the other.
+# In how many parts a box for a step is looked for, one after the other: more give a narrower box.
 PARTS = (1, 4, 16)
 
 
 class NoBox(Trouble):
-    """No box was found that holds the solutions up to the end of a step."""
+    """No box was found that holds the solutions from an area up to the end of a step. fault: what is wrong with an
+    equation on the way, or None."""
+
+    def __init__(self, area: Area, fault: Optional[Trouble] = None) -> None:
+        super().__init__("no box")
+        self.area, self.fault = area, fault
 
 
 class Flow:
     """The right sides of the states' equations, the ranges of all variables, and the steps of a sample: polynomials has
     for each state that of a step, course for each step the ends of what these leave out, and of the states behind
-    it."""
+    it. halvings: how many areas are halved, those from which the most is left out."""
 
     def __init__(
-        self, model: Model, maths: Intervals, order: int, count: int, block: Optional[Block], boxes: tuple[int, int]
+        self,
+        model: Model,
+        maths: Intervals,
+        order: int,
+        count: int,
+        block: Optional[Block],
+        boxes: tuple[int, int],
+        halvings: int = 0,
     ) -> None:
         self.model, self.maths, self.order, self.count, self.block = model, maths, order, count, block
         # How often a box was tried, by which the cost is known.
@@ -63,7 +75,12 @@ class Flow:
             self.derivatives.append([self.along(node) for node in self.derivatives[-1]])
         self.polynomials = [self.polynomial(i, name) for i, name in enumerate(self.names)]
         self.slopes = [[derivative(node, name) for name in self.names] for node in self.polynomials]
-        self.course = [tuple(map(self.hulls, zip(*step))) for step in zip(*map(self.course_from, self.areas(*boxes)))]
+        self.parts = PARTS[1:] if halvings else PARTS
+        try:
+            courses = self.courses(self.areas(*boxes), halvings)
+        except NoBox as no_box:
+            raise self.shorter(no_box) from None
+        self.course = [tuple(map(self.hulls, zip(*step))) for step in zip(*courses)]
 
     def nodes(self, step: int, before: Mapping[str, Node]) -> list[Node]:
         """The formulas of the states behind a step, where others stand for those behind the step before; of those of
@@ -100,7 +117,50 @@ class Flow:
         """For each state the least and the greatest of the ends that were found from all areas."""
         return [(min(low for low, _ in ends), max(high for _, high in ends)) for ends in zip(*found)]
 
-    def course_from(self, area: Area) -> list[tuple[list[Ends], list[Ends]]]:
+    def courses(self, areas: Iterable[Area], halvings: int) -> list[Course]:
+        """The courses from all areas; with so many halvings from halves of those from which the most is left out."""
+        found = [(area, self.course_from(area)) for area in areas]
+        for _ in range(halvings):
+            at = self.worst([course for _, course in found])
+            try:
+                found[at : at + 1] = [(half, self.course_from(half)) for half in self.halves(found[at][0])]
+            except Trouble:
+                break
+        return [course for _, course in found]
+
+    def worst(self, courses: Sequence[Course]) -> int:
+        """The number of the course whose formulas leave out the most, beside the cells."""
+        sizes = [
+            max(
+                max(-low, high) / state[3]
+                for rests, _ in course
+                for state, (low, high) in zip(self.model.states, rests)
+                if not self.is_in_block(state[0])
+            )
+            for course in courses
+        ]
+        return sizes.index(max(sizes))
+
+    def halves(self, area: Area) -> list[Area]:
+        """The halves of an area along the state that is widest beside its range, of those on which it depends what the
+        formulas leave out."""
+        rests = [node for name, node in zip(self.names, self.derivatives[self.order]) if not self.is_in_block(name)]
+        names = set().union(*map(names_of, rests))
+        ranges = {name: high - low for name, low, high, *_ in self.model.states}
+        ends = {name: self.maths.ends(area[name]) for name in self.names}
+        name = max(
+            [name for name in self.names if name in names] or self.names,
+            key=lambda one: (ends[one][1] - ends[one][0]) / ranges[one],
+        )
+        low, high = ends[name]
+        middle = (low + high) / 2
+        return [area | {name: self.maths.between(*pair)} for pair in ((low, middle), (middle, high))]
+
+    def is_in_block(self, name: str) -> bool:
+        """Whether a state is one of those that are sampled exactly."""
+        return self.block is not None and name in self.block
+
+    def course_from(self, area: Area) -> Course:
         """For each step from an area, with its inputs and disturbances: the ends of what the polynomials leave out, and
         of the states behind it."""
         course = []
@@ -173,14 +233,13 @@ class Flow:
     def enclosure(self, area: Area) -> tuple[Area, Area]:
         """A box that holds the solutions from an area up to the end of a step, and one that holds their ends, found in
         one part or in several."""
-        for parts in PARTS:
+        fault: Optional[Trouble] = None
+        for parts in self.parts:
             try:
                 return self.enclosure_in(parts, area, self.time)
-            except NoBox:
-                fault = self.shorter(area)
             except Trouble as trouble:
-                fault = trouble
-        raise fault
+                fault = None if isinstance(trouble, NoBox) else trouble
+        raise NoBox(area, fault)
 
     def enclosure_in(self, parts: int, area: Area, time: Fraction) -> tuple[Area, Area]:
         """The same up to a time, found in so many parts."""
@@ -190,31 +249,42 @@ class Flow:
             box = {name: self.maths.hull(box[name], one[name]) for name in one}
         return box, end
 
-    def shorter(self, area: Area) -> Trouble:
-        """The fault of a sampling time up to which no box was found from an area, with one for which there is a box."""
+    def shorter(self, no_box: NoBox) -> Trouble:
+        """The fault of a sampling time up to which no box was found, with one for which there is a box; or what is
+        wrong with an equation where the sample begins."""
         said = ": no box was found that holds the solutions up to it"
+        if no_box.fault:
+            try:
+                self.slopes_over(no_box.area)
+            except Trouble as trouble:
+                return trouble
+            said = f": on the way {str(no_box.fault).partition(': ')[2]}"
         for halvings in range(1, HALVINGS):
             try:
-                self.enclosure_in(PARTS[-1], area, self.time / 2**halvings)
+                self.enclosure_in(PARTS[-1], no_box.area, self.time / 2**halvings)
                 return too_long(self.model, 2**halvings, said, "may")
             except Trouble:
                 continue
         return Trouble(f"line {self.model.sample_line}: the sampling time is too long{said}")
+
+    def slopes_over(self, box: Area) -> Area:
+        """The slopes of the states over a box."""
+        known: dict[int, Interval] = {}
+        return {name: self.value(name, side, box, known) for name, side in zip(self.names, self.sides)}
 
     def short_enclosure(self, area: Area, time: Fraction) -> tuple[Area, Area]:
         """A box that holds the solutions from an area up to a time, and one that holds their ends."""
         maths, box = self.maths, dict(area)
         whole, end = maths.between(Fraction(0), time), maths.number(time)
         for _ in range(MOST_TRIALS):
-            known: dict[int, Interval] = {}
             self.trials += 1
-            slopes = {name: self.value(name, side, box, known) for name, side in zip(self.names, self.sides)}
+            slopes = self.slopes_over(box)
             after = {name: area[name] + whole * slope for name, slope in slopes.items()}
             if all(box[name].a <= one.a and one.b <= box[name].b for name, one in after.items()):
                 return box, area | {name: area[name] + end * slope for name, slope in slopes.items()}
             for name, one in after.items():
                 box[name] = one + (one - area[name]) / 20 + maths.between(-TINY, TINY)
-        raise NoBox("no box")
+        raise NoBox(area)
 
     def rests_in(self, box: Area) -> list[Ends]:
         """For each state the ends of what the polynomial of a step leaves out, where a box holds the solutions."""
