@@ -203,6 +203,14 @@ class Room(ToolCase):
         output = self.tool("sim", "--real", model, "-", "--runs", "1000", data=table)[1]
         self.holds(f"runs {what}", ("between samples: 0 runs touch" not in output) == touches, output)
 
+    def test_no_obstacle(self):
+        """Nothing may be touched where there is no obstacle, and ways may leave the domain."""
+        model = re.sub(r"^obstacle .*\n", "", ROOM.format(""), flags=re.M)
+        status, text, error = self.tool("scale", "-", data=f"{model}between\n".encode())
+        said = re.search(r"^#   this leaves (\d+) of (\d+) rows, by `synth`$", text, re.M)
+        self.holds("scale of a line between without obstacles", said and said[1] == said[2], text[:300] + error)
+        self.equal("the status of that", 0, status)
+
     def test_bounds(self):
         model = self.placed("bounds.model", ROOM.format(""))
         status, text, error = self.tool("scale", "--between", "--bounds", model)

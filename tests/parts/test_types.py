@@ -55,9 +55,10 @@ class Types(ToolCase):
     def test_public_modules(self):
         status, output = self.strictly(USE)
         self.equal("mypy --strict on the public modules and a use of them", (0, ""), (status, faults_in(output)))
-        for use, said in WRONG:
-            status, output = self.strictly(f"{USE}{use}\n")
-            self.holds(f"mypy sees that `{use}` is wrong", status == 1 and said in output, output)
+        _, output = self.strictly(USE + "".join(f"{use}\n" for use, _ in WRONG))
+        for number, (use, said) in enumerate(WRONG, USE.count("\n") + 1):
+            found = [line for line in output.splitlines() if f"use.py:{number}: error:" in line]
+            self.holds(f"mypy sees that `{use}` is wrong", any(said in line for line in found), output)
 
     def test_all_of_tools(self):
         files = [path for path in TOOLS.rglob("*.py") if "__pycache__" not in path.parts]

@@ -257,7 +257,10 @@ class Walls:
 
     def met(self, box: Sequence[Span]) -> Flags:
         """For each obstacle, and behind them for each side of the domain, which columns of a box may touch it."""
-        return numpy.array(self.touched(box) + self.left(box)).reshape(self.count, -1)
+        met = numpy.zeros((self.count, numpy.size(box[0].low)), dtype=bool)
+        for number, columns in enumerate(self.touched(box) + self.left(box)):
+            met[number] = columns
+        return met
 
     def touched(self, box: Sequence[Span]) -> list[Flags]:
         """For each obstacle which columns of a box may touch it."""
