@@ -81,11 +81,11 @@ class Chooser:
             self.take("as the equations are", None)
         else:
             self.take_samplings()
-            if self.best and self.best.flow and self.best.is_rest_wide(MUCH):
+            if self.best and self.best.is_rest_wide(MUCH):
                 self.look_closer()
         if not self.best:
             raise self.first_fault()
-        if self.best.flow and self.best.is_rest_wide() and self.trials <= MOST_TRIALS:
+        if self.best.is_rest_wide() and self.trials <= MOST_TRIALS:
             self.sharpen()
         if self.model.flows or self.best.room.is_nested:
             self.best.tell(self.words_of_best(), [pair for pair in self.tried if pair[1] is not self.best])
