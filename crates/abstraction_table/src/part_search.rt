@@ -46,7 +46,7 @@ const PARTS_FOR_A_PROCESSOR: u32 = 4;
 /// More processors get no more parts.
 const PROCESSORS_LIMIT: u32 = 64;
 
-/// What tells right cells of a game from wrong ones.
+/// Judges the cells of a game: which are right, which wrong.
 pub trait CellJudge {
     ghost use Rattle.std.specs.Prelude.{◌≡◌, ℕ, ◌<◌, ◌≤◌};
     ghost use Rattle.game_core.specs.Game.{Game};
