@@ -12,5 +12,5 @@ mod verdict;
 
 pub use game_core::NoMemory;
 pub use keep::check_keep;
-pub use reach::first_wrong;
+pub use reach::{check_reach, first_wrong};
 pub use verdict::Verdict;
