@@ -76,8 +76,7 @@ class Chooser:
             self.take("as the equations are", None)
         else:
             self.take_samplings()
-            if self.best and self.best.flow and self.best.is_rest_wide(MUCH):
-                self.look_closer()
+            self.look_closer()
         if not self.best:
             raise self.tried[0][1]
         if self.best.flow and self.best.is_rest_wide() and self.trials <= MOST_TRIALS:
@@ -99,7 +98,10 @@ class Chooser:
                 break
 
     def look_closer(self):
-        """Tries all samplings again with areas halved, and takes over what is better."""
+        """Where even the best sampling leaves out much tries all again with areas halved, and takes over what is
+        better."""
+        if not self.best or not self.best.is_rest_wide(MUCH):
+            return
         closer = Chooser(self.model, HALVINGS)
         closer.take_samplings()
         if closer.best and box_size(closer.best) < box_size(self.best):
