@@ -81,8 +81,7 @@ class Chooser:
             self.take("as the equations are", None)
         else:
             self.take_samplings()
-            if self.best and self.best.is_rest_wide(MUCH):
-                self.look_closer()
+            self.look_closer()
         if not self.best:
             raise self.first_fault()
         if self.best.is_rest_wide() and self.trials <= MOST_TRIALS:
@@ -108,10 +107,13 @@ class Chooser:
         return next(one for _, one in self.tried if isinstance(one, Failure))
 
     def look_closer(self) -> None:
-        """Tries all samplings again with areas halved, and takes over what is better."""
+        """Where even the best sampling leaves out much tries all again with areas halved, and takes over what is
+        better."""
+        if not self.best or not self.best.is_rest_wide(MUCH):
+            return
         closer = Chooser(self.model, HALVINGS)
         closer.take_samplings()
-        if self.best and closer.best and box_size(closer.best) < box_size(self.best):
+        if closer.best and box_size(closer.best) < box_size(self.best):
             self.best, self.tried, self.trials, self.halvings = closer.best, closer.tried, closer.trials, HALVINGS
 
     def words_of_best(self) -> str:
