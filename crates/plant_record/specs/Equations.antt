@@ -1,24 +1,10 @@
 -- What the equations of a plant keep.
-use Rattle.std.specs.Prelude.{ℕ, suc, ◌<◌, ◌≤◌, max, pos, ◌≤ℤ◌}
-pub use Rattle.fixed_expr.specs.Expression.{nodes_of}
+use Rattle.std.specs.Prelude.{ℕ, ◌<◌, ◌≤◌, pos, ◌≤ℤ◌}
+pub use Rattle.fixed_expr.specs.Expression.{nodes_of, depth_of}
 use Rattle.fixed_expr.specs.Expression.{Expression, NumExpr, VarExpr, NegExpr, AddExpr, SubExpr, MulExpr, DivExpr, MinExpr, MaxExpr, AbsExpr, LutExpr}
 use Rattle.fixed_expr.specs.Curves.{IsCurve}
 use Rattle.plant_record.specs.Numbers.{IsLiteral}
 use Rattle.base.specs.declared.limits.TheConstants.{DEPTH_LIMIT, NODES_LIMIT}
-
--- how many nodes lie on the longest way down; a leaf has depth 1
-abbrev pub depth_of : Expression → ℕ
-depth_of (NumExpr k) = 1
-depth_of (VarExpr i) = 1
-depth_of (NegExpr a) = suc (depth_of a)
-depth_of (AddExpr a b) = suc (max (depth_of a) (depth_of b))
-depth_of (SubExpr a b) = suc (max (depth_of a) (depth_of b))
-depth_of (MulExpr a b) = suc (max (depth_of a) (depth_of b))
-depth_of (DivExpr a k) = suc (depth_of a)
-depth_of (MinExpr a b) = suc (max (depth_of a) (depth_of b))
-depth_of (MaxExpr a b) = suc (max (depth_of a) (depth_of b))
-depth_of (AbsExpr a) = suc (depth_of a)
-depth_of (LutExpr a points) = suc (depth_of a)
 
 -- numbers without sign, one of the first m variables, divisors of at least 1, and tables that are curves
 abbrev pub HasLiterals : ℕ → Expression → Type 0
