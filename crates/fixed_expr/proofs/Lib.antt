@@ -1,9 +1,7 @@
 pub mod LaneSteps
-mod VariableLanes
 pub mod Narrowness
 pub mod Values
 pub mod ShiftedValues
 pub mod Pieces
 pub mod PointsPassed
 pub mod Laws
-pub mod LaneValues

@@ -5,7 +5,6 @@ pub mod Expression
 pub mod Value
 pub mod NarrowValues
 pub mod Lanes
-pub mod LaneEval
 pub mod Mentions
 pub mod Shifts
 pub mod inside

@@ -3,4 +3,3 @@ pub mod Progress
 pub mod Passed
 pub mod Alike
 pub mod Combinations
-pub mod LaneValues

@@ -57,7 +57,7 @@ impl Curve {
     }
 
     /// The same in 64 bits.
-    pub(crate) fn narrow_value(&self, x: i64) -> i64
+    pub fn narrow_value(&self, x: i64) -> i64
         ensures { result ≡ curve_value self.now x }
     {
         self.value(i128::from(x)) as i64

@@ -76,7 +76,7 @@ pub fn neg_lanes(found: &mut [i64; LANES]) -> Option<()>
     Some(())
 }
 
-pub(crate) fn abs_lanes(found: &mut [i64; LANES]) -> Option<()>
+pub fn abs_lanes(found: &mut [i64; LANES]) -> Option<()>
     ensures { AnswersLanes result found.new (λ k. pos (nat_abs (at found.old k))) }
 {
     'lanes: for k in 0..LANES {
@@ -97,7 +97,7 @@ pub fn div_lanes(found: &mut [i64; LANES], divisor: i64)
 }
 
 /// The values of a table.
-pub(crate) fn lut_lanes(found: &mut [i64; LANES], curve: &Curve)
+pub fn lut_lanes(found: &mut [i64; LANES], curve: &Curve)
     ensures { IsNarrowColumnOf found.new (λ k. curve_value curve.now (at found.old k)) }
 {
     'lanes: for k in 0..LANES {

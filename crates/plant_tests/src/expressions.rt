@@ -1,6 +1,7 @@
 //! Tests of `fixed_expr`.
 
-use fixed_expr::{Curve, Expr, LANES, ValuesAlong, eval, eval_along};
+use expr_lanes::{ValuesAlong, eval_along};
+use fixed_expr::{Curve, Expr, LANES, eval};
 use std::alloc::{AllocError, Global};
 use std::test::Fail;
 

@@ -3,10 +3,10 @@ use Rattle.std.proofs.Common.{◌≡◌, ℕ, ◌+◌, ◌-◌, ◌<◌, ◌≤�
 use Rattle.std.specs.Prelude.{ℤ, pos, ◌+ℤ◌, ◌-ℤ◌, IfSome}
 use Rattle.std.proofs.lemmas.Bool.{cases_lt, both_ways}
 use Rattle.std.proofs.lemmas.Int.{ints}
-use Rattle.fixed_expr.specs.declared.lane_eval.ValuesAlong.{ValuesAlong}
+use Rattle.expr_lanes.specs.declared.lane_eval.ValuesAlong.{ValuesAlong}
 use Rattle.fixed_expr.specs.declared.lanes.TheConstants.{LANES}
 use Rattle.fixed_expr.specs.Expression.{Expression, AddExpr, SubExpr}
-use Rattle.fixed_expr.specs.LaneEval.{lane_of}
+use Rattle.expr_lanes.specs.LaneEval.{lane_of}
 use Rattle.fixed_expr.specs.Mentions.{mentions}
 use Rattle.fixed_expr.specs.Value.{value_of}
 use Rattle.fixed_expr.proofs.Laws.{values_depend_on_variables}

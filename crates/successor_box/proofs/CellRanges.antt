@@ -7,9 +7,9 @@ use Rattle.std.proofs.lemmas.List.Elements.{All-append, All-map, All-weaker, All
 use Rattle.std.proofs.lemmas.Option.{get_or_from_slice_get}
 use Rattle.fixed_expr.specs.declared.expr.Expr.{Expr}
 use Rattle.fixed_expr.specs.Expression.{NumExpr, expression_of}
-use Rattle.fixed_expr.specs.declared.lane_eval.ValuesAlong.{ValuesAlong}
+use Rattle.expr_lanes.specs.declared.lane_eval.ValuesAlong.{ValuesAlong}
 use Rattle.fixed_expr.specs.declared.lanes.TheConstants.{LANES}
-use Rattle.fixed_expr.specs.LaneEval.{lane_of}
+use Rattle.expr_lanes.specs.LaneEval.{lane_of}
 use Rattle.fixed_expr.specs.NarrowValues.{IsNarrow}
 use Rattle.fixed_expr.specs.Value.{IsWellFormed, value_of}
 use Rattle.interval_eval.specs.declared.interval.Interval.{Interval}

@@ -4,7 +4,7 @@ use Rattle.std.specs.Prelude.{ℤ, pos, min, ◌==◌}
 use Rattle.std.proofs.Math.Nat.{mod-le, div-le_self}
 use Rattle.std.proofs.lemmas.Bool.{cases_lt, cases_eq, eq-eqb, eqb-true, cond-true, cond_both, cond_below, cond_above}
 use Rattle.std.proofs.lemmas.List.{length-map, length-set, length-take-le, get_or-take, ext_get_or}
-use Rattle.fixed_expr.specs.declared.lane_eval.ValuesAlong.{ValuesAlong}
+use Rattle.expr_lanes.specs.declared.lane_eval.ValuesAlong.{ValuesAlong}
 use Rattle.fixed_expr.specs.declared.lanes.TheConstants.{LANES}
 use Rattle.fixed_expr.specs.Expression.{NumExpr}
 use Rattle.fixed_expr.specs.Value.{StaysInRange}

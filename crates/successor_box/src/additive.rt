@@ -9,8 +9,9 @@ ghost use Rattle.successor_box.specs.inside.Lines.{IsIncrementTo, AreIncreased};
 
 use crate::cell_line::CellLine;
 use crate::sampled::Sampled;
+use expr_lanes::eval_along;
 use fixed_expr::narrow::narrow;
-use fixed_expr::{Expr, LANES, eval_along};
+use fixed_expr::{Expr, LANES};
 use plant_record::PlantVersion;
 use std::alloc::{AllocError, Global};
 

@@ -9,7 +9,8 @@ ghost use Rattle.successor_box.specs.inside.Lines.{HoldsInLanes, AreValuesUnder,
 use crate::central_value::{INDICES_LIMIT, central_value, first_middle, middle};
 use crate::sampled::Sampled;
 use base::limits::VARIABLES_LIMIT;
-use fixed_expr::{LANES, ValuesAlong};
+use expr_lanes::ValuesAlong;
+use fixed_expr::LANES;
 use plant_record::Plant;
 
 /// The values of the variables at the centres of cells in a line, one in each lane, under an input vector: the cells differ in

@@ -3,7 +3,7 @@ ghost use Rattle.std.specs.Prelude.{◌≡◌, ℕ, ◌<◌, ◌≤◌, length, 
 ghost use Rattle.base.specs.declared.limits.TheConstants.{VARIABLES_LIMIT};
 ghost use Rattle.fixed_expr.specs.declared.lanes.TheConstants.{LANES};
 ghost use Rattle.fixed_expr.specs.Expression.{expression_of};
-ghost use Rattle.fixed_expr.specs.LaneEval.{lane_of};
+ghost use Rattle.expr_lanes.specs.LaneEval.{lane_of};
 ghost use Rattle.fixed_expr.specs.NarrowValues.{IsNarrow};
 ghost use Rattle.fixed_expr.specs.Value.{IsWellFormed};
 ghost use Rattle.interval_eval.specs.LaneSpans.{interval_in, area_in};
@@ -15,7 +15,8 @@ ghost use Rattle.successor_box.specs.inside.Lines.{HoldsInFirst, HoldsInLanes, H
 use crate::area::{NO_RANGE, offset};
 use crate::sampled::Sampled;
 use base::limits::VARIABLES_LIMIT;
-use fixed_expr::{Expr, LANES, ValuesAlong};
+use expr_lanes::ValuesAlong;
+use fixed_expr::{Expr, LANES};
 use interval_eval::{Interval, IntervalColumn, NO_INTERVALS, span, span_lanes};
 
 impl Sampled<'_> {

@@ -3,7 +3,7 @@ ghost use Rattle.std.specs.Prelude.{◌≡◌, ℕ, ◌<◌, ◌≤◌, pos, len
 ghost use Rattle.base.specs.declared.limits.TheConstants.{VARIABLES_LIMIT};
 ghost use Rattle.fixed_expr.specs.declared.lanes.TheConstants.{LANES};
 ghost use Rattle.fixed_expr.specs.Expression.{expression_of};
-ghost use Rattle.fixed_expr.specs.LaneEval.{lane_of, AreValuesInLanes};
+ghost use Rattle.expr_lanes.specs.LaneEval.{lane_of, AreValuesInLanes};
 ghost use Rattle.fixed_expr.specs.Value.{IsWellFormed, StaysInRange, value_of};
 ghost use Rattle.plant_record.specs.declared.version.PlantVersion.TheVariants.{One};
 ghost use Rattle.plant_record.specs.Description.{vectors_of};
@@ -19,7 +19,8 @@ use crate::cell_line::CellLine;
 use crate::extents::intersection;
 use crate::sampled::Sampled;
 use base::limits::VARIABLES_LIMIT;
-use fixed_expr::{Expr, LANES, ValuesAlong, eval, eval_along};
+use expr_lanes::{ValuesAlong, eval_along};
+use fixed_expr::{Expr, LANES, eval};
 use grid_quantiser::Extent;
 use interval_eval::Interval;
 use plant_record::PlantVersion;

@@ -4,9 +4,9 @@ use Rattle.std.specs.Int.{w128}
 use Rattle.std.proofs.Math.Seq.{take-set-lt}
 use Rattle.std.proofs.lemmas.Int.{to_z-of_z}
 use Rattle.std.proofs.lemmas.List.{length-set}
-use Rattle.fixed_expr.specs.declared.lane_eval.ValuesAlong.{ValuesAlong}
+use Rattle.expr_lanes.specs.declared.lane_eval.ValuesAlong.{ValuesAlong}
 use Rattle.fixed_expr.specs.Expression.{expression_of}
-use Rattle.fixed_expr.specs.LaneEval.{lane_of}
+use Rattle.expr_lanes.specs.LaneEval.{lane_of}
 use Rattle.fixed_expr.specs.Value.{value_of}
 use Rattle.successor_box.proofs.Filling.{fill_more, fill_all}
 use Rattle.successor_box.proofs.line_extents.value_in_lane.Goals as goal

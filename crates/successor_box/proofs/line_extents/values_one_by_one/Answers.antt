@@ -5,7 +5,7 @@ use Rattle.std.proofs.lemmas.Int.{to_z-of_z}
 use Rattle.std.proofs.lemmas.List.{length-set}
 use Rattle.fixed_expr.specs.Expression.{expression_of}
 use Rattle.fixed_expr.specs.Value.{value_of}
-use Rattle.fixed_expr.specs.LaneEval.{lane_of}
+use Rattle.expr_lanes.specs.LaneEval.{lane_of}
 use Rattle.successor_box.proofs.Filling.{index_more}
 use Rattle.successor_box.proofs.line_extents.values_one_by_one.Goals as goal
 

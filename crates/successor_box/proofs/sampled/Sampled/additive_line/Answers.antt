@@ -3,7 +3,7 @@ use Rattle.std.specs.Prelude.{ℤ, IfSome}
 use Rattle.plant_record.proofs.lemmas.InputVectors.{some_vectors}
 use Rattle.plant_record.proofs.lemmas.SoundPlants.{sound as sound_plant}
 use Rattle.fixed_expr.specs.Expression.{Expression}
-use Rattle.fixed_expr.specs.LaneEval.{lane_of}
+use Rattle.expr_lanes.specs.LaneEval.{lane_of}
 use Rattle.fixed_expr.specs.Value.{value_of}
 use Rattle.successor_box.specs.AdditiveInputs.{AreInputIncrements}
 use Rattle.successor_box.proofs.AdditiveInputs.{line_of_first}

@@ -2,8 +2,8 @@
 use Rattle.std.proofs.Common.{◌≡◌, ℕ, ◌<◌, ◌≢◌, length}
 use Rattle.std.specs.Prelude.{pos, slice_index_or}
 use Rattle.std.proofs.lemmas.List.{get_or-set_same, get_or-set_other}
-use Rattle.fixed_expr.specs.LaneEval.{lane_of}
-use Rattle.fixed_expr.specs.declared.lane_eval.ValuesAlong.{ValuesAlong}
+use Rattle.expr_lanes.specs.LaneEval.{lane_of}
+use Rattle.expr_lanes.specs.declared.lane_eval.ValuesAlong.{ValuesAlong}
 
 pub value_along : (v : ValuesAlong) (k : ℕ) → v.along < length v.values.now → slice_index_or (lane_of v k) v.along (pos 0) ≡ slice_index_or v.column.now k (pos 0)
 value_along v k within = get_or-set_same v.values.now v.along (slice_index_or v.column.now k (pos 0)) (pos 0) within

@@ -7,18 +7,16 @@ ghost use Rattle.fixed_expr.specs.Expression.{expression_of};
 ghost use Rattle.fixed_expr.specs.Lanes.{at, IsColumnOf, AnswersLanes};
 ghost use Rattle.fixed_expr.specs.DivExpr.{floor_div};
 ghost use Rattle.fixed_expr.specs.Value.{IsWellFormed};
-ghost use Rattle.fixed_expr.specs.LaneEval.{lane_of, EvaluatesLanes};
+ghost use Rattle.expr_lanes.specs.LaneEval.{lane_of, EvaluatesLanes};
 ghost use Rattle.fixed_expr.specs.inside.Combinations.{combined_number, combination};
-ghost use Rattle.fixed_expr.specs.inside.LaneValues.{combined_numbers, value_in, AreNumbers, AnswersNumbers, AnswersValues};
+ghost use Rattle.expr_lanes.specs.inside.LaneValues.{combined_numbers, value_in, AreNumbers, AnswersNumbers, AnswersValues};
 
-use crate::curve::Curve;
-use crate::expr::Expr;
-use crate::lanes::{
-    LANES, abs_lanes, add_lanes, copy_lanes, div_lanes, lut_lanes, max_lanes, min_lanes, mul_lanes,
+use fixed_expr::lanes::{
+    abs_lanes, add_lanes, copy_lanes, div_lanes, lut_lanes, max_lanes, min_lanes, mul_lanes,
     neg_lanes, sub_lanes,
 };
-use crate::narrow::narrow;
-use crate::operation::{Binary, combine};
+use fixed_expr::narrow::narrow;
+use fixed_expr::{Binary, Curve, Expr, LANES, combine};
 
 /// The values of an expression in many lanes: one that is the same in all of them, or those in a list.
 #[derive(Clone, Copy)]

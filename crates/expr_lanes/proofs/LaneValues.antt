@@ -8,13 +8,13 @@ use Rattle.fixed_expr.specs.declared.operation.Binary.TheVariants.{AddOp, SubOp,
 use Rattle.fixed_expr.specs.Expression.{Expression}
 use Rattle.fixed_expr.specs.Lanes.{at, AreNarrow, IsColumnOf, IsNarrowColumnOf}
 use Rattle.fixed_expr.specs.NarrowValues.{IsNarrow, StaysNarrow}
-use Rattle.fixed_expr.specs.LaneEval.{lane_of, StaysNarrowInLanes}
+use Rattle.expr_lanes.specs.LaneEval.{lane_of, StaysNarrowInLanes}
 use Rattle.fixed_expr.specs.Value.{value_of}
 use Rattle.fixed_expr.specs.inside.Combinations.{combined, combined_number}
-use Rattle.fixed_expr.specs.inside.LaneValues.{value_in, AreNumbers, AnswersNumbers, AnswersValues}
-use Rattle.fixed_expr.specs.declared.lane_eval.LaneValues.{LaneValues}
-use Rattle.fixed_expr.specs.declared.lane_eval.ValuesAlong.{ValuesAlong}
-use Rattle.fixed_expr.specs.declared.lane_eval.LaneValues.TheVariants.{Alike}
+use Rattle.expr_lanes.specs.inside.LaneValues.{value_in, AreNumbers, AnswersNumbers, AnswersValues}
+use Rattle.expr_lanes.specs.declared.lane_eval.LaneValues.{LaneValues}
+use Rattle.expr_lanes.specs.declared.lane_eval.ValuesAlong.{ValuesAlong}
+use Rattle.expr_lanes.specs.declared.lane_eval.LaneValues.TheVariants.{Alike}
 
 -- ---- in one lane
 

@@ -1,14 +1,14 @@
 -- Values in many lanes, which may all be the same.
 use Rattle.std.specs.Prelude.{◌≡◌, ℕ, ◌<◌, ℤ, pos, List, slice_index_or, Option, MatchOption}
 use Rattle.fixed_expr.specs.declared.lanes.TheConstants.{LANES}
-use Rattle.fixed_expr.specs.declared.lane_eval.LaneValues.{LaneValues}
-use Rattle.fixed_expr.specs.declared.lane_eval.ValuesAlong.{ValuesAlong}
-use Rattle.fixed_expr.specs.declared.lane_eval.LaneValues.TheVariants.{Alike, Listed}
+use Rattle.expr_lanes.specs.declared.lane_eval.LaneValues.{LaneValues}
+use Rattle.expr_lanes.specs.declared.lane_eval.ValuesAlong.{ValuesAlong}
+use Rattle.expr_lanes.specs.declared.lane_eval.LaneValues.TheVariants.{Alike, Listed}
 use Rattle.fixed_expr.specs.declared.operation.Binary.{Binary}
 use Rattle.fixed_expr.specs.Expression.{Expression}
 use Rattle.fixed_expr.specs.Value.{value_of}
 use Rattle.fixed_expr.specs.Lanes.{AreNarrow}
-use Rattle.fixed_expr.specs.LaneEval.{lane_of, StaysNarrowInLanes}
+use Rattle.expr_lanes.specs.LaneEval.{lane_of, StaysNarrowInLanes}
 use Rattle.fixed_expr.specs.inside.Combinations.{combined_number}
 
 -- the value in lane k: one that is the same in all lanes, or that in the list

@@ -1,6 +1,6 @@
 use Rattle.std.proofs.Common.{◌+◌, ◌*◌}
 use Rattle.fixed_expr.specs.Expression.{expression_of, nodes_of}
-use Rattle.fixed_expr.proofs.lane_eval.+values.Given as goal
+use Rattle.expr_lanes.proofs.lane_eval.+values.Given as goal
 
 abbrev pub decreases-eval_values : goal.decreases-eval_values
 decreases-eval_values l = 2 * nodes_of (expression_of l.e.now)

@@ -1,9 +1,9 @@
 use Rattle.std.proofs.Common.{rules}
 use Rattle.std.specs.Int.{w64}
 use Rattle.std.specs.Prelude.{FitsSigned}
-use Rattle.fixed_expr.specs.inside.LaneValues.{value_in}
-use Rattle.fixed_expr.proofs.LaneValues.{lanes_hold, lanes_leave, alike_hold, alike_leave}
-use Rattle.fixed_expr.proofs.lane_eval.combine_values.Goals as goal
+use Rattle.expr_lanes.specs.inside.LaneValues.{value_in}
+use Rattle.expr_lanes.proofs.LaneValues.{lanes_hold, lanes_leave, alike_hold, alike_leave}
+use Rattle.expr_lanes.proofs.lane_eval.combine_values.Goals as goal
 
 pub returns-in-Alike-Alike : goal.returns-in-Alike-Alike
 returns-in-Alike-Alike c =

@@ -1,7 +1,7 @@
 -- Values of variables in many lanes at once: those of one variable in a column, the others the same in all lanes.
 use Rattle.std.specs.Prelude.{◌≡◌, ℕ, ◌<◌, ℤ, pos, List, slice_index_or, slice_set, Option, MatchOption}
 use Rattle.fixed_expr.specs.declared.lanes.TheConstants.{LANES}
-use Rattle.fixed_expr.specs.declared.lane_eval.ValuesAlong.{ValuesAlong}
+use Rattle.expr_lanes.specs.declared.lane_eval.ValuesAlong.{ValuesAlong}
 use Rattle.fixed_expr.specs.Expression.{Expression}
 use Rattle.fixed_expr.specs.Value.{value_of}
 use Rattle.fixed_expr.specs.NarrowValues.{StaysNarrow}

@@ -1,7 +1,7 @@
 use Rattle.fixed_expr.specs.Expression.{expression_of}
-use Rattle.fixed_expr.specs.inside.LaneValues.{value_in}
-use Rattle.fixed_expr.proofs.LaneValues.{combined_answer}
-use Rattle.fixed_expr.proofs.lane_eval.+values.Goals as goal
+use Rattle.expr_lanes.specs.inside.LaneValues.{value_in}
+use Rattle.expr_lanes.proofs.LaneValues.{combined_answer}
+use Rattle.expr_lanes.proofs.lane_eval.+values.Goals as goal
 
 pub eval_values_binary-returns : goal.eval_values_binary-returns
 eval_values_binary-returns t c =

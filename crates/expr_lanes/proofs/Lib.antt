@@ -1,0 +1,2 @@
+pub mod LaneValues
+mod VariableLanes

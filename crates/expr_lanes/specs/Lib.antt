@@ -1,0 +1,2 @@
+pub mod LaneEval
+pub mod inside
