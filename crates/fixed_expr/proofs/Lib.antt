@@ -7,3 +7,4 @@ pub mod Pieces
 pub mod PointsPassed
 pub mod Laws
 pub mod LaneValues
+pub mod EachNode
