@@ -27,14 +27,7 @@ statement_line names n End = line (codes "end" ∷ [])
 -- all targets stand before all obstacles
 abbrev pub IsInOrder : PartialPlant → Statement → Type 0
 IsInOrder q (Target b) = q.obstacles ≡ []
-IsInOrder q (Version v) = Unit {0}
-IsInOrder q (State s) = Unit {0}
-IsInOrder q (Input i) = Unit {0}
-IsInOrder q (Noise w) = Unit {0}
-IsInOrder q (Next name e) = Unit {0}
-IsInOrder q (Obstacle b) = Unit {0}
-IsInOrder q (Goal kind) = Unit {0}
-IsInOrder q End = Unit {0}
+IsInOrder q statement = Unit {0}
 
 -- A line states something in its canonical spelling, and in the canonical order.
 pub record ExtendsCanonically (q : PartialPlant) (words : List ℕ) (r : PartialPlant) : Type 0 where

@@ -1,6 +1,6 @@
 -- Which texts are refused, and why: the first reason that applies.
 use Rattle.std.specs.Prelude.{ℕ, ◌≤◌, List, length}
-use Rattle.plant_record.specs.declared.limit_kind.LimitKind.TheVariants.{PlantText, TableText, Vectors, Cells, Pairs, Edges}
+use Rattle.plant_record.specs.declared.limit_kind.LimitKind.TheVariants.{PlantText, TableText, Edges}
 use Rattle.plant_record.specs.declared.limit_kind.LimitKind.{LimitKind}
 use Rattle.plant_text.specs.declared.plant_fault.PlantFault.{PlantFault}
 use Rattle.plant_text.specs.declared.plant_fault.PlantFault.TheVariants as faults
@@ -18,10 +18,8 @@ IsShort bytes = length bytes ≤ TEXT_LIMIT
 abbrev pub ExceedsLimit : List ℕ → LimitKind → Type 0
 ExceedsLimit bytes PlantText = IsShort bytes → ⊥
 ExceedsLimit bytes TableText = ⊥
-ExceedsLimit bytes Vectors = IsShort bytes × ((p : Description) × Spells bytes p × Exceeds p Vectors)
-ExceedsLimit bytes Cells = IsShort bytes × ((p : Description) × Spells bytes p × Exceeds p Cells)
-ExceedsLimit bytes Pairs = IsShort bytes × ((p : Description) × Spells bytes p × Exceeds p Pairs)
 ExceedsLimit bytes Edges = ⊥
+ExceedsLimit bytes what = IsShort bytes × ((p : Description) × Spells bytes p × Exceeds p what)
 
 -- why a plant text is refused; want of memory is the text's fault never
 abbrev pub IsRefusedFor : List ℕ → PlantFault → Type 0
