@@ -1,8 +1,8 @@
 -- Why a plant has no abstraction.
 use Rattle.std.specs.Prelude.{◌<◌}
 use Rattle.plant_record.specs.Description.{Description}
-use Rattle.abstraction_table.specs.declared.build_fault.BuildFault.{BuildFault}
-use Rattle.abstraction_table.specs.declared.build_fault.BuildFault.TheVariants.{TooManyEdges, Memory}
+use Rattle.plant_game.specs.declared.build_fault.BuildFault.{BuildFault}
+use Rattle.plant_game.specs.declared.build_fault.BuildFault.TheVariants.{TooManyEdges, Memory}
 use Rattle.plant_game.specs.Abstraction.{AreEdges}
 use Rattle.base.specs.declared.limits.TheConstants.{EDGES_LIMIT}
 

@@ -1,5 +1,5 @@
 ghost use Rattle.std.specs.Prelude.{◌≡◌};
-ghost use Rattle.abstraction_table.specs.declared.build_fault.BuildFault.TheVariants.{Memory};
+ghost use Rattle.plant_game.specs.declared.build_fault.BuildFault.TheVariants.{Memory};
 
 use game_core::NoMemory;
 use std::alloc::AllocError;
