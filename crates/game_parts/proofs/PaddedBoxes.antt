@@ -7,7 +7,7 @@ use Rattle.std.proofs.lemmas.List.Folds.{sum_by-replicate}
 use Rattle.grid_quantiser.specs.declared.axis.Axis.{Axis}
 use Rattle.grid_quantiser.specs.declared.boxes.CellBox.{CellBox}
 use Rattle.successor_box.specs.SuccessorBoxes.{cells_in}
-use Rattle.abstraction_table.specs.inside.Padded.{padded}
+use Rattle.game_parts.specs.inside.Padded.{padded}
 use Rattle.plant_game.specs.BoxGame.{edges_of}
 
 module _ (first : ℕ) (boxes : List (Option CellBox)) (pairs : ℕ) where

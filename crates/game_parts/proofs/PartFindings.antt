@@ -17,11 +17,12 @@ use Rattle.successor_box.specs.SuccessorBoxes.{cells_in}
 use Rattle.plant_game.specs.Abstraction.{AreEdges}
 use Rattle.plant_game.specs.Marks.{AreMarksOf}
 use Rattle.pair_boxes.specs.CellsFrom.{AreBoxesFrom}
-use Rattle.abstraction_table.specs.GameParts.{IsFirstFailure, IsFirstInGame}
+use Rattle.game_core.specs.Judging.{IsFirstFailure}
+use Rattle.game_parts.specs.GameParts.{IsFirstInGame}
 use Rattle.plant_game.specs.BoxGame.{box_game, IsBox, edges_of}
-use Rattle.abstraction_table.specs.inside.GameParts.{HasBoxesFrom, HaveFirst, IsFindingOf}
-use Rattle.abstraction_table.proofs.PartGames.{ordered_from, all_boxes, boxes_more, has_first, has_later, whole_has, box_graph}
-use Rattle.plant_game.proofs.BoxGames.{is_game_of, are_edges}
+use Rattle.game_parts.specs.inside.GameParts.{HasBoxesFrom, HaveFirst, IsFindingOf}
+use Rattle.game_parts.proofs.PartGames.{ordered_from, all_boxes, boxes_more, has_first, has_later, whole_has}
+use Rattle.plant_game.proofs.BoxGames.{is_game_of, is_graph, are_edges}
 use Rattle.source_lists.proofs.SourceSteps.{edges_fit}
 
 -- the first of some cells and then of the next
@@ -116,6 +117,6 @@ module _ (p : Description) (marks : List Mark) (Fact : Game → ℕ → Type 0) 
     found_first marks_of some_input few = record {
       game = box_game (axes_of p) (vectors_of p.inputs) marks h.boxes;
       abstraction = is_game_of p limits h.boxes (all_boxes p h.boxes whole h.each) marks marks_of;
-      graph = (box_graph p limits marks marks_of some_input h.boxes whole in_order (omega (arith, few, h.edges_are))).graph;
+      graph = (is_graph p limits marks marks_of h.boxes whole in_order some_input (omega (arith, few, h.edges_are))).graph;
       first = h.first_is few (box_game (axes_of p) (vectors_of p.inputs) marks h.boxes) (whole_has p marks h.boxes);
     }

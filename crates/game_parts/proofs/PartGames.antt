@@ -1,39 +1,33 @@
 -- Games by the boxes of some cells of a plant.
-use Rattle.std.proofs.Common.{inl, inr, ◌≡◌, ℕ, ◌+◌, ◌-◌, ◌*◌, ◌/◌, ◌%◌, ◌^◌, ◌<◌, ◌≤◌, List, ◌++◌, All, Option, None, length, get_or, refl, sym, ap, subst, ◌∙◌, arith}
+use Rattle.std.proofs.Common.{inl, inr, ◌≡◌, ℕ, ◌+◌, ◌-◌, ◌*◌, ◌/◌, ◌%◌, ◌<◌, ◌≤◌, List, ◌++◌, All, Option, None, length, get_or, refl, sym, ap, subst, ◌∙◌, arith}
 use Rattle.std.specs.Prelude.{IfSome}
-use Rattle.std.specs.List.Sorted.{IsStrictlyIncreasing}
 use Rattle.std.proofs.Math.Nat.{add-mul}
 use Rattle.std.proofs.lemmas.Bool.{cases_lt}
 use Rattle.std.proofs.lemmas.Nat.{mul-add-lt, mul-le}
 use Rattle.std.proofs.lemmas.Option.{IfSome_then}
-use Rattle.std.proofs.lemmas.List.{length-map, length-append, get_or_default, get_or_append_left, get_or-append_right}
-use Rattle.std.proofs.lemmas.List.Elements.{All-map, All-weaker}
+use Rattle.std.proofs.lemmas.List.{length-append, get_or_default, get_or_append_left, get_or-append_right}
+use Rattle.base.specs.declared.limits.TheConstants.{EDGES_LIMIT}
+use Rattle.grid_quantiser.specs.declared.axis.Axis.{Axis}
 use Rattle.grid_quantiser.specs.declared.boxes.CellBox.{CellBox}
-use Rattle.grid_quantiser.specs.Axes.{AreAxes, cells_of}
-use Rattle.grid_quantiser.proofs.Suffixes.{some_cells}
+use Rattle.grid_quantiser.specs.Axes.{cells_of}
 use Rattle.game_core.specs.declared.game.Mark.{Mark}
 use Rattle.game_core.specs.declared.game.Mark.TheVariants.{Plain}
-use Rattle.game_core.specs.Game.{Game, IsGame, successors_at, successors_of}
+use Rattle.game_core.specs.Game.{Game, successors_at, successors_of}
 use Rattle.plant_record.specs.Description.{Description, axes_of, vectors_of}
 use Rattle.plant_record.specs.Limits.{IsWithinLimits}
-use Rattle.plant_record.proofs.lemmas.SoundPlants.{sound}
 use Rattle.successor_box.specs.SuccessorBoxes.{IsBoxOf, cells_in}
 use Rattle.pair_box.specs.PlantBoxes.{pairs_of, pair_of, box_at, AreBoxesOf}
 use Rattle.plant_game.specs.Marks.{AreMarksOf}
 use Rattle.plant_game.proofs.GameLaws.{pair_split}
 use Rattle.pair_boxes.specs.CellsFrom.{AreBoxesFrom}
-use Rattle.plant_game.specs.BoxGame.{box_game, IsBox, edges_of}
+use Rattle.plant_game.specs.BoxGame.{box_game, IsBox, IsBoxGraph, edges_of}
 use Rattle.source_lists.specs.declared.shapes.Shapes.{Shapes}
-use Rattle.abstraction_table.specs.GameParts.{IsSameAt}
-use Rattle.source_lists.specs.Fans.{ShapeIsCounted}
-use Rattle.abstraction_table.specs.inside.GameParts.{HasBoxesFrom}
-use Rattle.source_lists.specs.KnownShapes.{AreKnown}
-use Rattle.abstraction_table.specs.inside.Padded.{padded}
+use Rattle.game_core.specs.Judging.{IsSameAt}
+use Rattle.game_parts.specs.inside.GameParts.{HasBoxesFrom}
+use Rattle.game_parts.specs.inside.Padded.{padded}
 use Rattle.source_lists.specs.Shapes.{HasSegmentsOf, EachBoxHasSegments}
-use Rattle.abstraction_table.specs.inside.StoredGame.{IsBoxGraph}
-use Rattle.source_lists.proofs.AddedShapes.{all_segments_known}
-use Rattle.plant_game.proofs.BoxGames.{successors_are, total, box_cells}
-use Rattle.abstraction_table.proofs.PaddedBoxes as pad
+use Rattle.plant_game.proofs.BoxGames.{successors_are, is_graph}
+use Rattle.game_parts.proofs.PaddedBoxes as pad
 
 -- ---- boxes of cells one after another
 
@@ -156,58 +150,22 @@ whole_has p marks boxes = record {
 
 -- ---- which are graphs
 
-module _ (p : Description) (limits : IsWithinLimits p) (marks : List Mark) (marks_of : AreMarksOf p marks) (some_input : 1 ≤ vectors_of p.inputs) where
-  axes : AreAxes (axes_of p)
-  axes = (sound p limits.plant).axes
+module _ (p : Description) (from to : ℕ) (boxes : List (Option CellBox)) (low : from ≤ to) (high : to ≤ cells_of (axes_of p)) (long : length boxes ≡ (to - from) * vectors_of p.inputs) where
+  part_fits : from * vectors_of p.inputs + length boxes ≤ pairs_of p
+  part_fits =
+      let v = vectors_of p.inputs in
+      let cells : from + (to - from) ≡ to = omega (arith, low) in
+      omega (arith, long, add-mul from (to - from) v, ap (λ (i : ℕ). i * v) cells, mul-le to v (cells_of (axes_of p)) v high (omega arith))
 
-  module _ (boxes : List (Option CellBox)) (long : length boxes ≡ pairs_of p) (ordered : All (IsBox (axes_of p)) boxes) (few : edges_of (axes_of p) boxes ≤ 2 ^ 25) where
-    abbrev game : Game
-    game = box_game (axes_of p) (vectors_of p.inputs) marks boxes
+  -- the game by the boxes of some cells, if they have few edges
+  pub part_graph : IsWithinLimits p → (marks : List Mark) → AreMarksOf p marks → 1 ≤ vectors_of p.inputs → AreBoxesFrom p from boxes → edges_of (axes_of p) boxes ≤ EDGES_LIMIT →
+      IsBoxGraph (axes_of p) (vectors_of p.inputs) marks (padded (from * vectors_of p.inputs) boxes (pairs_of p))
+  part_graph limits marks marks_of some_input each few =
+      let first = from * vectors_of p.inputs in
+      let ordered = ordered_from p from (to - from) boxes long each in
+      is_graph p limits marks marks_of (padded first boxes (pairs_of p)) (pad.long first boxes (pairs_of p) part_fits) (pad.all first boxes (pairs_of p) (IsBox (axes_of p)) tt ordered) some_input
+      (omega (arith, pad.edges first boxes (pairs_of p) (axes_of p), few))
 
-    is_game : IsGame game
-    is_game = record {
-      one_mark_each = marks_of.one_each;
-      one_list_each = length-map boxes (cells_in (axes_of p)) ∙ long;
-      rising = All-map IsStrictlyIncreasing (cells_in (axes_of p)) boxes (All-weaker (IsBox (axes_of p)) (λ b. IsStrictlyIncreasing (cells_in (axes_of p) b)) (λ b box. (box_cells (axes_of p) b axes box).rising) boxes ordered);
-      within = All-map (λ cells. All (λ c. c < cells_of (axes_of p)) cells) (cells_in (axes_of p)) boxes (All-weaker (IsBox (axes_of p)) (λ b. All (λ c. c < cells_of (axes_of p)) (cells_in (axes_of p) b)) (λ b box. (box_cells (axes_of p) b axes box).within) boxes ordered);
-    }
-
-    pub box_graph : IsBoxGraph (axes_of p) (vectors_of p.inputs) marks boxes
-    box_graph = record {
-      grid = axes;
-      graph = record {
-        game = is_game;
-        some_cell = some_cells (axes_of p) axes.each;
-        cells_bound = limits.cells;
-        some_input = some_input;
-        inputs_bound = limits.vectors;
-        pairs_bound = limits.pairs;
-        edges_bound = omega (arith, total (axes_of p) boxes, few);
-      };
-      ordered = ordered;
-    }
-
-  -- the game by the boxes of some cells is one
-  pub padded_graph : (first : ℕ) (boxes : List (Option CellBox)) → first + length boxes ≤ pairs_of p → All (IsBox (axes_of p)) boxes → edges_of (axes_of p) boxes ≤ 2 ^ 25 →
-      IsBoxGraph (axes_of p) (vectors_of p.inputs) marks (padded first boxes (pairs_of p))
-  padded_graph first boxes fits ordered few =
-      box_graph (padded first boxes (pairs_of p)) (pad.long first boxes (pairs_of p) fits) (pad.all first boxes (pairs_of p) (IsBox (axes_of p)) tt ordered) (omega (arith, pad.edges first boxes (pairs_of p) (axes_of p), few))
-
-  -- and so is the game by the boxes of cells that are few enough
-  module _ (from to edges : ℕ) (boxes : List (Option CellBox)) (low : from ≤ to) (high : to ≤ cells_of (axes_of p)) (long : length boxes ≡ (to - from) * vectors_of p.inputs) (each : AreBoxesFrom p from boxes) where
-    ordered : All (IsBox (axes_of p)) boxes
-    ordered = ordered_from p from (to - from) boxes long each
-
-    part_fits : from * vectors_of p.inputs + length boxes ≤ pairs_of p
-    part_fits =
-        let v = vectors_of p.inputs in
-        let cells : from + (to - from) ≡ to = omega (arith, low) in
-        omega (arith, long, add-mul from (to - from) v, ap (λ (i : ℕ). i * v) cells, mul-le to v (cells_of (axes_of p)) v high (omega arith))
-
-    pub part_graph : edges_of (axes_of p) boxes ≤ edges → edges ≤ 2 ^ 25 → IsBoxGraph (axes_of p) (vectors_of p.inputs) marks (padded (from * vectors_of p.inputs) boxes (pairs_of p))
-    part_graph fit few = padded_graph (from * vectors_of p.inputs) boxes part_fits ordered (omega (arith, fit, few))
-
-    -- with the segments of its boxes
-    pub part_listed : (fans : List ℕ) (s : Shapes) → edges ≤ 2 ^ 25 → AreKnown (axes_of p) edges fans s → All (ShapeIsCounted (axes_of p) fans) boxes → EachBoxHasSegments (axes_of p) s (padded (from * vectors_of p.inputs) boxes (pairs_of p))
-    part_listed fans s few known counted =
-        pad.all (from * vectors_of p.inputs) boxes (pairs_of p) (λ b. IfSome b (HasSegmentsOf (axes_of p) s)) tt (all_segments_known (axes_of p) s fans boxes axes ordered (known.listed few) counted)
+-- the boxes of some cells among those of all have their segments, if these have
+pub part_listed : (axes : List Axis) (first : ℕ) (boxes : List (Option CellBox)) (pairs : ℕ) (s : Shapes) → EachBoxHasSegments axes s boxes → EachBoxHasSegments axes s (padded first boxes pairs)
+part_listed axes first boxes pairs s listed = pad.all first boxes pairs (λ b. IfSome b (HasSegmentsOf axes s)) tt listed

@@ -7,17 +7,17 @@ use Rattle.grid_quantiser.specs.declared.boxes.CellBox.{CellBox}
 use Rattle.game_core.specs.declared.game.Mark.{Mark}
 use Rattle.game_core.specs.Game.{Game}
 use Rattle.plant_record.specs.Description.{Description, axes_of, vectors_of}
-use Rattle.source_lists.specs.declared.shapes.Shapes.{Shapes}
-use Rattle.abstraction_table.specs.inside.GameParts.{IsFindingOf}
-use Rattle.source_lists.specs.KnownShapes.{AreKnown}
+use Rattle.source_lists.specs.declared.known_shapes.KnownShapes.{KnownShapes}
+use Rattle.game_parts.specs.inside.GameParts.{IsFindingOf}
+use Rattle.source_lists.specs.KnownShapes.{Knows, edges_known}
 
 -- The cells of a part up to one are done, and there is room for the boxes of so many more.
-pub record IsDoneTo (p : Description) (marks : List Mark) (Fact : Game → ℕ → Type 0) (from to size done room edges : ℕ) (fans : List ℕ) (s : Shapes) (first : Option ℕ) : Type 0 where
+pub record IsDoneTo (p : Description) (marks : List Mark) (Fact : Game → ℕ → Type 0) (from to size done room : ℕ) (known : KnownShapes) (first : Option ℕ) : Type 0 where
   pub low : from ≤ done
   pub high : done ≤ to
   pub fits : done < to → size * vectors_of p.inputs ≤ room
-  pub known_are : AreKnown (axes_of p) edges fans s
-  pub found : IsFindingOf p marks Fact from done edges first
+  pub knows : Knows (axes_of p) (edges_known known) known
+  pub found : IsFindingOf p marks Fact from done (edges_known known) first
 
 -- the boxes of the next cells fit
 pub cut_long : (v size done to end n : ℕ) (boxes : List (Option CellBox)) → size * v ≤ length boxes → end ≡ min to (done + size) → n ≡ (end - done) * v → length (take n boxes) ≡ (end - done) * v

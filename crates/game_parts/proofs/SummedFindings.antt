@@ -17,15 +17,15 @@ use Rattle.game_core.specs.Game.{Game}
 use Rattle.plant_record.specs.Description.{Description, axes_of, vectors_of}
 use Rattle.plant_record.specs.Limits.{IsWithinLimits}
 use Rattle.plant_game.specs.Marks.{AreMarksOf}
-use Rattle.abstraction_table.specs.declared.part_search.PartFinding.{PartFinding}
-use Rattle.abstraction_table.specs.declared.build_fault.BuildFault.{BuildFault}
-use Rattle.abstraction_table.specs.declared.build_fault.BuildFault.TheVariants.{TooManyEdges}
-use Rattle.abstraction_table.specs.Faults.{IsFaultOf}
-use Rattle.abstraction_table.specs.GameParts.{IsFirstInGame}
-use Rattle.abstraction_table.specs.inside.Findings.{finding_at, edges_found, first_of, first_found, HoldFindings}
-use Rattle.abstraction_table.specs.inside.GameParts.{HaveFirst, IsFindingOf}
+use Rattle.game_parts.specs.declared.part_search.PartFinding.{PartFinding}
+use Rattle.plant_game.specs.declared.build_fault.BuildFault.{BuildFault}
+use Rattle.plant_game.specs.declared.build_fault.BuildFault.TheVariants.{TooManyEdges}
+use Rattle.plant_game.specs.Faults.{IsFaultOf}
+use Rattle.game_parts.specs.GameParts.{IsFirstInGame}
+use Rattle.game_parts.specs.inside.Findings.{finding_at, edges_found, first_of, first_found, HoldFindings}
+use Rattle.game_parts.specs.inside.GameParts.{HaveFirst, IsFindingOf}
 use Rattle.source_lists.proofs.Mapped.{mapped_at, mapped_long}
-use Rattle.abstraction_table.proofs.PartFindings.{found_none, finding_more, found_edges, found_fit, found_first}
+use Rattle.game_parts.proofs.PartFindings.{found_none, finding_more, found_edges, found_fit, found_first}
 use Rattle.source_lists.proofs.SourceBands.{all_ok}
 
 -- the first that was found before a finding comes first

@@ -1,15 +1,15 @@
 //! The game of a plant, of which only the boxes of some cells are kept.
 ghost use Rattle.std.specs.Prelude.{◌*◌};
 ghost use Rattle.grid_quantiser.specs.Axes.{cells_of};
-ghost use Rattle.abstraction_table.specs.inside.Padded.{padded};
-ghost use Rattle.abstraction_table.specs.inside.Props.{box_props};
+ghost use Rattle.game_parts.specs.inside.Padded.{padded};
+ghost use Rattle.plant_game.specs.BoxGame.{IsBoxGraph};
+ghost use Rattle.source_lists.specs.inside.Props.{shape_props};
 ghost use Rattle.source_lists.specs.Shapes.{EachBoxHasSegments};
-ghost use Rattle.abstraction_table.specs.inside.StoredGame.{IsBoxGraph};
 
 use game_core::{CellTest, Forward, Mark};
 use grid_quantiser::{CellBox, Grid};
 use pair_box::PairBox;
-use source_lists::{Shapes, all_pass};
+use source_lists::Shapes;
 
 /// A game in which only the pairs are enabled whose boxes are kept.
 #[derive(Drop)]
@@ -21,15 +21,15 @@ pub(crate) struct GamePart<'a> {
     pub(crate) first: u32,
     pub(crate) boxes: &'a [PairBox],
     pub(crate) shapes: &'a Shapes,
-    ghost in_memory: { IsBoxGraph grid inputs marks.now (padded first boxes.now (cells_of grid * inputs)) } by { Prim.hlevel box_props },
-    ghost listed: { EachBoxHasSegments grid shapes.now (padded first boxes.now (cells_of grid * inputs)) } by { Prim.hlevel box_props },
+    ghost in_memory: { IsBoxGraph grid inputs marks.now (padded first boxes.now (cells_of grid * inputs)) } by { Prim.hlevel shape_props },
+    ghost listed: { EachBoxHasSegments grid shapes.now (padded first boxes.now (cells_of grid * inputs)) } by { Prim.hlevel shape_props },
 }
 
 impl GamePart<'_> {
     ghost use Rattle.std.specs.Prelude.{◌≡◌, ◌<◌};
     ghost use Rattle.game_core.specs.Game.{pairs_of};
     ghost use Rattle.pair_box.specs.PlantBoxes.{box_at};
-    ghost use Rattle.abstraction_table.specs.inside.GameParts.{part_game};
+    ghost use Rattle.game_parts.specs.inside.GameParts.{part_game};
 
     /// The box of a pair: None where none is kept.
     #[inline]
@@ -49,7 +49,7 @@ impl GamePart<'_> {
 }
 
 impl Forward for GamePart<'_> {
-    ghost use Rattle.abstraction_table.specs.inside.GameParts.{part_game};
+    ghost use Rattle.game_parts.specs.inside.GameParts.{part_game};
 
     ghost game = { part_game };
 
@@ -79,14 +79,8 @@ impl Forward for GamePart<'_> {
         }
     }
 
-    /// The corners of a box come first, since they mostly show that not all of its cells pass.
     fn leads_only_to<T: CellTest>(&self, pair: u32, test: &T) -> bool {
-        let Some(b) = self.box_of(pair) else {
-            return false;
-        };
-        test.passes(b.last)
-            && test.passes(b.first)
-            && all_pass(b.first, self.shapes.segments_of(b), test)
+        self.shapes.box_passes(self.box_of(pair), test)
     }
 
     ghost lawful = { λ part. part.in_memory.graph };

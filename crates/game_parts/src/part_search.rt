@@ -1,28 +1,24 @@
 //! The first wrong cell of a plant's game, of which only the boxes of some cells are kept at a time.
-ghost use Rattle.std.specs.Prelude.{◌≡◌, ◌+◌, ◌-◌, ◌*◌, ◌^◌, min, ◌<◌, ◌≤◌, length, IfOk, IfErr, OnOk};
-ghost use Rattle.std.specs.List.{All};
+ghost use Rattle.std.specs.Prelude.{◌≡◌, ◌+◌, ◌-◌, ◌*◌, ◌^◌, ◌<◌, ◌≤◌, length, IfOk, IfErr, OnOk};
 ghost use Rattle.grid_quantiser.specs.Axes.{cells_of};
 ghost use Rattle.plant_record.specs.Description.{axes_of, vectors_of};
 ghost use Rattle.plant_game.specs.Marks.{AreMarksOf};
 ghost use Rattle.successor_box.specs.Deviations.{HasNoOverflow, deviations_of};
 ghost use Rattle.pair_boxes.specs.CellsFrom.{AreBoxesFrom};
 ghost use Rattle.pair_boxes.specs.Finders.{plant_of, IsReady};
-ghost use Rattle.abstraction_table.specs.declared.build_fault.BuildFault.TheVariants.{TooManyEdges};
-ghost use Rattle.abstraction_table.specs.Faults.{IsFaultOf};
-ghost use Rattle.abstraction_table.specs.GameParts.{IsFirstInGame};
-ghost use Rattle.source_lists.specs.Fans.{ShapeIsCounted};
-ghost use Rattle.abstraction_table.specs.inside.GameParts.{HaveFirst, IsFindingOf};
-ghost use Rattle.abstraction_table.specs.inside.Findings.{HoldFindings, edges_found, first_found};
-ghost use Rattle.source_lists.specs.KnownShapes.{AreKnown};
+ghost use Rattle.plant_game.specs.Faults.{IsFaultOf};
+ghost use Rattle.game_parts.specs.GameParts.{IsFirstInGame};
+ghost use Rattle.game_parts.specs.inside.GameParts.{cells_for, inputs_for, HaveFirst, IsFound, IsFoundIn};
+ghost use Rattle.game_parts.specs.inside.Findings.{HoldFindings, edges_found, first_found, SaysExcess};
+ghost use Rattle.source_lists.specs.KnownShapes.{KnowsBoxes, HasFewEdges, edges_known};
 ghost use Rattle.plant_game.specs.BoxGame.{edges_of};
 
-use crate::build_fault::BuildFault;
 use crate::game_part::GamePart;
 use base::limits::EDGES_LIMIT;
-use game_core::{Forward, Mark};
+use game_core::{CellJudge, Mark};
 use pair_box::PairBox;
 use pair_boxes::BoxFinder;
-use plant_game::build_marks;
+use plant_game::{BuildFault, build_marks};
 use plant_record::Plant;
 use rayon::current_num_threads;
 use rayon::prelude::*;
@@ -34,7 +30,8 @@ use successor_box::{Sampled, Slopes};
 /// About how many pairs' boxes are kept at a time, in fast memory.
 const PAIRS_AT_A_TIME: u32 = 1 << 12;
 
-/// The boxes of so many cells at least are found at a time: what the earlier states bring to a box is added once for those of a line.
+/// The boxes of so many cells at least are found at a time: what the earlier states bring to a box is added once for those
+/// of a line.
 const CELLS_AT_A_TIME: u32 = 8;
 
 /// So many pairs for each part at least: to start a thread takes as long as to judge some thousands of them.
@@ -46,28 +43,6 @@ const PARTS_FOR_A_PROCESSOR: u32 = 4;
 /// More processors get no more parts.
 const PROCESSORS_LIMIT: u32 = 64;
 
-/// Judges the cells of a game: which are right, which wrong.
-pub trait CellJudge {
-    ghost use Rattle.std.specs.Prelude.{◌≡◌, ℕ, ◌<◌, ◌≤◌};
-    ghost use Rattle.game_core.specs.Game.{Game};
-    ghost use Rattle.abstraction_table.specs.GameParts.{IsSameAt, IsFirstFailure};
-
-    /// That the cells of a game can be judged, by how many cells and inputs it has.
-    ghost judges: { Self → ℕ → ℕ → Type 0 };
-
-    /// That a cell of a game is right.
-    ghost is_right: { Self → Game → ℕ → Type 0 };
-
-    /// The first of the cells from one up to another that is wrong.
-    fn first_wrong<G: Forward>(&self, g: &G, from: u32, to: u32) -> Option<u32>
-        requires judged { judges self.now (G.game g.now).cells (G.game g.now).inputs }
-        requires range { to ≤ (G.game g.now).cells }
-        ensures { IsFirstFailure (is_right self.now (G.game g.now)) from to result };
-
-    /// Only the cell's mark and successors matter.
-    ghost local: { (judge : Self) (g h : Game) (c : ℕ) → IsSameAt c g h → is_right judge g c → is_right judge h c };
-}
-
 /// What was found at the cells of a part.
 #[derive(Clone, Copy)]
 pub(crate) struct PartFinding {
@@ -77,8 +52,8 @@ pub(crate) struct PartFinding {
     pub(crate) first: Option<u32>,
 }
 
-/// The first wrong cell of the game of a plant. Parts of the cells are judged side by side, and only the boxes of some cells of each
-/// part are kept at a time.
+/// The first wrong cell of the game of a plant. Parts of the cells are judged side by side, and only the boxes of some
+/// cells of each part are kept at a time.
 pub fn find_first_wrong<R: Threads + Sync, J: CellJudge + Sync>(
     rt: &R,
     alloc: Global,
@@ -130,10 +105,10 @@ fn find_all<R: Threads + Sync, J: CellJudge + Sync>(
 ) -> Result<Vec<PartFinding>, AllocError>
     requires ready { IsReady finder.now }
     requires marks { AreMarksOf (plant_of finder.now) marks.now }
-    requires judged { J.judges judge.now (cells_of (axes_of (plant_of finder.now))) (vectors_of (plant_of finder.now).inputs) }
+    requires judged { J.judges judge.now (cells_for finder.now) (inputs_for finder.now) }
     requires some { 1 ≤ size }
-    requires few { size ≤ cells_of (axes_of (plant_of finder.now)) }
-    ensures { IfOk result (λ findings. HoldFindings (plant_of finder.now) marks.now (J.is_right judge.now) size findings.items) }
+    requires few { size ≤ cells_for finder.now }
+    ensures { IfOk result (λ all. HoldFindings (plant_of finder.now) marks.now (J.is_right judge.now) size all.items) }
 {
     let cells = finder.plant().grid().cells();
     (0..cells.div_ceil(size))
@@ -143,11 +118,11 @@ fn find_all<R: Threads + Sync, J: CellJudge + Sync>(
             |k: u32| -> Result<PartFinding, AllocError>
                 requires ready { IsReady finder.now }
                 requires marks { AreMarksOf (plant_of finder.now) marks.now }
-                requires judged { J.judges judge.now (cells_of (axes_of (plant_of finder.now))) (vectors_of (plant_of finder.now).inputs) }
-                requires cells { cells ≡ cells_of (axes_of (plant_of finder.now)) }
+                requires judged { J.judges judge.now (cells_for finder.now) (inputs_for finder.now) }
+                requires cells { cells ≡ cells_for finder.now }
                 requires few { size ≤ cells }
                 requires part { k * size < cells }
-                ensures { IfOk result (λ found. IsFindingOf (plant_of finder.entry.now) marks.entry.now (J.is_right judge.entry.now) (k * size) (min cells (k * size + size)) found.edges found.first) }
+                ensures { IfOk result (IsFoundIn finder.entry.now marks.entry.now (J.is_right judge.entry.now) cells size k) }
             {
                 let from = k * size;
                 find_in(alloc, finder, marks, judge, from, cells.min(from + size))
@@ -167,10 +142,10 @@ fn find_in<J: CellJudge>(
 ) -> Result<PartFinding, AllocError>
     requires ready { IsReady finder.now }
     requires marks { AreMarksOf (plant_of finder.now) marks.now }
-    requires judged { J.judges judge.now (cells_of (axes_of (plant_of finder.now))) (vectors_of (plant_of finder.now).inputs) }
+    requires judged { J.judges judge.now (cells_for finder.now) (inputs_for finder.now) }
     requires ordered { from ≤ to }
-    requires cells { to ≤ cells_of (axes_of (plant_of finder.now)) }
-    ensures { IfOk result (λ found. IsFindingOf (plant_of finder.now) marks.now (J.is_right judge.now) from to found.edges found.first) }
+    requires cells { to ≤ cells_for finder.now }
+    ensures { IfOk result (IsFound finder.now marks.now (J.is_right judge.now) from to) }
 {
     let grid = *finder.plant().grid();
     let inputs = finder.plant().vectors();
@@ -190,7 +165,7 @@ fn find_in<J: CellJudge>(
         done = end;
     }
     Ok(PartFinding {
-        edges: known.fans.edges,
+        edges: known.edges(),
         first,
     })
 }
@@ -216,17 +191,16 @@ fn first_by_boxes<J: CellJudge>(
     to: u32,
 ) -> Option<u32>
     requires marks { AreMarksOf (plant_of finder.now) marks.now }
-    requires judged { J.judges judge.now (cells_of (axes_of (plant_of finder.now))) (vectors_of (plant_of finder.now).inputs) }
+    requires judged { J.judges judge.now (cells_for finder.now) (inputs_for finder.now) }
     requires ordered { from ≤ to }
-    requires cells { to ≤ cells_of (axes_of (plant_of finder.now)) }
-    requires long { length boxes.now ≡ (to - from) * vectors_of (plant_of finder.now).inputs }
+    requires cells { to ≤ cells_for finder.now }
+    requires long { length boxes.now ≡ (to - from) * inputs_for finder.now }
     requires each { AreBoxesFrom (plant_of finder.now) from boxes.now }
-    requires known { AreKnown (axes_of (plant_of finder.now)) known.now.fans.edges known.now.fans.counts.items known.now.shapes }
-    requires counted { All (ShapeIsCounted (axes_of (plant_of finder.now)) known.now.fans.counts.items) boxes.now }
-    requires edges { edges_of (axes_of (plant_of finder.now)) boxes.now ≤ known.now.fans.edges }
-    ensures { known.now.fans.edges ≤ EDGES_LIMIT → HaveFirst (plant_of finder.now) marks.now (J.is_right judge.now) from to boxes.now result }
+    requires listed { KnowsBoxes (axes_of (plant_of finder.now)) known.now boxes.now }
+    requires edges { edges_of (axes_of (plant_of finder.now)) boxes.now ≤ edges_known known.now }
+    ensures { HasFewEdges known.now → HaveFirst (plant_of finder.now) marks.now (J.is_right judge.now) from to boxes.now result }
 {
-    if known.fans.edges > EDGES_LIMIT {
+    if known.edges() > EDGES_LIMIT {
         return None;
     }
     let plant = finder.plant();
@@ -237,7 +211,7 @@ fn first_by_boxes<J: CellJudge>(
         marks,
         first: from * inputs,
         boxes,
-        shapes: &known.shapes,
+        shapes: known.shapes(),
     };
     judge.first_wrong(&part, from, to)
 }
@@ -247,7 +221,7 @@ fn sum_up(findings: &[PartFinding]) -> Result<Option<u32>, BuildFault>
     requires fits { edges_found findings.now < 2 ^ 64 }
     ensures few { OnOk result (edges_found findings.now ≤ EDGES_LIMIT) }
     ensures first { IfOk result (λ first. first ≡ first_found findings.now) }
-    ensures fault { IfErr result (λ fault. (fault ≡ TooManyEdges (edges_found findings.now)) × (EDGES_LIMIT < edges_found findings.now)) }
+    ensures fault { IfErr result (SaysExcess (edges_found findings.now)) }
 {
     let mut edges: u64 = 0;
     let mut first: Option<u32> = None;

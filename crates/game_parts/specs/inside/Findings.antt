@@ -5,8 +5,11 @@ use Rattle.grid_quantiser.specs.Axes.{cells_of}
 use Rattle.game_core.specs.declared.game.Mark.{Mark}
 use Rattle.game_core.specs.Game.{Game}
 use Rattle.plant_record.specs.Description.{Description, axes_of}
-use Rattle.abstraction_table.specs.declared.part_search.PartFinding.{PartFinding}
-use Rattle.abstraction_table.specs.inside.GameParts.{IsFindingOf}
+use Rattle.plant_game.specs.declared.build_fault.BuildFault.{BuildFault}
+use Rattle.plant_game.specs.declared.build_fault.BuildFault.TheVariants.{TooManyEdges}
+use Rattle.base.specs.declared.limits.TheConstants.{EDGES_LIMIT}
+use Rattle.game_parts.specs.declared.part_search.PartFinding.{PartFinding}
+use Rattle.game_parts.specs.inside.GameParts.{IsFindingOf}
 
 -- what was found at a part
 abbrev pub finding_at : List PartFinding → ℕ → PartFinding
@@ -30,3 +33,7 @@ first_found (f ∷ findings) = first_of f.first (first_found findings)
 pub record HoldFindings (p : Description) (marks : List Mark) (Fact : Game → ℕ → Type 0) (size : ℕ) (findings : List PartFinding) : Type 0 where
   pub parts : length findings ≡ div_ceil (cells_of (axes_of p)) size
   pub each : (k : ℕ) → k < length findings → IsFindingOf p marks Fact (k * size) (min (cells_of (axes_of p)) (k * size + size)) (finding_at findings k).edges (finding_at findings k).first
+
+-- a fault says how many edges there are, which is more than may be
+abbrev pub SaysExcess : ℕ → BuildFault → Type 0
+SaysExcess edges fault = (fault ≡ TooManyEdges edges) × (EDGES_LIMIT < edges)

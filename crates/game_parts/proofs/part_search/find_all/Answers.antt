@@ -8,11 +8,11 @@ use Rattle.rayon.specs.Numbers.{nat_range}
 use Rattle.grid_quantiser.specs.Axes.{cells_of}
 use Rattle.plant_record.specs.Description.{axes_of}
 use Rattle.pair_boxes.specs.Finders.{plant_of}
-use Rattle.abstraction_table.specs.declared.part_search.PartFinding.{PartFinding}
-use Rattle.abstraction_table.specs.inside.GameParts.{IsFindingOf}
+use Rattle.game_parts.specs.declared.part_search.PartFinding.{PartFinding}
+use Rattle.game_parts.specs.inside.GameParts.{IsFindingOf}
 use Rattle.source_lists.proofs.Mapped.{below_end}
-use Rattle.abstraction_table.proofs.SummedFindings.{part_begins, hold_findings}
-use Rattle.abstraction_table.proofs.part_search.find_all.Goals as goal
+use Rattle.game_parts.proofs.SummedFindings.{part_begins, hold_findings}
+use Rattle.game_parts.proofs.part_search.find_all.Goals as goal
 
 along : {F : Type 0} {x y : F} → x ≡ y → (P : F → Type 0) → P x → P y
 along e P h = subst P e h

@@ -2,11 +2,11 @@ use Rattle.std.proofs.Common.{◌≡◌, ◌≤◌, subst, ◌∙◌, arith}
 use Rattle.std.specs.Prelude.{IfOk, IfErr}
 use Rattle.plant_record.specs.Description.{Description, vectors_of}
 use Rattle.plant_game.specs.Marks.{AreMarksOf}
-use Rattle.abstraction_table.specs.Faults.{IsFaultOf}
-use Rattle.abstraction_table.specs.GameParts.{IsFirstInGame}
+use Rattle.plant_game.specs.Faults.{IsFaultOf}
+use Rattle.game_parts.specs.GameParts.{IsFirstInGame}
 use Rattle.pair_boxes.specs.Finders.{plant_of}
-use Rattle.abstraction_table.proofs.SummedFindings.{sum_fits, first_result, fault_result}
-use Rattle.abstraction_table.proofs.part_search.find_first_wrong.Goals as goal
+use Rattle.game_parts.proofs.SummedFindings.{sum_fits, first_result, fault_result}
+use Rattle.game_parts.proofs.part_search.find_first_wrong.Goals as goal
 
 pub sum_up-requires : goal.sum_up-requires
 sum_up-requires g c =

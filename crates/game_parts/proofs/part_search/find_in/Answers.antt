@@ -3,13 +3,14 @@ use Rattle.grid_quantiser.specs.declared.boxes.CellBox.{CellBox}
 use Rattle.plant_record.specs.Description.{Description, axes_of, vectors_of}
 use Rattle.plant_record.proofs.lemmas.SoundPlants.{sound}
 use Rattle.pair_boxes.specs.Finders.{plant_of}
-use Rattle.abstraction_table.specs.inside.GameParts.{HaveFirst}
+use Rattle.source_lists.specs.KnownShapes.{edges_known}
+use Rattle.game_parts.specs.inside.GameParts.{HaveFirst}
 use Rattle.plant_game.specs.BoxGame.{IsBox, edges_of}
-use Rattle.abstraction_table.proofs.PartFindings.{not_some, not_none, both_fit, finding_more}
-use Rattle.abstraction_table.proofs.PartGames.{ordered_from}
-use Rattle.abstraction_table.proofs.PartSteps.{cut_long, read_back, room_left}
-use Rattle.abstraction_table.proofs.part_search.find_in.Goals as goal
-use Rattle.abstraction_table.proofs.part_search.find_in.Goals.{After-find}
+use Rattle.game_parts.proofs.PartFindings.{not_some, not_none, both_fit, finding_more}
+use Rattle.game_parts.proofs.PartGames.{ordered_from}
+use Rattle.game_parts.proofs.PartSteps.{cut_long, read_back, room_left}
+use Rattle.game_parts.proofs.part_search.find_in.Goals as goal
+use Rattle.game_parts.proofs.part_search.find_in.Goals.{After-find}
 
 -- the boxes that were found are those of the next cells
 module _ (g : _) (c : After-find g) where
@@ -48,9 +49,9 @@ module _ (g : _) (c : After-find g) where
   high : end ≤ c.args.to
   high = omega (arith, ends)
 
-  fit : c.loop-done.known.fans.edges + edges_of (axes_of p) c.find.new.boxes < 18446744073709551616
+  fit : (edges_known c.loop-done.known) + edges_of (axes_of p) c.find.new.boxes < 18446744073709551616
   fit =
-      both_fit p c.args.marks.now (g.J.CellJudge.is_right c.args.judge.now) c.args.from done end c.loop-done.invariant.low low c.loop-done.known.fans.edges c.loop-done.first c.loop-done.invariant.found c.find.new.boxes long c.find.ensures.each
+      both_fit p c.args.marks.now (g.J.CellJudge.is_right c.args.judge.now) c.args.from done end c.loop-done.invariant.low low (edges_known c.loop-done.known) c.loop-done.first c.loop-done.invariant.found c.find.new.boxes long c.find.ensures.each
       c.args.finder.now.sampled.within (omega (arith, high, c.requires.cells))
 
 pub find-requires-clause-cells : goal.find-requires-clause-cells
@@ -95,15 +96,15 @@ loop-done-preserved-then-is_none g c =
     let added = c.in_ok-add.ensures in
     let seen = c.deref.ensures.value ∙ kept g at in
     let seen_then = c.deref-then-is_none.ensures.value ∙ kept g at in
-    let total : c.add.new.self.fans.edges ≡ c.loop-done.known.fans.edges + edges_of (axes_of (p g at)) c.find.new.boxes = rw (axes_are g at, seen) at added.edges in
+    let total : (edges_known c.add.new.self) ≡ (edges_known c.loop-done.known) + edges_of (axes_of (p g at)) c.find.new.boxes = rw (axes_are g at, seen) at added.edges in
     record {
       low = omega (arith, c.loop-done.invariant.low, low g at);
       high = high g at;
       fits = λ more. omega (arith, ap length (kept g at), long g at, room_left (vectors_of (p g at).inputs) c.cells_at_a_time-size.result c.loop-done.done c.args.to c.min-end.result (ends g at) more);
-      known_are = rw (axes_are g at) at added.known;
+      knows = rw (axes_are g at) at added.known;
       found =
-          finding_more (p g at) c.args.marks.now Right c.args.from c.loop-done.done c.min-end.result c.loop-done.invariant.low (low g at) c.loop-done.known.fans.edges first c.loop-done.invariant.found c.find.new.boxes (long g at) c.find.ensures.each
-          c.add.new.self.fans.edges total c.first_by_boxes-first.result (λ w is. absurd (not_some first c.is_none.result w c.is_none.ensures c.if-is_none.true is))
+          finding_more (p g at) c.args.marks.now Right c.args.from c.loop-done.done c.min-end.result c.loop-done.invariant.low (low g at) (edges_known c.loop-done.known) first c.loop-done.invariant.found c.find.new.boxes (long g at) c.find.ensures.each
+          (edges_known c.add.new.self) total c.first_by_boxes-first.result (λ w is. absurd (not_some first c.is_none.result w c.is_none.ensures c.if-is_none.true is))
           (λ none few. subst (λ (boxes : List (Option CellBox)). HaveFirst (p g at) c.args.marks.now Right c.loop-done.done c.min-end.result boxes c.first_by_boxes-first.result) seen_then (c.first_by_boxes-first.ensures few));
     }
 
@@ -114,13 +115,13 @@ loop-done-preserved g c =
     let first = c.loop-done.first in
     let added = c.in_ok-add.ensures in
     let seen = c.deref.ensures.value ∙ kept g at in
-    let total : c.add.new.self.fans.edges ≡ c.loop-done.known.fans.edges + edges_of (axes_of (p g at)) c.find.new.boxes = rw (axes_are g at, seen) at added.edges in
+    let total : (edges_known c.add.new.self) ≡ (edges_known c.loop-done.known) + edges_of (axes_of (p g at)) c.find.new.boxes = rw (axes_are g at, seen) at added.edges in
     record {
       low = omega (arith, c.loop-done.invariant.low, low g at);
       high = high g at;
       fits = λ more. omega (arith, ap length (kept g at), long g at, room_left (vectors_of (p g at).inputs) c.cells_at_a_time-size.result c.loop-done.done c.args.to c.min-end.result (ends g at) more);
-      known_are = rw (axes_are g at) at added.known;
+      knows = rw (axes_are g at) at added.known;
       found =
-          finding_more (p g at) c.args.marks.now Right c.args.from c.loop-done.done c.min-end.result c.loop-done.invariant.low (low g at) c.loop-done.known.fans.edges first c.loop-done.invariant.found c.find.new.boxes (long g at) c.find.ensures.each
-          c.add.new.self.fans.edges total first (λ w is. is) (λ none few. absurd (not_none first c.is_none.result c.is_none.ensures c.if-is_none.false none));
+          finding_more (p g at) c.args.marks.now Right c.args.from c.loop-done.done c.min-end.result c.loop-done.invariant.low (low g at) (edges_known c.loop-done.known) first c.loop-done.invariant.found c.find.new.boxes (long g at) c.find.ensures.each
+          (edges_known c.add.new.self) total first (λ w is. is) (λ none few. absurd (not_none first c.is_none.result c.is_none.ensures c.if-is_none.false none));
     }

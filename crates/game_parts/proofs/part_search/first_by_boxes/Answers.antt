@@ -4,26 +4,26 @@ use Rattle.plant_record.specs.Description.{axes_of, vectors_of}
 use Rattle.pair_boxes.specs.Finders.{plant_of}
 use Rattle.pair_box.specs.PlantBoxes.{pairs_of}
 use Rattle.plant_game.specs.BoxGame.{box_game}
-use Rattle.abstraction_table.specs.inside.Padded.{padded}
-use Rattle.abstraction_table.proofs.PartFindings.{first_same}
-use Rattle.abstraction_table.proofs.PartGames.{both_same, padded_has, part_graph, part_listed}
-use Rattle.abstraction_table.proofs.part_search.first_by_boxes.Goals as goal
+use Rattle.base.specs.declared.limits.TheConstants.{EDGES_LIMIT}
+use Rattle.source_lists.specs.KnownShapes.{edges_known, shapes_known}
+use Rattle.game_parts.specs.inside.Padded.{padded}
+use Rattle.game_parts.proofs.PartFindings.{first_same}
+use Rattle.game_parts.proofs.PartGames.{both_same, padded_has, part_graph, part_listed}
+use Rattle.game_parts.proofs.part_search.first_by_boxes.Goals as goal
 
 pub invariant_of-part : goal.invariant_of-part
 invariant_of-part g c =
     let finder = c.args.finder.now in
     let p = plant_of finder in
-    let limits = finder.sampled.within in
     let asked = c.requires in
     let boxes = c.args.boxes.now in
-    let known = c.args.known.now in
     let count : c.vectors-inputs.result ≡ vectors_of p.inputs = rw c.plant-plant.ensures at c.vectors-inputs.ensures.count in
     let some : 1 ≤ vectors_of p.inputs = omega (arith, c.vectors-inputs.ensures.some, count) in
-    let few = c.if-known-gt-EDGES_LIMIT.false in
-    rw (c.grid.ensures, count, c.plant-plant.ensures)
+    let few : edges_known c.args.known.now ≤ EDGES_LIMIT = omega (arith, c.edges.ensures, c.if-edges-gt-EDGES_LIMIT.false) in
+    rw (c.grid.ensures, count, c.plant-plant.ensures, c.shapes.ensures)
     (record {
-      in_memory = part_graph p limits c.args.marks.now asked.marks some c.args.from c.args.to known.fans.edges boxes asked.ordered asked.cells asked.long asked.each asked.edges few;
-      listed = part_listed p limits c.args.marks.now asked.marks some c.args.from c.args.to known.fans.edges boxes asked.ordered asked.cells asked.long asked.each known.fans.counts.items known.shapes few asked.known asked.counted;
+      in_memory = part_graph p c.args.from c.args.to boxes asked.ordered asked.cells asked.long finder.sampled.within c.args.marks.now asked.marks some asked.each (omega (arith, asked.edges, few));
+      listed = part_listed (axes_of p) (c.args.from * vectors_of p.inputs) boxes (pairs_of p) (shapes_known c.args.known.now) (asked.listed few);
     })
 
 pub returns : goal.returns

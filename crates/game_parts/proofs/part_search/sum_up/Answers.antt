@@ -1,10 +1,10 @@
 use Rattle.std.proofs.Common.{◌≡◌, ◌∙◌, ◌+◌, None, take, refl, arith}
 use Rattle.std.proofs.lemmas.List.Sums.{sum_by_more}
-use Rattle.abstraction_table.specs.declared.part_search.PartFinding.{PartFinding}
-use Rattle.abstraction_table.specs.inside.Findings.{finding_at, first_of, first_found}
-use Rattle.abstraction_table.proofs.SummedFindings.{first_next, taken_later, taken_first}
-use Rattle.abstraction_table.proofs.part_search.sum_up.Goals as goal
-use Rattle.abstraction_table.proofs.part_search.sum_up.Goals.{then-is_none, else-is_none}
+use Rattle.game_parts.specs.declared.part_search.PartFinding.{PartFinding}
+use Rattle.game_parts.specs.inside.Findings.{finding_at, first_of, first_found}
+use Rattle.game_parts.proofs.SummedFindings.{first_next, taken_later, taken_first}
+use Rattle.game_parts.proofs.part_search.sum_up.Goals as goal
+use Rattle.game_parts.proofs.part_search.sum_up.Goals.{then-is_none, else-is_none}
 
 pub loop-finding-preserved : goal.loop-finding-preserved
 loop-finding-preserved c =
