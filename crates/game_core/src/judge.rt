@@ -2,7 +2,7 @@ use crate::game::Forward;
 
 /// Judges the cells of a game: which are right, which wrong.
 pub trait CellJudge {
-    ghost use Rattle.std.specs.Prelude.{◌≡◌, ℕ, ◌<◌, ◌≤◌};
+    ghost use Rattle.std.specs.Prelude.{ℕ, ◌≤◌};
     ghost use Rattle.game_core.specs.Game.{Game};
     ghost use Rattle.game_core.specs.Judging.{IsSameAt, IsFirstFailure};
 
