@@ -1,9 +1,1 @@
 pub mod GameSources
-pub mod PlantGame
-pub mod BoxCorners
-pub mod PassingBoxes
-pub mod PaddedBoxes
-pub mod PartGames
-pub mod PartFindings
-pub mod SummedFindings
-pub mod PartSteps

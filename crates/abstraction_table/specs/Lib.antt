@@ -1,4 +1,1 @@
-pub mod GameParts
 pub mod Table
-pub mod Faults
-pub mod inside

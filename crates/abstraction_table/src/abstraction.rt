@@ -1,5 +1,5 @@
-ghost use Rattle.source_lists.specs.SourceLists.{AreSourceBands};
-ghost use Rattle.abstraction_table.specs.inside.Props.{box_props};
+ghost use Rattle.plant_game.specs.inside.Props.{box_props};
+ghost use Rattle.source_lists.specs.SourceLists.{AreSourcesOf};
 
 use crate::boxed_game::BoxedGame;
 use game_core::{Graph, Mark};
@@ -11,7 +11,7 @@ use source_lists::Sources;
 pub struct Abstraction {
     pub(crate) boxed: BoxedGame,
     pub(crate) sources: Sources,
-    ghost in_memory: { AreSourceBands boxed.grid boxed.boxes sources.size sources.groups.items sources.bands.items } by { Prim.hlevel box_props },
+    ghost in_memory: { AreSourcesOf boxed.grid boxed.boxes sources } by { Prim.hlevel box_props },
 }
 
 impl Abstraction {

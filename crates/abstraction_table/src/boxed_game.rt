@@ -1,8 +1,8 @@
 ghost use Rattle.std.specs.Prelude.{◌≡◌, ◌<◌, length, slice_index};
 ghost use Rattle.grid_quantiser.specs.CellBoxes.{IsCellBox, cells_between};
-ghost use Rattle.source_lists.specs.Fans.{HasFan};
-ghost use Rattle.abstraction_table.specs.inside.StoredGame.{IsBoxGame};
-ghost use Rattle.abstraction_table.specs.inside.Props.{box_props};
+ghost use Rattle.plant_game.specs.BoxGame.{IsBoxGraph};
+ghost use Rattle.source_lists.specs.Fans.{counts_of, HasFan, AreFansOf};
+ghost use Rattle.source_lists.specs.inside.Props.{shape_props};
 
 use game_core::Mark;
 use grid_quantiser::{CellBox, Grid};
@@ -19,7 +19,8 @@ pub(crate) struct BoxedGame {
     pub(crate) marks: Vec<Mark>,
     pub(crate) boxes: RawList<PairBox>,
     pub(crate) fans: Fans,
-    ghost in_memory: { IsBoxGame grid inputs marks.items boxes fans.counts.items } by { Prim.hlevel box_props },
+    ghost in_memory: { IsBoxGraph grid inputs marks.items boxes } by { Prim.hlevel shape_props },
+    ghost counted: { AreFansOf grid boxes (counts_of fans) } by { Prim.hlevel shape_props },
 }
 
 impl BoxedGame {
@@ -79,7 +80,7 @@ impl BoxedGame {
     #[inline]
     fn cell_of(&self, b: CellBox, at: u32) -> u32
         requires ordered { IsCellBox self.now.grid b.first b.last }
-        requires counted { HasFan self.now.grid self.now.fans.counts.items b }
+        requires counted { HasFan self.now.grid (counts_of self.now.fans) b }
         requires at { at < length (cells_between self.now.grid b.first b.last) }
         ensures { result ≡ slice_index (cells_between self.now.grid b.first b.last) at }
     {

@@ -3,17 +3,16 @@ ghost use Rattle.std.specs.Prelude.{◌≡◌, IfOk, IfErr};
 ghost use Rattle.successor_box.specs.Deviations.{HasNoOverflow, deviations_of};
 ghost use Rattle.plant_game.specs.Abstraction.{IsGameOf};
 ghost use Rattle.pair_box.specs.PlantBoxes.{AreBoxesOf};
-ghost use Rattle.abstraction_table.specs.Faults.{IsFaultOf};
+ghost use Rattle.plant_game.specs.Faults.{IsFaultOf};
 ghost use Rattle.abstraction_table.specs.Table.{game_in, game_of, boxes_of, forward_game, boxes_forward};
 
 use crate::abstraction::Abstraction;
 use crate::boxed_game::BoxedGame;
-use crate::build_fault::BuildFault;
 use crate::forward::ForwardAbstraction;
 use base::limits::EDGES_LIMIT;
 use game_core::NoMemory;
 use pair_boxes::build_boxes;
-use plant_game::build_marks;
+use plant_game::{BuildFault, build_marks};
 use plant_record::Plant;
 use source_lists::{build_shapes, build_sources, count_fans};
 use std::alloc::Global;
@@ -93,7 +92,7 @@ fn build_game<R: Threads + Sync>(
     let grid = *p.grid();
     let boxes = build_boxes(rt, alloc, sampled)?;
     let fans = count_fans(rt, alloc, &grid, boxes.as_slice())?;
-    let edges = fans.edges;
+    let edges = fans.edges();
     if edges > EDGES_LIMIT {
         return Err(BuildFault::TooManyEdges { edges });
     }

@@ -1,17 +1,17 @@
-ghost use Rattle.abstraction_table.specs.inside.Props.{box_props};
+ghost use Rattle.source_lists.specs.inside.Props.{shape_props};
 ghost use Rattle.source_lists.specs.Shapes.{EachBoxHasSegments};
 
 use crate::boxed_game::BoxedGame;
 use game_core::{CellTest, Forward, Mark};
 use grid_quantiser::CellBox;
-use source_lists::{Shapes, all_pass};
+use source_lists::Shapes;
 
 /// The forward abstraction: the game of a plant by its boxes, with their segments.
 #[derive(Drop)]
 pub struct ForwardAbstraction {
     pub(crate) boxed: BoxedGame,
     pub(crate) shapes: Shapes,
-    ghost listed: { EachBoxHasSegments boxed.grid shapes boxed.boxes } by { Prim.hlevel box_props },
+    ghost listed: { EachBoxHasSegments boxed.grid shapes boxed.boxes } by { Prim.hlevel shape_props },
 }
 
 impl ForwardAbstraction {
@@ -54,14 +54,8 @@ impl Forward for ForwardAbstraction {
         self.boxed.successor(pair, at)
     }
 
-    /// The corners of a box come first, since they mostly show that not all of its cells pass.
     fn leads_only_to<T: CellTest>(&self, pair: u32, test: &T) -> bool {
-        let Some(b) = self.boxes(pair) else {
-            return false;
-        };
-        test.passes(b.last)
-            && test.passes(b.first)
-            && all_pass(b.first, self.shapes.segments_of(b), test)
+        self.shapes.box_passes(self.boxes(pair), test)
     }
 
     ghost lawful = { λ o. o.boxed.in_memory.graph };

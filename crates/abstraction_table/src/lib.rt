@@ -3,19 +3,15 @@
 //! The layer above gives a plant with its deviations, and gets the plant's game, or the exact number of its edges if
 //! these are too many. `build_forward` gives a `Forward`: a box of cells for each pair, whose cells are the pair's successors.
 //! `build` gives a `Graph`, which also keeps, for each cell, the pairs that lead to it; `add_sources` makes a `Graph`
-//! from what `build_forward` gave. `find_first_wrong` judges the cells of the game, and keeps only the boxes of some.
+//! from what `build_forward` gave.
 #![tactic(auto)]
 
 mod abstraction;
 mod boxed_game;
-mod build_fault;
 mod builders;
 mod forward;
-mod game_part;
-mod part_search;
 
 pub use abstraction::Abstraction;
-pub use build_fault::BuildFault;
 pub use builders::{add_sources, build, build_forward};
 pub use forward::ForwardAbstraction;
-pub use part_search::{CellJudge, find_first_wrong};
+pub use plant_game::BuildFault;

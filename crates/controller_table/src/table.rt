@@ -122,7 +122,8 @@ impl Table {
         })
     }
 
-    pub(crate) fn answer(&self) -> &Answer
+    /// An optional row for each cell.
+    pub fn answer(&self) -> &Answer
         ensures rows { result.now ≡ self.now.rows }
         ensures fit { RowsFit self.now.plant result.now }
     {

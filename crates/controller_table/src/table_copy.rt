@@ -1,6 +1,6 @@
 //! Copies of what a table holds.
 
-ghost use Rattle.std.specs.Prelude.{◌≡◌, ◌^◌, ◌≤◌, length, IfOk};
+ghost use Rattle.std.specs.Prelude.{◌≡◌, ◌≤◌, length, IfOk};
 ghost use Rattle.plant_record.specs.Limits.{IsWithinLimits};
 ghost use Rattle.base.specs.declared.limits.TheConstants.{CELLS_LIMIT};
 

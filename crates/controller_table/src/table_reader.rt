@@ -1,4 +1,4 @@
-ghost use Rattle.std.specs.Prelude.{◌≡◌, ◌≢◌, IfOk, IfErr};
+ghost use Rattle.std.specs.Prelude.{◌≢◌, IfOk, IfErr};
 ghost use Rattle.controller_table.specs.declared.table_fault.TableFault.TheVariants.{Memory};
 ghost use Rattle.controller_table.specs.Tables.{IsTableIn};
 ghost use Rattle.controller_table.specs.TableRefusals.{IsTableRefusedFor};

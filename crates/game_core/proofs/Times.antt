@@ -1,5 +1,5 @@
 -- Sums of counts, and edges counted from both ends.
-use Rattle.std.proofs.Common.{inl, inr, ◌≢◌, ℕ, suc, List, [], AllPairs, arith, sym, ◌∙◌}
+use Rattle.std.proofs.Common.{inl, inr, ◌≢◌, ℕ, List, [], AllPairs, arith, sym, ◌∙◌}
 use Rattle.std.specs.List.Sorted.{IsStrictlyIncreasing}
 use Rattle.std.proofs.lemmas.Bool.{cases_lt}
 use Rattle.std.proofs.lemmas.List.Kept.{AllPairs-from_increasing}

@@ -1,6 +1,6 @@
 -- A finite game of a controller against disturbances: a mark for each cell, and for each pair of a
 -- cell and an input the cells that may come next (a symbolic model, as in Reissig, Weber and Rungger, 2017, section V).
-use Rattle.std.specs.Prelude.{◌≡◌, ◌≢◌, ℕ, ◌+◌, ◌*◌, ◌^◌, ◌<◌, ◌≤◌, ◌↔◌, List, [], length, slice_index_or, sum_by}
+use Rattle.std.specs.Prelude.{◌≡◌, ◌≢◌, ℕ, ◌+◌, ◌*◌, ◌<◌, ◌≤◌, ◌↔◌, List, [], length, slice_index_or, sum_by}
 use Rattle.std.specs.List.{All, Contains}
 use Rattle.std.specs.List.Sorted.{IsStrictlyIncreasing}
 use Rattle.game_core.specs.declared.game.Mark.{Mark}

@@ -2,6 +2,7 @@ pub mod Game
 pub mod Strategy
 pub mod Solution
 pub mod Right
+pub mod Judging
 pub mod Keep
 pub mod Fallen
 pub mod Counts

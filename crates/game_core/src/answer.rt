@@ -1,4 +1,4 @@
-ghost use Rattle.std.specs.Prelude.{◌≡◌, ◌^◌, ◌<◌, ◌≤◌, None, replicate, length, slice_set, count_by, IfOk};
+ghost use Rattle.std.specs.Prelude.{◌≡◌, ◌<◌, ◌≤◌, None, replicate, length, slice_set, count_by, IfOk};
 ghost use Rattle.std.specs.Option.{is_some};
 ghost use Rattle.game_core.specs.Solution.{row_of};
 ghost use Rattle.base.specs.declared.limits.TheConstants.{CELLS_LIMIT};
@@ -15,7 +15,7 @@ pub struct Answer {
 }
 
 impl Model for Answer {
-    ghost use Rattle.std.specs.Prelude.{List, Option, length, ◌≤◌, ◌^◌};
+    ghost use Rattle.std.specs.Prelude.{List, Option, length, ◌≤◌};
     ghost use Rattle.game_core.specs.declared.game.Row.{Row};
     ghost use Rattle.base.specs.declared.limits.TheConstants.{CELLS_LIMIT};
 

@@ -4,13 +4,14 @@
 //! reach solution: for each cell that can be won the least depth of a winning strategy, and the input to apply.
 //! `keep_plain` returns the keep solution: the cells from which the controller can go on for ever, with an input.
 //! `laws` says what solutions promise, that a game has at most one of each, and that rows whose cells are right one by
-//! one are a solution.
+//! one are a solution. A `CellJudge` finds the first wrong cell of a game.
 #![tactic(auto)]
 
 mod answer;
 mod falling;
 mod fan_counts;
 mod game;
+mod judge;
 pub mod laws;
 mod plain;
 mod remark;
@@ -20,6 +21,7 @@ mod tally;
 pub use answer::Answer;
 pub use base::NoMemory;
 pub use game::{CellTest, Forward, Graph, Mark, Row};
+pub use judge::CellJudge;
 pub use plain::{keep_plain, solve_plain};
 pub use remark::Remark;
 pub use tally::Tally;

@@ -1,5 +1,5 @@
 ghost use Rattle.std.specs.Prelude.{◌≡◌, length};
-ghost use Rattle.game_core.specs.Game.{Game, with_marks};
+ghost use Rattle.game_core.specs.Game.{with_marks};
 ghost use Rattle.game_core.specs.inside.Remarks.{remarked_lawful};
 
 use crate::game::{Graph, Mark};

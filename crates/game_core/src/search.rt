@@ -1,4 +1,4 @@
-ghost use Rattle.std.specs.Prelude.{◌≡◌, ◌+◌, ◌*◌, ◌<◌, None, length, slice_index, IfOk};
+ghost use Rattle.std.specs.Prelude.{◌≡◌, ◌+◌, ◌<◌, None, length, slice_index, IfOk};
 ghost use Rattle.game_core.specs.Game.{pairs_of};
 ghost use Rattle.game_core.specs.Solution.{row_of, rank_at};
 ghost use Rattle.game_core.specs.inside.Search.{search_at_first, with_row, with_offer, with_pair_done, after_cut, IsGathered, IsSearched};

@@ -6,3 +6,4 @@ pub mod PlantMarks
 pub mod Refining
 pub mod GameLaws
 pub mod BoxGames
+pub mod BoxCorners

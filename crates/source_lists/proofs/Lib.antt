@@ -12,3 +12,4 @@ pub mod Segments
 pub mod ListedShapes
 pub mod AddedShapes
 pub mod PassingCells
+pub mod PassingBoxes

@@ -19,10 +19,10 @@ use Rattle.source_lists.specs.Shapes.{cells_from, EndsBy, range_at, segments_at,
 use Rattle.source_lists.specs.inside.ListedSegments.{KeepsSegments, ListsSegments}
 use Rattle.plant_game.specs.BoxGame.{IsBox}
 use Rattle.source_lists.specs.inside.Tallies.{slots_in}
-use Rattle.plant_game.proofs.BoxGames.{boxes_have_cells}
 use Rattle.source_lists.proofs.BelowBoxes.{cells_lie_between_corners, boxes_are_shifted_shapes}
 use Rattle.source_lists.proofs.Tallying.{by_cell}
 use Rattle.source_lists.proofs.BandSlots.{slots-append, segment_inside}
+use Rattle.source_lists.proofs.PassingBoxes.{segments_end_below}
 use Rattle.source_lists.proofs.Segments.{cells-append, one_segment_more, segments_end}
 use Rattle.base.proofs.Ranges.{map-add-range}
 
@@ -148,10 +148,8 @@ have_segments axes s boxes fans grid ordered has counted = λ k d lt. segments_f
 pub box_segments_end : (axes : List Axis) (s : Shapes) (o : Option CellBox) (b : CellBox) → o ≡ Some b → AreAxes axes → cells_of axes ≤ 2 ^ 20 → IsBox axes o → IfSome o (HasSegmentsOf axes s) →
     (segments : List Segment) → segments ≡ segments_at s (b.last - b.first) → All (EndsBy (2 ^ 20) b.first) segments
 box_segments_end axes s o b is grid limit ordered has segments same =
-    let h : HasSegmentsOf axes s b = subst (λ (o : Option CellBox). IfSome o (HasSegmentsOf axes s)) is has in
-    let cells = boxes_have_cells axes b.first b.last grid (subst (IsBox axes) is ordered) in
-    let below : All (λ c. c < 2 ^ 20) (cells_between axes b.first b.last) = λ k d lt. omega (arith, cells.within k d lt, limit) in
-    rw same (segments_end (2 ^ 20) b.first (segments_at s (b.last - b.first)) h.some (subst (All (λ c. c < 2 ^ 20)) h.cells below))
+    let ends = segments_end_below axes o b is grid ordered s has in
+    rw same (λ k d lt. omega (arith, ends k d lt, limit))
 
 -- ---- segments that are cut to a band
 

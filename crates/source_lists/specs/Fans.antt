@@ -6,6 +6,15 @@ use Rattle.grid_quantiser.specs.declared.boxes.CellBox.{CellBox}
 use Rattle.grid_quantiser.specs.Axes.{cells_of}
 use Rattle.grid_quantiser.specs.CellBoxes.{IsCellBox, cells_between}
 use Rattle.plant_game.specs.BoxGame.{edges_of}
+use Rattle.source_lists.specs.declared.fans.Fans.{Fans}
+
+-- the counts of the distances
+abbrev pub counts_of : Fans → List ℕ
+counts_of fans = fans.counts.items
+
+-- how many cells all boxes have
+abbrev pub edges_counted : Fans → ℕ
+edges_counted fans = fans.edges
 
 -- the count at the distance of a box, and 0 where there is no box
 abbrev pub fan_of : List ℕ → Option CellBox → ℕ

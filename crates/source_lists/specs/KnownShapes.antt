@@ -1,10 +1,12 @@
 -- Shapes that are counted and listed when they first come.
-use Rattle.std.specs.Prelude.{ℕ, ◌≤◌, List, length}
+use Rattle.std.specs.Prelude.{ℕ, ◌≤◌, List, length, Option}
 use Rattle.grid_quantiser.specs.declared.axis.Axis.{Axis}
+use Rattle.grid_quantiser.specs.declared.boxes.CellBox.{CellBox}
 use Rattle.grid_quantiser.specs.Axes.{cells_of}
 use Rattle.source_lists.specs.declared.shapes.Shapes.{Shapes}
+use Rattle.source_lists.specs.declared.known_shapes.KnownShapes.{KnownShapes}
 use Rattle.source_lists.specs.Fans.{AreShapes}
-use Rattle.source_lists.specs.Shapes.{EachShapeHasSegments}
+use Rattle.source_lists.specs.Shapes.{EachBoxHasSegments, EachShapeHasSegments}
 use Rattle.base.specs.declared.limits.TheConstants.{EDGES_LIMIT}
 
 -- After boxes with so many edges the shapes are counted, and listed if these aren't too many.
@@ -13,3 +15,23 @@ pub record AreKnown (axes : List Axis) (edges : ℕ) (fans : List ℕ) (s : Shap
   pub shapes_are : AreShapes axes fans
   pub few : length s.segments.items ≤ edges
   pub listed : edges ≤ EDGES_LIMIT → EachShapeHasSegments axes s fans
+
+-- how many edges the boxes so far have
+abbrev pub edges_known : KnownShapes → ℕ
+edges_known known = known.fans.edges
+
+-- the segments of the shapes so far
+abbrev pub shapes_known : KnownShapes → Shapes
+shapes_known known = known.shapes
+
+-- the boxes so far don't have too many edges
+abbrev pub HasFewEdges : KnownShapes → Type 0
+HasFewEdges known = edges_known known ≤ EDGES_LIMIT
+
+-- unless there are too many edges, each of some boxes has its segments among those of the shapes so far
+abbrev pub KnowsBoxes : List Axis → KnownShapes → List (Option CellBox) → Type 0
+KnowsBoxes axes known boxes = HasFewEdges known → EachBoxHasSegments axes (shapes_known known) boxes
+
+-- the shapes of boxes with so many edges are known
+abbrev pub Knows : List Axis → ℕ → KnownShapes → Type 0
+Knows axes edges known = AreKnown axes edges known.fans.counts.items known.shapes

@@ -1,9 +1,11 @@
 -- The segments of the cells of boxes, listed by the shapes of the boxes.
-use Rattle.std.specs.Prelude.{◌≡◌, ℕ, ◌+◌, ◌-◌, ◌<◌, ◌≤◌, List, take, drop, length, slice_index, slice_index_or, Option, IfSome}
+use Rattle.std.specs.Prelude.{◌≡◌, ℕ, ◌+◌, ◌-◌, ◌<◌, ◌≤◌, List, [], take, drop, length, slice_index, slice_index_or, Option, Some, None, IfSome}
 use Rattle.std.specs.List.{All, flat_map, range_with_len}
 use Rattle.grid_quantiser.specs.declared.axis.Axis.{Axis}
 use Rattle.grid_quantiser.specs.declared.boxes.CellBox.{CellBox}
+use Rattle.grid_quantiser.specs.Axes.{AreAxes, cells_of}
 use Rattle.grid_quantiser.specs.CellBoxes.{cells_between}
+use Rattle.plant_game.specs.BoxGame.{IsBox}
 use Rattle.source_lists.specs.declared.shapes.Segment.{Segment}
 use Rattle.source_lists.specs.declared.shapes.SegmentRange.{SegmentRange}
 use Rattle.source_lists.specs.declared.shapes.Shapes.{Shapes}
@@ -50,3 +52,16 @@ EachBoxHasSegments axes s boxes = All (λ b. IfSome b (HasSegmentsOf axes s)) bo
 -- each shape whose cells are counted has its segments
 abbrev pub EachShapeHasSegments : List Axis → Shapes → List ℕ → Type 0
 EachShapeHasSegments axes s fans = (distance : ℕ) → 1 ≤ slice_index fans distance → HasSegmentsAt axes s distance
+
+-- the cells of the segments of a box, where there is one
+abbrev pub cells_listed : Shapes → Option CellBox → List ℕ
+cells_listed s None = []
+cells_listed s (Some b) = cells_from b.first (segments_at s (b.last - b.first))
+
+-- On some grid of so many cells a box has its segments, where there is one.
+pub record IsListedBox (s : Shapes) (cells : ℕ) (b : Option CellBox) : Type 0 where
+  pub axes : List Axis
+  pub grid : AreAxes axes
+  pub all_cells : cells ≡ cells_of axes
+  pub ordered : IsBox axes b
+  pub segments : IfSome b (HasSegmentsOf axes s)

@@ -8,6 +8,7 @@ use Rattle.edge_rows.specs.Rows.{row_at}
 use Rattle.successor_box.specs.SuccessorBoxes.{cells_in}
 use Rattle.pair_box.specs.PlantBoxes.{box_at}
 use Rattle.source_lists.specs.declared.cuts.Group.{Group}
+use Rattle.source_lists.specs.declared.sources.Sources.{Sources}
 
 -- whether the box of a pair has a cell
 abbrev pub leads_to : List Axis → List (Option CellBox) → ℕ → ℕ → Bool
@@ -41,3 +42,19 @@ pub record HasRow (size : ℕ) (groups : List Group) (bands : List (List (List �
 pub record AreSourceBands (axes : List Axis) (boxes : List (Option CellBox)) (size : ℕ) (groups : List Group) (bands : List (List (List ℕ))) : Type 0 where
   pub inside : (c : ℕ) → c < cells_of axes → HasRow size groups bands c
   pub each : (c : ℕ) → c < cells_of axes → row_at (band_of size groups bands c) (slot_in_band size groups c) ≡ sources_among axes boxes (length boxes) c
+
+-- these hold for each cell the pairs that lead to it
+abbrev pub AreSourcesOf : List Axis → List (Option CellBox) → Sources → Type 0
+AreSourcesOf axes boxes s = AreSourceBands axes boxes s.size s.groups.items s.bands.items
+
+-- there is a row for a cell
+abbrev pub HasRowFor : Sources → ℕ → Type 0
+HasRowFor s c = HasRow s.size s.groups.items s.bands.items c
+
+-- the row of a cell
+abbrev pub row_for : Sources → ℕ → List ℕ
+row_for s c = row_at (band_of s.size s.groups.items s.bands.items c) (slot_in_band s.size s.groups.items c)
+
+-- how many bands there are
+abbrev pub bands_in : Sources → ℕ
+bands_in s = length s.bands.items

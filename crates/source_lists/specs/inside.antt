@@ -6,4 +6,5 @@ pub mod FanCounts
 pub mod IntakeLaws
 pub mod Intakes
 pub mod ListedSegments
+pub mod Props
 pub mod Tallies

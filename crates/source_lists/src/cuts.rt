@@ -47,7 +47,7 @@ pub(crate) struct Cuts {
 
 /// The band in which the cells of a group lie, and the first cell of that band.
 #[derive(Clone, Copy)]
-pub struct Group {
+pub(crate) struct Group {
     pub band: u32,
     pub from: u32,
 }

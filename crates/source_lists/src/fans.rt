@@ -3,7 +3,7 @@ ghost use Rattle.std.specs.Prelude.{◌≡◌, ◌+◌, ◌-◌, ◌*◌, ◌^�
 ghost use Rattle.std.specs.List.{All};
 ghost use Rattle.grid_quantiser.specs.Axes.{cells_of, AreAxes};
 ghost use Rattle.successor_box.specs.SuccessorBoxes.{cells_in};
-ghost use Rattle.source_lists.specs.Fans.{fan_of, IsCounted, ShapeIsCounted, AreShapes, AreFansOf};
+ghost use Rattle.source_lists.specs.Fans.{counts_of, edges_counted, fan_of, IsCounted, ShapeIsCounted, AreShapes, AreFansOf};
 ghost use Rattle.source_lists.specs.inside.FanCounts.{Reaches, KeepsFans, AreSameBut, AreMerged, CountBoxes};
 ghost use Rattle.plant_game.specs.BoxGame.{IsBox, edges_of};
 ghost use Rattle.source_lists.specs.declared.fans.TheConstants.{BOXES_FOR_A_PART, PARTS_LIMIT};
@@ -26,18 +26,25 @@ const PARTS_LIMIT: usize = 8;
 #[derive(Drop)]
 pub struct Fans {
     /// One for each such distance up to the greatest, 0 where no box has it.
-    pub counts: Vec<u32>,
+    pub(crate) counts: Vec<u32>,
     /// Of all boxes together.
-    pub edges: u64,
+    pub(crate) edges: u64,
 }
 
 impl Fans {
+    /// How many cells all boxes have.
+    pub fn edges(&self) -> u64
+        ensures { result ≡ edges_counted self.now }
+    {
+        self.edges
+    }
+
     /// How many cells a box has.
     #[inline]
     pub fn fan_of_box(&self, b: Option<CellBox>) -> u32
         requires ordered { IfSome b (λ b. b.first ≤ b.last) }
-        requires within { IfSome b (λ b. b.last - b.first < length self.now.counts.items) }
-        ensures { result ≡ fan_of self.now.counts.items b }
+        requires within { IfSome b (λ b. b.last - b.first < length (counts_of self.now)) }
+        ensures { result ≡ fan_of (counts_of self.now) b }
     {
         match b {
             Some(b) => self.counts[(b.last - b.first) as usize],
@@ -130,8 +137,8 @@ pub fn count_fans<R: Threads + Sync>(
     requires grid { AreAxes grid.now }
     requires ordered { All (IsBox grid.now) boxes.now }
     requires limit { length boxes.now ≤ PAIRS_LIMIT }
-    ensures fans { IfOk result (λ fans. AreFansOf grid.now boxes.now fans.counts.items) }
-    ensures edges { IfOk result (λ fans. fans.edges ≡ edges_of grid.now boxes.now) }
+    ensures fans { IfOk result (λ fans. AreFansOf grid.now boxes.now (counts_of fans)) }
+    ensures edges { IfOk result (λ fans. edges_counted fans ≡ edges_of grid.now boxes.now) }
 {
     let parts = part_count(rt, boxes.len());
     if parts == 1 {

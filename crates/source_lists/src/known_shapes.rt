@@ -1,11 +1,11 @@
 //! Shapes of boxes that come one after another.
-ghost use Rattle.std.specs.Prelude.{◌≡◌, ◌+◌, ◌-◌, ◌^◌, ◌<◌, ◌≤◌, length, Some, IfOk};
+ghost use Rattle.std.specs.Prelude.{◌≡◌, ◌+◌, ◌-◌, ◌^◌, ◌<◌, ◌≤◌, length, Some, IfOk, OnOk};
 ghost use Rattle.std.specs.List.{All};
 ghost use Rattle.grid_quantiser.specs.Axes.{cells_of, AreAxes};
 ghost use Rattle.successor_box.specs.SuccessorBoxes.{cells_in};
 ghost use Rattle.source_lists.specs.Fans.{ShapeIsCounted};
 ghost use Rattle.source_lists.specs.inside.FanCounts.{KeepsFans};
-ghost use Rattle.source_lists.specs.KnownShapes.{AreKnown};
+ghost use Rattle.source_lists.specs.KnownShapes.{Knows, KnowsBoxes, edges_known, shapes_known};
 ghost use Rattle.source_lists.specs.inside.ListedSegments.{HasRangeFor};
 ghost use Rattle.plant_game.specs.BoxGame.{IsBox, edges_of};
 ghost use Rattle.base.specs.declared.limits.TheConstants.{CELLS_LIMIT};
@@ -17,19 +17,19 @@ use grid_quantiser::{CellBox, Grid};
 use pair_box::PairBox;
 use std::alloc::{AllocError, Global};
 
-/// How many cells the shapes of the boxes so far have, and their segments. A shape is counted and listed with the first box
-/// that has it. Past the limit on edges no more are listed.
+/// How many cells the shapes of the boxes so far have, and their segments. A shape is counted and listed with the first
+/// box that has it. Past the limit on edges no more are listed.
 #[derive(Drop)]
 pub struct KnownShapes {
-    pub fans: Fans,
-    pub shapes: Shapes,
+    fans: Fans,
+    shapes: Shapes,
 }
 
 impl KnownShapes {
     /// Before the first box.
     pub fn new(alloc: Global, grid: &Grid) -> Result<KnownShapes, AllocError>
-        ensures edges { IfOk result (λ known. known.fans.edges ≡ 0) }
-        ensures known { IfOk result (λ known. AreKnown grid.now 0 known.fans.counts.items known.shapes) }
+        ensures edges { IfOk result (λ known. edges_known known ≡ 0) }
+        ensures known { IfOk result (Knows grid.now 0) }
     {
         let cells = grid.cells() as usize;
         let fans = Fans {
@@ -48,11 +48,11 @@ impl KnownShapes {
         requires grid { AreAxes grid.now }
         requires limit { cells_of grid.now ≤ CELLS_LIMIT }
         requires ordered { All (IsBox grid.now) boxes.now }
-        requires known { AreKnown grid.now self.old.fans.edges self.old.fans.counts.items self.old.shapes }
-        requires fits { self.old.fans.edges + edges_of grid.now boxes.now < 2 ^ 64 }
-        ensures edges { IfOk result (λ _. self.new.fans.edges ≡ self.old.fans.edges + edges_of grid.now boxes.now) }
-        ensures known { IfOk result (λ _. AreKnown grid.now self.new.fans.edges self.new.fans.counts.items self.new.shapes) }
-        ensures counted { IfOk result (λ _. All (ShapeIsCounted grid.now self.new.fans.counts.items) boxes.now) }
+        requires known { Knows grid.now (edges_known self.old) self.old }
+        requires fits { edges_known self.old + edges_of grid.now boxes.now < 2 ^ 64 }
+        ensures edges { IfOk result (λ _. edges_known self.new ≡ edges_known self.old + edges_of grid.now boxes.now) }
+        ensures known { IfOk result (λ _. Knows grid.now (edges_known self.new) self.new) }
+        ensures listed { OnOk result (KnowsBoxes grid.now self.new boxes.now) }
     {
         let mut edges = self.fans.edges;
         for b in boxes {
@@ -63,15 +63,29 @@ impl KnownShapes {
         Ok(())
     }
 
+    /// How many cells the boxes so far have.
+    pub fn edges(&self) -> u64
+        ensures { result ≡ edges_known self.now }
+    {
+        self.fans.edges
+    }
+
+    /// The segments of the shapes of these boxes.
+    pub fn shapes(&self) -> &Shapes
+        ensures { result.now ≡ shapes_known self.now }
+    {
+        &self.shapes
+    }
+
     /// How many cells a box has, which comes after so many edges.
     #[inline]
     fn add_box(&mut self, grid: &Grid, b: Option<CellBox>, edges: u64) -> Result<u32, AllocError>
         requires grid { AreAxes grid.now }
         requires limit { cells_of grid.now ≤ CELLS_LIMIT }
         requires ordered { IsBox grid.now b }
-        requires known { AreKnown grid.now edges self.old.fans.counts.items self.old.shapes }
+        requires known { Knows grid.now edges self.old }
         requires fits { edges + length (cells_in grid.now b) < 2 ^ 64 }
-        ensures known { IfOk result (λ cells. AreKnown grid.now (edges + cells) self.new.fans.counts.items self.new.shapes) }
+        ensures known { IfOk result (λ cells. Knows grid.now (edges + cells) self.new) }
         ensures kept { IfOk result (λ _. KeepsFans grid.now self.old.fans.counts.items self.new.fans.counts.items) }
         ensures counted { IfOk result (λ _. ShapeIsCounted grid.now self.new.fans.counts.items b) }
         ensures cells { IfOk result (λ cells. cells ≡ length (cells_in grid.now b)) }
@@ -94,9 +108,9 @@ impl KnownShapes {
         requires grid { AreAxes grid.now }
         requires limit { cells_of grid.now ≤ CELLS_LIMIT }
         requires ordered { IsBox grid.now (Some b) }
-        requires known { AreKnown grid.now edges self.old.fans.counts.items self.old.shapes }
+        requires known { Knows grid.now edges self.old }
         requires fits { edges + length (cells_in grid.now (Some b)) < 2 ^ 64 }
-        ensures known { IfOk result (λ cells. AreKnown grid.now (edges + cells) self.new.fans.counts.items self.new.shapes) }
+        ensures known { IfOk result (λ cells. Knows grid.now (edges + cells) self.new) }
         ensures kept { IfOk result (λ _. KeepsFans grid.now self.old.fans.counts.items self.new.fans.counts.items) }
         ensures counted { IfOk result (λ _. ShapeIsCounted grid.now self.new.fans.counts.items (Some b)) }
         ensures cells { IfOk result (λ cells. cells ≡ length (cells_in grid.now (Some b))) }

@@ -1,10 +1,10 @@
 //! The segments of the cells of boxes, listed once for all boxes of one shape.
-ghost use Rattle.std.specs.Prelude.{◌≡◌, ◌+◌, ◌-◌, ◌^◌, ◌<◌, ◌≤◌, ◌↔◌, IsTrue, length, sum, IfOk};
+ghost use Rattle.std.specs.Prelude.{◌≡◌, ◌≢◌, ◌+◌, ◌-◌, ◌<◌, ◌≤◌, ◌↔◌, IsTrue, [], length, sum, IfOk};
 ghost use Rattle.std.specs.List.{All, range_with_len};
 ghost use Rattle.grid_quantiser.specs.Axes.{cells_of};
 ghost use Rattle.grid_quantiser.specs.CellBoxes.{IsCellBox, cells_between};
-ghost use Rattle.source_lists.specs.Fans.{AreShapes};
-ghost use Rattle.source_lists.specs.Shapes.{cells_from, EndsBy, IsListed, segments_at, HasSegmentsAt, EachShapeHasSegments};
+ghost use Rattle.source_lists.specs.Fans.{counts_of, AreShapes};
+ghost use Rattle.source_lists.specs.Shapes.{cells_from, EndsBy, IsListed, segments_at, HasSegmentsAt, EachShapeHasSegments, cells_listed, IsListedBox};
 ghost use Rattle.source_lists.specs.inside.ListedSegments.{ListsSegments, KeepsSegments};
 ghost use Rattle.base.specs.declared.limits.TheConstants.{CELLS_LIMIT, EDGES_LIMIT};
 
@@ -16,16 +16,16 @@ use std::alloc::{AllocError, Global};
 /// Cells that follow one another: how far the first of them is from the first cell of their box, and
 /// how many they are.
 #[derive(Clone, Copy)]
-pub struct Segment {
-    pub start: u32,
-    pub len: u32,
+pub(crate) struct Segment {
+    pub(crate) start: u32,
+    pub(crate) len: u32,
 }
 
 /// Where the segments of a shape stand among those of all shapes.
 #[derive(Clone, Copy)]
-pub struct SegmentRange {
-    pub from: u32,
-    pub to: u32,
+pub(crate) struct SegmentRange {
+    pub(crate) from: u32,
+    pub(crate) to: u32,
 }
 
 /// What stands for a shape that isn't listed.
@@ -36,14 +36,28 @@ pub(crate) const NO_SEGMENTS: SegmentRange = SegmentRange { from: 0, to: 0 };
 #[derive(Drop)]
 pub struct Shapes {
     /// One for each such distance.
-    pub ranges: Vec<SegmentRange>,
-    pub segments: Vec<Segment>,
+    pub(crate) ranges: Vec<SegmentRange>,
+    pub(crate) segments: Vec<Segment>,
 }
 
 impl Shapes {
+    /// Whether there is a box, and each of its cells passes a test. The corners come first, since they mostly show that
+    /// not all pass.
+    #[inline]
+    pub fn box_passes<T: CellTest>(&self, b: Option<CellBox>, test: &T) -> bool
+        requires listed { IsListedBox self.now (T.cells test.now) b }
+        requires few { T.cells test.now ≤ CELLS_LIMIT }
+        ensures { IsTrue result ↔ (cells_listed self.now b ≢ []) × All (T.passes test.now) (cells_listed self.now b) }
+    {
+        let Some(b) = b else {
+            return false;
+        };
+        test.passes(b.last) && test.passes(b.first) && all_pass(b.first, self.segments_of(b), test)
+    }
+
     /// The segments of a box.
     #[inline]
-    pub fn segments_of(&self, b: CellBox) -> &[Segment]
+    pub(crate) fn segments_of(&self, b: CellBox) -> &[Segment]
         requires ordered { b.first ≤ b.last }
         requires listed { IsListed self.now (b.last - b.first) }
         ensures { result.now ≡ segments_at self.now (b.last - b.first) }
@@ -77,10 +91,10 @@ impl Shapes {
 /// The segments of the shapes whose cells are counted.
 pub fn build_shapes(alloc: Global, grid: &Grid, fans: &Fans) -> Result<Shapes, AllocError>
     requires limit { cells_of grid.now ≤ CELLS_LIMIT }
-    requires distances { length fans.now.counts.items ≤ cells_of grid.now }
-    requires shapes { AreShapes grid.now fans.now.counts.items }
-    requires few { sum fans.now.counts.items ≤ EDGES_LIMIT }
-    ensures { IfOk result (λ shapes. EachShapeHasSegments grid.now shapes fans.now.counts.items) }
+    requires distances { length (counts_of fans.now) ≤ cells_of grid.now }
+    requires shapes { AreShapes grid.now (counts_of fans.now) }
+    requires few { sum (counts_of fans.now) ≤ EDGES_LIMIT }
+    ensures { IfOk result (λ shapes. EachShapeHasSegments grid.now shapes (counts_of fans.now)) }
 {
     let mut shapes = Shapes {
         ranges: vec![in alloc; NO_SEGMENTS; fans.counts.len()]?,
@@ -106,7 +120,7 @@ fn push_segments(mut cells: Segments, segments: &mut Vec<Segment>) -> Result<(),
 
 /// Whether each cell of segments, counted from a first cell, passes a test.
 #[inline]
-pub fn all_pass<T: CellTest>(first: u32, segments: &[Segment], test: &T) -> bool
+fn all_pass<T: CellTest>(first: u32, segments: &[Segment], test: &T) -> bool
     requires within { All (EndsBy (T.cells test.now) first) segments.now }
     requires few { T.cells test.now ≤ CELLS_LIMIT }
     ensures { IsTrue result ↔ All (T.passes test.now) (cells_from first segments.now) }

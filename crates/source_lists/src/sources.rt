@@ -1,15 +1,14 @@
 //! The pairs that lead to each cell.
-ghost use Rattle.std.specs.Prelude.{◌≡◌, ℕ, ◌+◌, ◌<◌, ◌≤◌, length, IfOk, IfSome};
+ghost use Rattle.std.specs.Prelude.{◌≡◌, ◌+◌, ◌<◌, ◌≤◌, length, IfOk};
 ghost use Rattle.std.specs.List.{All};
 ghost use Rattle.grid_quantiser.specs.Axes.{cells_of, AreAxes};
-ghost use Rattle.edge_rows.specs.Rows.{row_at};
 ghost use Rattle.source_lists.specs.declared.cuts.TheConstants.{BANDS_LIMIT};
 ghost use Rattle.source_lists.specs.inside.BandCuts.{AreCutsOf};
 ghost use Rattle.source_lists.specs.inside.CellRanges.{AreRangesOf};
-ghost use Rattle.source_lists.specs.Fans.{AreFansOf};
+ghost use Rattle.source_lists.specs.Fans.{counts_of, AreFansOf};
 ghost use Rattle.source_lists.specs.Shapes.{EachBoxHasSegments};
 ghost use Rattle.plant_game.specs.BoxGame.{IsBox, edges_of};
-ghost use Rattle.source_lists.specs.SourceLists.{AreSourceBands, HasRow, band_of, slot_in_band};
+ghost use Rattle.source_lists.specs.SourceLists.{AreSourcesOf, HasRowFor, row_for, bands_in};
 ghost use Rattle.source_lists.specs.inside.BandRows.{HasBandRows, HoldBands};
 ghost use Rattle.base.specs.declared.limits.TheConstants.{CELLS_LIMIT, EDGES_LIMIT, PAIRS_LIMIT};
 
@@ -28,16 +27,16 @@ use std::thread::Threads;
 /// The pairs that lead to each cell, in bands of whole groups of `size` cells.
 #[derive(Drop)]
 pub struct Sources {
-    pub size: u32,
-    pub groups: Vec<Group>,
-    pub bands: Vec<Rows>,
+    pub(crate) size: u32,
+    pub(crate) groups: Vec<Group>,
+    pub(crate) bands: Vec<Rows>,
 }
 
 impl Sources {
     /// The pairs that lead to a cell, in rising order.
     pub fn row(&self, c: u32) -> &[u32]
-        requires { HasRow self.now.size self.now.groups.items self.now.bands.items c }
-        ensures { result.now ≡ row_at (band_of self.now.size self.now.groups.items self.now.bands.items c) (slot_in_band self.now.size self.now.groups.items c) }
+        requires { HasRowFor self.now c }
+        ensures { result.now ≡ row_for self.now c }
     {
         let group = self.groups[(c / self.size) as usize];
         self.bands[group.band as usize].row(c - group.from)
@@ -55,12 +54,12 @@ pub fn build_sources<R: Threads + Sync>(
 ) -> Result<Sources, NoMemory>
     requires grid { AreAxes grid.now }
     requires ordered { All (IsBox grid.now) boxes.now }
-    requires counted { AreFansOf grid.now boxes.now fans.now.counts.items }
+    requires counted { AreFansOf grid.now boxes.now (counts_of fans.now) }
     requires segments { EachBoxHasSegments grid.now shapes.now boxes.now }
     requires pairs { length boxes.now ≤ PAIRS_LIMIT }
     requires edges { edges_of grid.now boxes.now ≤ EDGES_LIMIT }
-    ensures each { IfOk result (λ s. AreSourceBands grid.now boxes.now s.size s.groups.items s.bands.items) }
-    ensures few { IfOk result (λ s. length s.bands.items ≤ BANDS_LIMIT) }
+    ensures each { IfOk result (AreSourcesOf grid.now boxes.now) }
+    ensures few { IfOk result (λ s. bands_in s ≤ BANDS_LIMIT) }
 {
     let cuts = build_cuts(rt, alloc, grid.cells(), boxes, fans)?;
     let groups = cuts.groups(alloc, grid.cells())?;

@@ -6,8 +6,8 @@ use Rattle.controller_table.specs.declared.table_fault.TableFault.{TableFault}
 use Rattle.controller_table.specs.declared.table_fault.TableFault.TheVariants as tables
 use Rattle.successor_box.specs.declared.slope_fault.SlopeFault.{SlopeFault}
 use Rattle.successor_box.specs.declared.slope_fault.SlopeFault.TheVariants as slopes
-use Rattle.abstraction_table.specs.declared.build_fault.BuildFault.{BuildFault}
-use Rattle.abstraction_table.specs.declared.build_fault.BuildFault.TheVariants as builds
+use Rattle.plant_game.specs.declared.build_fault.BuildFault.{BuildFault}
+use Rattle.plant_game.specs.declared.build_fault.BuildFault.TheVariants as builds
 use Rattle.run_devices.specs.declared.transfer.ReadFault.{ReadFault}
 use Rattle.run_devices.specs.declared.transfer.ReadFault.TheVariants as reads
 use Rattle.command_line.specs.declared.outcome.Failure.TheVariants.{Read, Write, Memory}

@@ -1,6 +1,6 @@
 use Rattle.std.proofs.Common.{◌≡◌, ◌+◌, length, get_or, sym, ap, ◌∙◌}
 use Rattle.grid_quantiser.specs.CellBoxes.{cells_between}
-use Rattle.abstraction_table.proofs.BoxCorners.{first_corner, last_corner}
+use Rattle.plant_game.proofs.BoxCorners.{first_corner, last_corner}
 use Rattle.abstraction_table.proofs.boxed_game.BoxedGame.cell_of.Goals as goal
 
 pub returns-then-at-eq0 : goal.returns-then-at-eq0

@@ -1,10 +1,10 @@
-use Rattle.std.proofs.Common.{Option, None, length, ap, subst, ◌∙◌, arith}
+use Rattle.std.proofs.Common.{All, Option, None, length, ap, subst, ◌∙◌, arith}
 use Rattle.std.proofs.lemmas.List.{get_or_default}
 use Rattle.std.proofs.lemmas.List.Sums.{sum_by_more_le}
 use Rattle.grid_quantiser.specs.declared.boxes.CellBox.{CellBox}
 use Rattle.successor_box.specs.SuccessorBoxes.{cells_in}
 use Rattle.source_lists.specs.Fans.{ShapeIsCounted}
-use Rattle.source_lists.proofs.AddedShapes.{added_more}
+use Rattle.source_lists.proofs.AddedShapes.{added_more, all_segments_known}
 use Rattle.source_lists.proofs.SourceSteps.{kept_box}
 use Rattle.source_lists.proofs.known_shapes.KnownShapes.add.Goals as goal
 
@@ -28,7 +28,10 @@ loop-b-preserved c =
     (added_more axes boxes c.loop-b.b-index c.args.self.now.fans.edges c.loop-b.edges c.in_ok-cells.cells c.loop-b.self.fans.counts.items c.add_box.new.self.fans.counts.items c.loop-b.self.shapes c.add_box.new.self.shapes c.loop-b-test.true c.loop-b.invariant
     added.known added.kept counted cells)
 
-pub returns-clause-counted : goal.returns-clause-counted
-returns-clause-counted c = λ k d lt.
+pub returns-clause-listed : goal.returns-clause-listed
+returns-clause-listed c = λ few.
+    let axes = c.args.grid.now in
     let boxes = c.args.boxes.now in
-    subst (ShapeIsCounted c.args.grid.now c.loop-b.self.fans.counts.items) (get_or_default boxes k None d lt) (c.loop-b.invariant.counted k (omega (arith, lt, c.loop-b-test.false)))
+    let counts = c.loop-b.self.fans.counts.items in
+    let counted : All (ShapeIsCounted axes counts) boxes = λ k d lt. subst (ShapeIsCounted axes counts) (get_or_default boxes k None d lt) (c.loop-b.invariant.counted k (omega (arith, lt, c.loop-b-test.false))) in
+    all_segments_known axes c.loop-b.self.shapes counts boxes c.requires.grid c.requires.ordered (c.loop-b.invariant.known_are.listed few) counted

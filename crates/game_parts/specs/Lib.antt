@@ -1,0 +1,2 @@
+pub mod GameParts
+pub mod inside
