@@ -28,8 +28,8 @@
    - one thread at a time uses a controller. Where another thread goes on, a lock, a thread's start or its join orders the
      two. Several controllers are independent;
    - malloc, realloc and free are those of one allocator. Only gaffcurrant_open and gaffcurrant_close call them (tested);
-   - no signal handler and no interrupt of the thread calls for a controller while a call for it runs: it would find it
-     closed. No longjmp leaves a call: the controller would stay closed, and its memory would be lost;
+   - no signal handler and no interrupt of the thread calls for a controller while a call for it runs, and no longjmp leaves
+     a call: memory could be lost;
    - a thread that calls gaffcurrant_open has GAFFCURRANT_STACK bytes of stack left. The other calls need less.
 
    Memory. An open text takes 8 bytes for each stretch of cells with one row or with none, and 4 for every 64 cells, for

@@ -39,7 +39,7 @@ pub extern "C" fn gaffcurrant_open(
     gaffcurrant_close(alloc, controller);
     match boxed_text(alloc, bytes) {
         Ok(text) => {
-            controller.put(text);
+            controller.set(Controller::open(text));
             *line = 0;
             OPEN
         }
@@ -54,7 +54,6 @@ pub extern "C" fn gaffcurrant_open(
 /// targets. -1: the text promises nothing there. -2: a wrong number of states or inputs. -3: closed.
 #[unsafe(no_mangle)]
 pub extern "C" fn gaffcurrant_control(
-    alloc: Global,
     controller: &mut Controller,
     state: &[i64],
     input: &mut [i64],
@@ -62,19 +61,16 @@ pub extern "C" fn gaffcurrant_control(
     ensures kept { controller.new.held.text ≡ controller.old.held.text }
     ensures reply { IsReplied controller.old.held.text state.now input.old input.new result }
 {
-    let Some(text) = controller.take(alloc) else {
+    let Some(text) = controller.text_mut() else {
         return CLOSED;
     };
-    let reply = control(&text, state, input);
-    controller.put(text);
-    reply.number()
+    control(text, state, input).number()
 }
 
 /// Puts what is to be applied at each of many states into its inputs, and what `gaffcurrant_control` answers
 /// there into the replies. 0: told. -2: these aren't as many numbers as the replies' states and inputs. -3: closed.
 #[unsafe(no_mangle)]
 pub extern "C" fn gaffcurrant_control_each(
-    alloc: Global,
     controller: &mut Controller,
     states: &[i64],
     inputs: &mut [i64],
@@ -83,56 +79,53 @@ pub extern "C" fn gaffcurrant_control_each(
     ensures kept { controller.new.held.text ≡ controller.old.held.text }
     ensures told { AreReplied controller.old.held.text states.now inputs.old inputs.new replies.old replies.new result }
 {
-    let Some(text) = controller.take(alloc) else {
+    let Some(text) = controller.text_mut() else {
         return CLOSED;
     };
-    let told = control_each(&text, states, inputs, replies);
-    controller.put(text);
-    if told { DONE } else { WRONG_SIZE }
+    if control_each(text, states, inputs, replies) {
+        DONE
+    } else {
+        WRONG_SIZE
+    }
 }
 
 /// Begins the next turn of a patrol where the state is an arrival, and tells the turn that is then due. 1: it has begun. 0:
 /// the turn is as before. -2: a wrong number of states. -3: closed.
 #[unsafe(no_mangle)]
 pub extern "C" fn gaffcurrant_visit(
-    alloc: Global,
     controller: &mut Controller,
     state: &[i64],
     turn: &mut u32,
 ) -> i32
     ensures { IsVisited controller.old.held.text state.now controller.new.held.text turn.new result }
 {
-    let Some(mut text) = controller.take(alloc) else {
+    let Some(text) = controller.text_mut() else {
         *turn = 0;
         return CLOSED;
     };
-    let visit = visit(&mut text, state);
+    let visit = visit(text, state);
     *turn = text.turn();
-    controller.put(text);
     visit.number()
 }
 
 /// Makes a turn of a patrol due, as after a restart of the loop. 0: it is due. -2: there is no such turn. -3: closed.
 #[unsafe(no_mangle)]
-pub extern "C" fn gaffcurrant_begin_turn(
-    alloc: Global,
-    controller: &mut Controller,
-    turn: u32,
-) -> i32
+pub extern "C" fn gaffcurrant_begin_turn(controller: &mut Controller, turn: u32) -> i32
     ensures { IsBegun controller.old.held.text turn controller.new.held.text result }
 {
-    let Some(mut text) = controller.take(alloc) else {
+    let Some(text) = controller.text_mut() else {
         return CLOSED;
     };
-    let is_begun = begin_turn(&mut text, turn);
-    controller.put(text);
-    if is_begun { DONE } else { WRONG_SIZE }
+    if begin_turn(text, turn) {
+        DONE
+    } else {
+        WRONG_SIZE
+    }
 }
 
 /// How many states and input variables the text's plant has. 0: told. -3: closed.
 #[unsafe(no_mangle)]
 pub extern "C" fn gaffcurrant_sizes(
-    alloc: Global,
     controller: &mut Controller,
     states: &mut u32,
     inputs: &mut u32,
@@ -142,12 +135,11 @@ pub extern "C" fn gaffcurrant_sizes(
 {
     *states = 0;
     *inputs = 0;
-    let Some(text) = controller.take(alloc) else {
+    let Some(text) = controller.text_mut() else {
         return CLOSED;
     };
     *states = text.plant().states();
     *inputs = text.plant().input_variables();
-    controller.put(text);
     DONE
 }
 
@@ -155,7 +147,6 @@ pub extern "C" fn gaffcurrant_sizes(
 /// states. -3: closed.
 #[unsafe(no_mangle)]
 pub extern "C" fn gaffcurrant_rank(
-    alloc: Global,
     controller: &mut Controller,
     state: &[i64],
     rank: &mut u32,
@@ -163,13 +154,11 @@ pub extern "C" fn gaffcurrant_rank(
     ensures kept { controller.new.held.text ≡ controller.old.held.text }
     ensures rank { IsRanked controller.old.held.text state.now rank.new result }
 {
-    let Some(text) = controller.take(alloc) else {
+    let Some(text) = controller.text_mut() else {
         *rank = 0;
         return CLOSED;
     };
-    let status = copy_rank(&text, state, rank);
-    controller.put(text);
-    status
+    copy_rank(text, state, rank)
 }
 
 /// Tells whether the next state lies in the successor box of the state's cell, where the inputs are applied. 1: it does. 0: it
@@ -177,7 +166,6 @@ pub extern "C" fn gaffcurrant_rank(
 /// number of states or inputs. -3: closed. -4: a number of the plant leaves the range.
 #[unsafe(no_mangle)]
 pub extern "C" fn gaffcurrant_follows(
-    alloc: Global,
     controller: &mut Controller,
     state: &[i64],
     input: &[i64],
@@ -186,12 +174,10 @@ pub extern "C" fn gaffcurrant_follows(
     ensures kept { controller.new.held.text ≡ controller.old.held.text }
     ensures followed { IsFollowed controller.old.held.text state.now input.now next.now result }
 {
-    let Some(text) = controller.take(alloc) else {
+    let Some(text) = controller.text_mut() else {
         return CLOSED;
     };
-    let follow = follows(&text, state, input, next);
-    controller.put(text);
-    follow.number()
+    follows(text, state, input, next).number()
 }
 
 /// Lets the text go, if any. That this frees its memory is tested: no clause says so.
@@ -199,7 +185,7 @@ pub extern "C" fn gaffcurrant_follows(
 pub extern "C" fn gaffcurrant_close(alloc: Global, controller: &mut Controller)
     ensures { controller.new.held.text ≡ None }
 {
-    controller.take(alloc);
+    controller.set(Controller::closed(alloc));
 }
 
 /// The version of the library.
