@@ -9,25 +9,26 @@ use Rattle.command_line.specs.declared.command.Command.TheVariants.{Synth, Check
 use Rattle.command_line.specs.declared.outcome.Refusal.{Refusal}
 use Rattle.command_line.specs.declared.outcome.Refusal.TheVariants.{Malformed, Overflow, Limit, TooManyTurns, Invalid, NoRow}
 use Rattle.command_outcomes.specs.IsOutcomeFor.{HasEdges, IsRefusalFor}
-use Rattle.command_outcomes.specs.Stages.{IsOverflow, IsPlantRefusal, IsReadRefusal, IsStagedRefusal}
+use Rattle.command_outcomes.specs.Stages.{IsOverflow, IsPlantRefusal, IsReadRefusal, IsTextRefusal, IsStagedRefusal}
 use Rattle.base.specs.declared.limits.TheConstants.{EDGES_LIMIT}
 
 -- ---- from case by case to stages
 
+-- by what `synth` and `stay` are refused
+of_game : (workers : ℕ) (bytes : List ℕ) (r : Refusal) → IsRefusalFor (Synth workers) bytes r → IsTextRefusal IsPlantRefusal bytes r
+of_game workers bytes (Malformed line) h = inl (inl (line, refl, h))
+of_game workers bytes (Limit what) h = elim h [
+  | inl f ↦ inl (inr (what, refl, f))
+  | inr many ↦ inr (many.2.0, many.2.1, inr (ap Limit many.0, many.2.2))
+]
+of_game workers bytes (Overflow equation input) h = inr (h.0, h.1, inl (equation, input, refl, h.2))
+of_game workers bytes r h = absurd h
+
 pub staged : (command : Command) (bytes : List ℕ) (r : Refusal) → IsRefusalFor command bytes r → IsStagedRefusal command bytes r
-staged (Synth workers) bytes (Malformed line) h = inl (inl (line, refl, h))
-staged (Synth workers) bytes (Limit what) h = elim h [
-  | inl f ↦ inl (inr (what, refl, f))
-  | inr many ↦ inr (many.2.0, many.2.1, inr (ap Limit many.0, many.2.2))
-]
-staged (Synth workers) bytes (Overflow equation input) h = inr (h.0, h.1, inl (equation, input, refl, h.2))
-staged (Synth workers) bytes r h = absurd h
-staged (Stay workers) bytes (Malformed line) h = inl (inl (line, refl, h))
-staged (Stay workers) bytes (Limit what) h = elim h [
-  | inl f ↦ inl (inr (what, refl, f))
-  | inr many ↦ inr (many.2.0, many.2.1, inr (ap Limit many.0, many.2.2))
-]
-staged (Stay workers) bytes (Overflow equation input) h = inr (h.0, h.1, inl (equation, input, refl, h.2))
+staged (Synth workers) bytes r h = of_game workers bytes r h
+staged (Stay workers) bytes (Malformed line) h = of_game workers bytes (Malformed line) h
+staged (Stay workers) bytes (Limit what) h = of_game workers bytes (Limit what) h
+staged (Stay workers) bytes (Overflow equation input) h = of_game workers bytes (Overflow equation input) h
 staged (Stay workers) bytes r h = absurd h
 staged (Patrol workers) bytes (Malformed line) h = inl (inl (line, refl, h))
 staged (Patrol workers) bytes (Limit what) h = elim h [

@@ -6,4 +6,4 @@
 
 mod text;
 
-pub use text::{Simulation, SolvedPlant, Text};
+pub use text::{Simulation, Text};

@@ -1,6 +1,6 @@
 -- The rules of a plant's rows allow the rows that fit it, and no others.
-use Rattle.std.proofs.Common.{◌≡◌, ℕ, ◌<◌, ◌≤◌, List, length, get_or, Option, Some, None, arith}
-use Rattle.std.specs.Prelude.{IfSome}
+use Rattle.std.proofs.Common.{◌≡◌, ℕ, ◌<◌, ◌≤◌, List, length, get_or, Option, arith}
+use Rattle.base.proofs.Options.{IfSome-weaker}
 use Rattle.game_core.specs.declared.game.Row.{Row}
 use Rattle.grid_quantiser.specs.Axes.{cells_of}
 use Rattle.plant_record.specs.declared.aims.GoalKind.{GoalKind}
@@ -26,28 +26,26 @@ rank_fits : (goal : GoalKind) (cells : ℕ) (row : Row) → 0 < cells → Determ
 rank_fits Reach cells row some told most = (omega (arith, some, most), told)
 rank_fits Keep cells row some told most = told
 
-none_below : (n : ℕ) → 0 ≤ n
+pub none_below : (n : ℕ) → 0 ≤ n
 none_below n = omega arith
 
 module _ (v : TableVersion) (p : Description) where
-  row_within : (o : Option Row) → IfSome o (IsRowOf p) → IfSome o (IsRowWithin (rules_of v p))
-  row_within None h = tt
-  row_within (Some row) h = record {
+  row_within : (row : Row) → IsRowOf p row → IsRowWithin (rules_of v p) row
+  row_within row h = record {
     told = rank_told p.goal (cells_of (axes_of p)) row h.rank;
     least = none_below row.rank;
     most = rank_most p.goal (cells_of (axes_of p)) row h.rank;
     input = h.input;
   }
 
-  row_fits : (o : Option Row) → 0 < cells_of (axes_of p) → IfSome o (IsRowWithin (rules_of v p)) → IfSome o (IsRowOf p)
-  row_fits None some h = tt
-  row_fits (Some row) some h = record { rank = rank_fits p.goal (cells_of (axes_of p)) row some h.told h.most; input = h.input }
+  row_fits : 0 < cells_of (axes_of p) → (row : Row) → IsRowWithin (rules_of v p) row → IsRowOf p row
+  row_fits some row h = record { rank = rank_fits p.goal (cells_of (axes_of p)) row some h.told h.most; input = h.input }
 
   pub rows_within : (rows : List (Option Row)) → RowsFit p rows → AreRowsWithin (rules_of v p) rows
-  rows_within rows fit = record { one_each = fit.one_each; each = λ i d lt. row_within (get_or rows i d) (fit.each i d lt) }
+  rows_within rows fit = record { one_each = fit.one_each; each = λ i d lt. IfSome-weaker (get_or rows i d) (IsRowOf p) (IsRowWithin (rules_of v p)) row_within (fit.each i d lt) }
 
   pub rows_fit : (rows : List (Option Row)) → AreRowsWithin (rules_of v p) rows → RowsFit p rows
   rows_fit rows within = record {
     one_each = within.one_each;
-    each = λ i d lt. row_fits (get_or rows i d) (let size : length rows ≡ cells_of (axes_of p) = within.one_each in omega (arith, lt, size)) (within.each i d lt);
+    each = λ i d lt. IfSome-weaker (get_or rows i d) (IsRowWithin (rules_of v p)) (IsRowOf p) (row_fits (let size : length rows ≡ cells_of (axes_of p) = within.one_each in omega (arith, lt, size))) (within.each i d lt);
   }

@@ -3,7 +3,6 @@
 use Rattle.std.proofs.Common.{inl, inr, ◌≡◌, ◌⊎◌, ℕ, suc, ◌+◌, ◌≤◌, List, ◌++◌, length, length-append, take, drop, Option, refl, sym, ap, subst, ◌∙◌, append_assoc, arith}
 use Rattle.std.specs.List.{concat}
 use Rattle.std.proofs.lemmas.Bool.{cases_lt}
-use Rattle.std.proofs.lemmas.List.{take-append-drop}
 use Rattle.std.proofs.Math.Seq.{take-append_seam}
 use Rattle.game_core.specs.declared.game.Row.{Row}
 use Rattle.plant_record.specs.declared.limit_kind.LimitKind.TheVariants.{PlantText, TableText, Vectors, Cells, Pairs, Edges}
@@ -28,7 +27,9 @@ use Rattle.controller_table.specs.TextKinds.{first_line, turn_rules, HasFewTurns
 use Rattle.controller_table.specs.KindTexts.{IsTextOf}
 use Rattle.controller_table.specs.HeadedTexts.{HasNoFirstLine, IsPlantRefusedFor, HasManyTurns, AreRowsRefusedAt, IsFirstRefusedLine, IsTextRefusedFor}
 use Rattle.controller_table.proofs.FrontEnds.{LimitsEnd, is_within, has_many_vectors, has_many_cells, has_many_pairs, limits_end, front_end}
+use Rattle.controller_table.specs.inside.TextReading.{IsRefusedAfter}
 use Rattle.controller_table.proofs.EachKind.{one_kind, small_turns, few_or_many}
+use Rattle.controller_table.proofs.TextsRead.{many_turns, text_told, rows_refused, refused_among}
 
 -- a plant's text stands at the front
 front_at : (p : Description) (rest after : List ℕ) → IsWithinLimits p → rest ≡ text_of p ++ after → IsFront rest p (length (text_of p))
@@ -182,39 +183,27 @@ module _ {Name : Type 0} (kind_of : Name → TextKind) (one_name : (k l : Name) 
 module _ {Name : Type 0} (kind_of : Name → TextKind) (most : ℕ) (bytes : List ℕ) (unrefused : (f : TextFault) → IsTextRefusedFor kind_of most bytes f → ⊥)
     (untold : (k : Name) (p : Description) (turns : List (List (Option Row))) → IsTextOf (kind_of k) bytes p turns → HasFewTurnsFor (kind_of k) p → ⊥) where
   module _ (short : length bytes ≤ most) (k : Name) (rest : List ℕ) (are : bytes ≡ first_line (kind_of k) ++ rest) where
-    plant_refused : (f : PlantFault) → IsFrontRefusedFor rest f → IsPlantRefusedFor kind_of bytes f
-    plant_refused f refused = record { name = k; rest = rest; are = are; refused = refused }
+    unrefused_after : (f : TextFault) → (f ≡ faults.Memory → ⊥) → IsRefusedAfter (kind_of k) rest f → ⊥
+    unrefused_after f some refused = unrefused f (refused_among kind_of k most bytes rest short are f some refused)
 
     no_line : (n : ℕ) → IsFirstRefusedAtFront rest n → ⊥
-    no_line n refused = unrefused (faults.Malformed (suc n)) (short, inr (inl (n, refl, plant_refused (front.Malformed n) refused)))
+    no_line n refused = unrefused_after (faults.Malformed (suc n)) (λ e. cc) (inl (n, refl, refused))
 
-    module _ (p : Description) (count : ℕ) (is_front : IsFront rest p count) where
-      abbrev after : List ℕ
-      after = drop count rest
+    module _ (p : Description) (count : ℕ) (is_front : IsFront rest p count) (limits : IsWithinLimits p) where
+      no_row : HasFewTurnsFor (kind_of k) p → (n : ℕ) → AreTurnsRefusedAt (turn_rules (kind_of k) p) (drop count rest) n → ⊥
+      no_row few n refused = unrefused_after (faults.Malformed (1 + line_count (take count rest) + n)) (λ e. cc) (inr (rows_refused (kind_of k) rest p count is_front limits few n (line_count (take count rest)) refl refused))
 
-      rest_after : bytes ≡ first_line (kind_of k) ++ text_of p ++ after
-      rest_after =
-          are
-          ∙ ap (λ (x : List ℕ). first_line (kind_of k) ++ x) (sym (take-append-drop count rest) ∙ ap (λ (x : List ℕ). x ++ drop count rest) is_front.text)
-          ∙ sym (append_assoc (first_line (kind_of k)) (text_of p) (drop count rest))
+      no_turns : HasFewTurnsFor (kind_of k) p → (turns : List (List (Option Row))) → AreTurnsText (turn_rules (kind_of k) p) (drop count rest) turns → ⊥
+      no_turns few turns told = untold k p turns (subst (λ (x : List ℕ). IsTextOf (kind_of k) x p turns) (sym are) (text_told (kind_of k) rest p count is_front limits turns told)) few
 
-      no_row : IsWithinLimits p → HasFewTurnsFor (kind_of k) p → (n : ℕ) → AreTurnsRefusedAt (turn_rules (kind_of k) p) after n → ⊥
-      no_row limits few n refused = unrefused (faults.Malformed (line_count (first_line (kind_of k) ++ text_of p) + n)) (
-        short,
-        inr (inr (record { name = k; plant = p; limits = limits; few = few; rest = after; are = rest_after; line = n; refused = refused; number = refl })),
-      )
-
-      no_turns : IsWithinLimits p → HasFewTurnsFor (kind_of k) p → (turns : List (List (Option Row))) → AreTurnsText (turn_rules (kind_of k) p) after turns → ⊥
-      no_turns limits few turns told = untold k p turns (record { limits = limits; within = told.within; text = rest_after ∙ ap (λ (x : List ℕ). first_line (kind_of k) ++ text_of p ++ x) told.text }) few
-
-      no_plant : LimitsEnd p → ⊥
-      no_plant (is_within limits) = elim (few_or_many (kind_of k) p) [
-        | inl few ↦ no_turns_are_neither (turn_rules (kind_of k) p) (small_turns (kind_of k) p limits) after (no_turns limits few) (no_row limits few)
-        | inr many ↦ unrefused faults.Turns (short, record { name = k; plant = p; limits = limits; rest = after; are = rest_after; many = many })
-      ]
-      no_plant (has_many_vectors many) = unrefused (faults.Limit Vectors) (short, plant_refused (front.Limit Vectors) (p, count, is_front, many))
-      no_plant (has_many_cells many) = unrefused (faults.Limit Cells) (short, plant_refused (front.Limit Cells) (p, count, is_front, many))
-      no_plant (has_many_pairs many) = unrefused (faults.Limit Pairs) (short, plant_refused (front.Limit Pairs) (p, count, is_front, many))
+    no_plant : (p : Description) (count : ℕ) → IsFront rest p count → LimitsEnd p → ⊥
+    no_plant p count is_front (is_within limits) = elim (few_or_many (kind_of k) p) [
+      | inl few ↦ no_turns_are_neither (turn_rules (kind_of k) p) (small_turns (kind_of k) p limits) (drop count rest) (no_turns p count is_front limits few) (no_row p count is_front limits few)
+      | inr many ↦ unrefused_after faults.Turns (λ e. cc) (many_turns (kind_of k) rest p count is_front limits many)
+    ]
+    no_plant p count is_front (has_many_vectors many) = unrefused_after (faults.Limit Vectors) (λ e. cc) (p, count, is_front, many)
+    no_plant p count is_front (has_many_cells many) = unrefused_after (faults.Limit Cells) (λ e. cc) (p, count, is_front, many)
+    no_plant p count is_front (has_many_pairs many) = unrefused_after (faults.Limit Pairs) (λ e. cc) (p, count, is_front, many)
 
   pub no_text_is_neither : ⊥
   no_text_is_neither =

@@ -4,6 +4,7 @@ use Rattle.std.specs.List.{concat}
 use Rattle.std.proofs.lemmas.List.Elements.{recursion_from_All, All-from_recursion}
 use Rattle.game_core.specs.declared.game.Row.{Row}
 use Rattle.plant_record.specs.Description.{Description}
+use Rattle.plant_record.specs.Limits.{IsWithinLimits}
 use Rattle.plant_writing.specs.CanonicalText.{text_of}
 use Rattle.row_runs.specs.declared.run.TableVersion.{TableVersion}
 use Rattle.row_runs.specs.RunText.{count_line, end_line}
@@ -14,7 +15,7 @@ use Rattle.controller_table.specs.declared.text_kind.TextKind.TheVariants.{Table
 use Rattle.controller_table.specs.TableText.{version_line, format_of, table_text}
 use Rattle.controller_table.specs.Tables.{RowsFit, IsTable, IsTableIn}
 use Rattle.controller_table.specs.TextKinds.{turn_rules}
-use Rattle.controller_table.specs.KindTexts.{rows_text, IsTextOf}
+use Rattle.controller_table.specs.KindTexts.{rows_text, IsTextOf, HoldsRows}
 use Rattle.controller_table.proofs.Fitting.{rows_within, rows_fit}
 
 -- the lines of a text of one turn
@@ -36,10 +37,14 @@ only_turn rules (rows ∷ s ∷ turns) one within = absurd (omega (arith, within
 pub text_is : (v : TableVersion) (p : Description) (rows : List (Option Row)) → rows_text (Table v) p (rows ∷ []) ≡ table_text v p rows
 text_is v p rows = ap (λ (x : List (List ℕ)). version_line v ++ text_of p ++ concat x) (one_turn (row_lines v (format_of p.goal) rows))
 
+-- rows that fit a plant are those of a table of it
+pub table_held : (v : TableVersion) (p : Description) (rows : List (Option Row)) → IsWithinLimits p → RowsFit p rows → HoldsRows (record { kind = Table v; plant = p; turns = rows ∷ [] })
+table_held v p rows limits fit = record { limits = limits; few = tt; within = one_within (turn_rules (Table v) p) rows refl (rows_within v p rows fit) }
+
 pub as_text : (bytes : List ℕ) (p : Description) (rows : List (Option Row)) → (t : IsTable bytes p rows) → IsTextOf (Table t.version) bytes p (rows ∷ [])
 as_text bytes p rows t = record {
   limits = t.limits;
-  within = one_within (turn_rules (Table t.version) p) rows refl (rows_within t.version p rows t.fitting);
+  within = (table_held t.version p rows t.limits t.fitting).within;
   text = t.text ∙ sym (text_is t.version p rows);
 }
 

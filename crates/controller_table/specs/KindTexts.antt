@@ -7,6 +7,7 @@ use Rattle.plant_record.specs.Limits.{IsWithinLimits}
 use Rattle.plant_writing.specs.CanonicalText.{text_of}
 use Rattle.row_reading.specs.RowsTexts.{turn_lines, AreTurnsWithin}
 use Rattle.controller_table.specs.declared.text_kind.TextKind.{TextKind}
+use Rattle.controller_table.specs.TableText.{written_version}
 use Rattle.controller_table.specs.TextKinds.{first_line, turn_rules, HasFewTurnsFor}
 
 -- What a text says: its kind, its plant, and for each turn one optional row for each cell.
@@ -18,6 +19,14 @@ pub record RowsModel : Type 0 where
 -- the text of a kind: its first line, the plant's text, and the lines of all turns
 abbrev pub rows_text : TextKind → Description → List (List (Option Row)) → List ℕ
 rows_text kind p turns = first_line kind ++ text_of p ++ concat (turn_lines (turn_rules kind p) turns)
+
+-- the text that a value in memory has
+abbrev pub bytes_of_rows : RowsModel → List ℕ
+bytes_of_rows t = rows_text t.kind t.plant t.turns
+
+-- it is in the version in which texts are written: it isn't an older table
+abbrev pub IsOfWrittenVersion : RowsModel → Type 0
+IsOfWrittenVersion t = (turn_rules t.kind t.plant).rows.version ≡ written_version
 
 -- The bytes are the text of a kind, of a plant within the limits and of rows that the kind allows.
 pub record IsTextOf (kind : TextKind) (bytes : List ℕ) (p : Description) (turns : List (List (Option Row))) : Type 0 where

@@ -21,6 +21,7 @@ mod turn_lines;
 
 pub use base::NoMemory;
 pub use goal_format::format_of;
+pub use row_runs::TableVersion;
 pub use rows_text::RowsText;
 pub use rows_writer::RowsWriter;
 pub use table::Table;

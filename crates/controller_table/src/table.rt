@@ -4,7 +4,8 @@ ghost use Rattle.grid_quantiser.specs.Axes.{cells_of};
 ghost use Rattle.game_core.specs.Solution.{row_of};
 ghost use Rattle.plant_record.specs.Description.{axes_of};
 ghost use Rattle.plant_record.specs.Limits.{IsWithinLimits};
-ghost use Rattle.controller_table.specs.TableText.{version_number};
+ghost use Rattle.controller_table.specs.TableText.{version_number, written_version, table_text};
+ghost use Rattle.controller_table.specs.KindTexts.{bytes_of_rows, IsOfWrittenVersion};
 ghost use Rattle.controller_table.specs.Tables.{RowsFit};
 ghost use Rattle.controller_table.specs.Choice.{Chooses};
 
@@ -120,6 +121,15 @@ impl Table {
             answer: copy_answer(alloc, &self.answer)?,
             rows: self.rows,
         })
+    }
+
+    /// The text of the table, in the version that is written.
+    pub fn into_text(self, alloc: Global) -> Result<RowsText, NoMemory>
+        ensures written { IfOk result IsOfWrittenVersion }
+        ensures text { IfOk result (λ t. bytes_of_rows t ≡ table_text written_version self.plant self.rows) }
+    {
+        let kind = TextKind::Table(TableVersion::Second);
+        RowsText::of_one_turn(alloc, kind, self.plant, self.answer)
     }
 
     /// An optional row for each cell.

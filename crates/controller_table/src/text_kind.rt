@@ -1,4 +1,4 @@
-ghost use Rattle.std.specs.Prelude.{◌≡◌, ◌↔◌, IsTrue};
+ghost use Rattle.std.specs.Prelude.{◌≡◌, ◌↔◌, ◌++◌, ℕ, List, IsTrue};
 ghost use Rattle.row_reading.specs.Found.{Finds};
 ghost use Rattle.controller_table.specs.TextKinds.{first_line, most_bytes, rules_of, stay_rules, patrol_rules, turn_rules, HasFewTurnsFor};
 ghost use Rattle.controller_table.specs.inside.TextReading.{IsBegun};
@@ -34,6 +34,13 @@ impl TextKind {
             TextKind::Stay => b"stay 1\n",
             TextKind::Patrol => b"patrol 1\n",
         }
+    }
+
+    /// What stands after the first line of its texts, with which the bytes begin.
+    pub fn take_first_line(self, bytes: &[u8]) -> Option<&[u8]>
+        ensures { Finds (λ r. r.now) (λ (rest : List ℕ). bytes.now ≡ first_line self ++ rest) result }
+    {
+        after_prefix(bytes, self.first_line())
     }
 
     /// How many bytes its texts may have.
@@ -84,16 +91,18 @@ impl TextKind {
 pub fn take_kind(bytes: &[u8]) -> Option<(TextKind, &[u8])>
     ensures { Finds (λ r. (r.0, r.1.now)) (IsBegun bytes.now) result }
 {
-    if let Some(rest) = after_prefix(bytes, b"table 2\n") {
-        return Some((TextKind::Table(TableVersion::Second), rest));
+    let second = TextKind::Table(TableVersion::Second);
+    if let Some(rest) = second.take_first_line(bytes) {
+        return Some((second, rest));
     }
-    if let Some(rest) = after_prefix(bytes, b"table 1\n") {
-        return Some((TextKind::Table(TableVersion::First), rest));
+    let first = TextKind::Table(TableVersion::First);
+    if let Some(rest) = first.take_first_line(bytes) {
+        return Some((first, rest));
     }
-    if let Some(rest) = after_prefix(bytes, b"stay 1\n") {
+    if let Some(rest) = TextKind::Stay.take_first_line(bytes) {
         return Some((TextKind::Stay, rest));
     }
-    let rest = after_prefix(bytes, b"patrol 1\n")?;
+    let rest = TextKind::Patrol.take_first_line(bytes)?;
     Some((TextKind::Patrol, rest))
 }
 

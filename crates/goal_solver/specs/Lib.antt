@@ -1,2 +1,2 @@
-pub mod SolvedAbstractions
-pub mod inside
+pub mod SolvedGames
+pub mod GoalScratch

@@ -1,27 +1,27 @@
 -- What a command leaves of the game that it solved.
 use Rattle.std.proofs.Common.{◌≡◌, ℕ, List, refl, subst}
 use Rattle.std.specs.Prelude.{Option, Some}
+use Rattle.board_rounds.specs.declared.solving.SolvedGame.{SolvedGame}
 use Rattle.cell_counters.specs.BoardModels.{BoardModel, RootModel}
+use Rattle.game_core.specs.Game.{Game}
 use Rattle.plant_record.specs.declared.aims.GoalKind.{GoalKind}
 use Rattle.plant_record.specs.Description.{Description}
 use Rattle.plant_game.specs.Abstraction.{IsGameOf}
-use Rattle.abstraction_table.specs.Table.{game_of}
 use Rattle.command_line.specs.declared.command.Command.{Command}
 use Rattle.command_line.specs.declared.command.Command.TheVariants.{Synth, Check, Upgrade, Sim, Demo, Stay, Patrol}
-use Rattle.goal_solver.specs.declared.solved_abstraction.SolvedAbstraction.{SolvedAbstraction}
 use Rattle.run_devices.specs.Devices.{Reading}
-use Rattle.goal_solver.specs.SolvedAbstractions.{IsReckonedOn, IsSolvedAbstraction}
+use Rattle.goal_solver.specs.SolvedGames.{IsReckonedOn, IsSolvedGame}
 use Rattle.synth_run.specs.Played.{IsSolvedOn, LeavesTheGameOf, IsPlayed}
 use Rattle.command_outcomes.specs.IsOutcomeFor.{IsAccepted}
 use Rattle.synth_run.specs.inside.Making.{IsReadFor}
 use Rattle.synth_run.proofs.Limits.{of_front, long_front}
 
 -- a plant's game, solved for the plant's goal
-pub solved_on : (p : Description) (goal : GoalKind) (solved : SolvedAbstraction) → goal ≡ p.goal → IsGameOf p (game_of solved.game) → IsSolvedAbstraction goal solved → IsSolvedOn p solved.solution.board solved.solution.root
-solved_on p goal solved same abstraction h = record {
-  game = game_of solved.game;
+pub solved_on : (p : Description) (g : Game) (goal : GoalKind) (solved : SolvedGame) → goal ≡ p.goal → IsGameOf p g → IsSolvedGame goal g solved → IsSolvedOn p solved.board solved.root
+solved_on p g goal solved same abstraction h = record {
+  game = g;
   abstraction = abstraction;
-  reckoned = subst (λ (k : GoalKind). IsReckonedOn k (game_of solved.game) solved.solution.board solved.solution.root.accounts) same h.reckoned;
+  reckoned = subst (λ (k : GoalKind). IsReckonedOn k g solved.board solved.root.accounts) same h.reckoned;
   at = h.at;
   settled = h.settled;
 }

@@ -3,7 +3,6 @@ pub mod Ending
 pub mod Giving
 pub mod Leaving
 pub mod Limits
-pub mod OneTable
 pub mod OneText
 pub mod PatrolTables
 pub mod Reporting

@@ -1,11 +1,14 @@
--- Bytes that spell a plant have one text of reach and stay, and one of a patrol.
+-- Bytes that spell a plant have one table, one text of reach and stay, and one of a patrol.
 use Rattle.std.proofs.Common.{◌≡◌, ℕ, ◌-◌, ◌<◌, ◌≤◌, List, [], length, Option, Some, None, refl, sym, ap, ap₂, subst, ◌∙◌, arith, ext_get_or, le_antisymm}
 use Rattle.game_core.specs.declared.game.Row.{Row}
 use Rattle.game_core.specs.Game.{Game}
 use Rattle.game_core.specs.Strategy.{IsRankTo}
 use Rattle.game_core.specs.Solution.{row_of, LeadsWithinTo}
 use Rattle.plant_record.specs.Description.{Description}
+use Rattle.plant_record.specs.Plants.{IsPlant}
 use Rattle.plant_game.proofs.OneGame.{one_game}
+use Rattle.plant_game.proofs.OneSolution.{one_plant_solution}
+use Rattle.controller_table.specs.TableText.{written_version, table_text}
 use Rattle.temporal_games.specs.Held.{IsHeld}
 use Rattle.temporal_games.specs.Stay.{IsStayedBy, IsStayRow, IsStaySolution}
 use Rattle.temporal_texts.specs.StayText.{stay_text}
@@ -13,12 +16,28 @@ use Rattle.turn_rows.specs.Targets.{IsInTarget}
 use Rattle.temporal_texts.specs.PatrolText.{patrol_text}
 use Rattle.turn_rows.specs.Rows.{rows_for}
 use Rattle.temporal_games.specs.Patrol.{IsReachedLaterBy, IsPatrolRow, IsPatrol}
-use Rattle.synth_run.specs.Headline.{IsStayTableOf, IsPatrolTableOf}
-use Rattle.synth_run.specs.Laws.{OneStayTextForBytes, OnePatrolTextForBytes}
+use Rattle.synth_run.specs.Headline.{IsTableOf, IsStayTableOf, IsPatrolTableOf}
+use Rattle.synth_run.specs.Laws.{OneTableForBytes, OneStayTextForBytes, OnePatrolTextForBytes}
+use Rattle.command_outcomes.specs.IsOutcomeFor.{IsAccepted, IsSolvable, IsPatrollable}
 use Rattle.command_outcomes.proofs.Below.{one_plant_per_text}
 
 abbrev some_row : ℕ → ℕ → Option Row
 some_row k u = Some (record { rank = k; input = u })
+
+-- bytes that spell a plant have one text, if the plant has
+one_by_plant : (Ok : Description → Type 0) (IsOf : Description → List ℕ → Type 0) → ((p : Description) (a b : List ℕ) → IsPlant p → IsOf p a → IsOf p b → a ≡ b)
+    → (bytes a b : List ℕ) → (p : Description) × IsAccepted bytes p × Ok p × IsOf p a → (p : Description) × IsAccepted bytes p × Ok p × IsOf p b → a ≡ b
+one_by_plant Ok IsOf one bytes a b first second =
+    let same = one_plant_per_text bytes first.0 second.0 first.1.spells second.1.spells in
+    one second.0 a b second.1.limits.plant (subst (λ (p : Description). IsOf p a) same first.3) second.3
+
+-- ---- tables
+
+one_of_plant : (p : Description) (a b : List ℕ) → IsPlant p → IsTableOf p a → IsTableOf p b → a ≡ b
+one_of_plant p a b plant table other = table.text_is ∙ ap (table_text written_version p) (one_plant_solution p table.rows other.rows plant table.solution other.solution) ∙ sym other.text_is
+
+pub one_table : OneTableForBytes
+one_table = one_by_plant IsSolvable IsTableOf one_of_plant
 
 -- ---- reach and stay
 
@@ -47,14 +66,14 @@ one_stay_solution g rows others a b =
     let lb = b.one_each in
     ext_get_or None rows others (omega arith) (λ c lt. same_stay_row g c (row_of rows c) (row_of others c) (a.each c (omega arith)) (b.each c (omega arith)))
 
-pub one_stay_text : OneStayTextForBytes
-one_stay_text bytes a b first second =
-    let p : Description = second.0 in
-    let table : IsStayTableOf p a = subst (λ (d : Description). IsStayTableOf d a) (one_plant_per_text bytes first.0 p first.1.spells second.1.spells) first.3 in
-    let other : IsStayTableOf p b = second.3 in
-    let game : other.game ≡ table.game = one_game p other.game table.game second.1.limits.plant other.abstraction table.abstraction in
+one_stay_of_plant : (p : Description) (a b : List ℕ) → IsPlant p → IsStayTableOf p a → IsStayTableOf p b → a ≡ b
+one_stay_of_plant p a b plant table other =
+    let game : other.game ≡ table.game = one_game p other.game table.game plant other.abstraction table.abstraction in
     let rows : table.rows ≡ other.rows = one_stay_solution table.game table.rows other.rows table.solution (subst (λ (g : Game). IsStaySolution g other.rows) game other.solution) in
     table.table.text ∙ ap (stay_text p) rows ∙ sym other.table.text
+
+pub one_stay_text : OneStayTextForBytes
+one_stay_text = one_by_plant IsSolvable IsStayTableOf one_stay_of_plant
 
 -- ---- patrol
 
@@ -87,13 +106,13 @@ one_patrol g In turns rows others a b =
         ext_get_or None (rows_for rows j) (rows_for others j) (omega arith)
         (λ c lt. same_patrol_row g In turns j c (row_of (rows_for rows j) c) (row_of (rows_for others j) c) (a.each j c before (omega arith)) (b.each j c before (omega arith)))
 
-pub one_patrol_text : OnePatrolTextForBytes
-one_patrol_text bytes a b first second =
-    let p : Description = second.0 in
-    let table : IsPatrolTableOf p a = subst (λ (d : Description). IsPatrolTableOf d a) (one_plant_per_text bytes first.0 p first.1.spells second.1.spells) first.3 in
-    let other : IsPatrolTableOf p b = second.3 in
-    let game : other.game ≡ table.game = one_game p other.game table.game second.1.limits.plant other.abstraction table.abstraction in
+one_patrol_of_plant : (p : Description) (a b : List ℕ) → IsPlant p → IsPatrolTableOf p a → IsPatrolTableOf p b → a ≡ b
+one_patrol_of_plant p a b plant table other =
+    let game : other.game ≡ table.game = one_game p other.game table.game plant other.abstraction table.abstraction in
     let rows : table.rows ≡ other.rows =
     one_patrol table.game (IsInTarget p) (length p.targets) table.rows other.rows table.solution (subst (λ (g : Game). IsPatrol g (IsInTarget p) (length p.targets) other.rows) game other.solution)
     in
     table.table.text ∙ ap (patrol_text p) rows ∙ sym other.table.text
+
+pub one_patrol_text : OnePatrolTextForBytes
+one_patrol_text = one_by_plant IsPatrollable IsPatrolTableOf one_patrol_of_plant

@@ -1,10 +1,11 @@
 -- The facts that make a table, and those that judge one.
-use Rattle.std.proofs.Common.{inl, inr, ◌≡◌, ℕ, List, Option, refl, sym, subst}
+use Rattle.std.proofs.Common.{inl, inr, ◌≡◌, ℕ, List, [], ◌∷◌, Option, refl, sym, subst}
 use Rattle.game_core.specs.declared.game.Row.{Row}
-use Rattle.game_core.specs.Game.{Game}
+use Rattle.game_core.specs.Game.{Game, IsGraph}
 use Rattle.plant_record.specs.declared.aims.GoalKind.{GoalKind}
 use Rattle.plant_record.specs.declared.aims.GoalKind.TheVariants.{Reach, Keep}
 use Rattle.plant_record.specs.Description.{Description}
+use Rattle.plant_record.specs.Limits.{IsWithinLimits}
 use Rattle.plant_game.specs.Abstraction.{IsGameOf}
 use Rattle.plant_game.specs.PlantSolution.{Solves, IsSolutionOf}
 use Rattle.controller_table.specs.declared.table_fault.TableFault.{TableFault}
@@ -12,7 +13,13 @@ use Rattle.controller_table.specs.declared.table_fault.TableFault.TheVariants as
 use Rattle.controller_table.specs.Laws.{IsGraphOver}
 use Rattle.controller_table.specs.TableRefusals.{IsTableRefusedFor}
 use Rattle.controller_table.specs.Tables.{RowsFit, IsTable}
+use Rattle.controller_table.specs.KindTexts.{rows_text}
+use Rattle.controller_table.specs.TableText.{written_version}
+use Rattle.controller_table.specs.declared.text_kind.TextKind.TheVariants.{Table}
 use Rattle.controller_table.proofs.SolutionsFit.{keep_fits}
+use Rattle.controller_table.proofs.TableTexts.{text_is}
+use Rattle.plant_refine.proofs.SolutionTables.{tables_control}
+use Rattle.synth_run.specs.Headline.{IsTableOf}
 use Rattle.command_line.specs.declared.outcome.Refusal.{Refusal}
 use Rattle.command_line.specs.declared.outcome.Failure.TheVariants.{Read, Write, Memory}
 use Rattle.text_abstraction.specs.declared.stop.Stop.{Stop}
@@ -21,14 +28,24 @@ use Rattle.text_abstraction.specs.Causes.{of_table, IsStopFor}
 use Rattle.command_outcomes.specs.Stages.{IsTableRefusal}
 use Rattle.command_outcomes.proofs.Below.{reach_fits}
 
--- rows that solve a plant's game for the plant's goal
-pub is_solution : (p : Description) (g : Game) (rows : List (Option Row)) (goal : GoalKind) → goal ≡ p.goal → IsGameOf p g → Solves goal g rows → IsSolutionOf p rows
-is_solution p g rows goal same abstraction solution = record { game = g; abstraction = abstraction; solution = subst (λ (k : GoalKind). Solves k g rows) same solution }
-
 -- the rows of a solution fit its plant
 pub solution_fits : (p : Description) (g : Game) (rows : List (Option Row)) (goal : GoalKind) → goal ≡ p.goal → IsGraphOver p g → Solves goal g rows → RowsFit p rows
 solution_fits p g rows Reach same graph solution = reach_fits p g rows (sym same) graph solution
 solution_fits p g rows Keep same graph solution = keep_fits p g rows (sym same) graph solution
+
+-- the text of a plant within the limits and of the solution of its game
+pub solution_table : (p : Description) (g : Game) (rows : List (Option Row)) (goal : GoalKind) → IsWithinLimits p → goal ≡ p.goal → IsGraph g → IsGameOf p g → Solves goal g rows → IsTableOf p (rows_text (Table written_version) p (rows ∷ []))
+solution_table p g rows goal limits same graph abstraction solution =
+    let fits = solution_fits p g rows goal same (record { graph = graph; cells = abstraction.cells; inputs = abstraction.inputs }) solution in
+    let text = text_is written_version p rows in
+    let solved : IsSolutionOf p rows = record { game = g; abstraction = abstraction; solution = subst (λ (k : GoalKind). Solves k g rows) same solution } in
+    record {
+      rows = rows;
+      solution = solved;
+      fitting = fits;
+      text_is = text;
+      controls = tables_control (rows_text (Table written_version) p (rows ∷ [])) p rows (record { limits = limits; fitting = fits; version = written_version; text = text }) solved;
+    }
 
 -- what a reader of tables refuses is refused, whatever is asked of the table's plant and rows
 pub table_stop : (Refuses : Description → List (Option Row) → Refusal → Type 0) (bytes : List ℕ) (fault : TableFault) → ((fault ≡ tables.Memory → ⊥) → IsTableRefusedFor bytes fault) → IsStopFor (IsTableRefusal Refuses bytes) (of_table fault)

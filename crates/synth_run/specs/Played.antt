@@ -10,7 +10,7 @@ use Rattle.command_line.specs.declared.command.Command.{Command}
 use Rattle.command_line.specs.declared.command.Command.TheVariants.{Synth, Demo}
 use Rattle.command_outcomes.specs.IsOutcomeFor.{IsAccepted}
 use Rattle.demo_plants.specs.Demo.{demo_text}
-use Rattle.goal_solver.specs.SolvedAbstractions.{IsReckonedOn}
+use Rattle.goal_solver.specs.SolvedGames.{IsReckonedOn}
 
 -- The board on which a plant's game was solved, with its root: no hand is out, and the accounts are those of the solution.
 -- Of logs and notes nothing is said.

@@ -3,18 +3,23 @@ use Rattle.std.proofs.Common.{◌≡◌, ℕ, List, [], ◌∷◌, Option, refl,
 use Rattle.base.proofs.Lists.{same_head}
 use Rattle.game_core.specs.declared.game.Row.{Row}
 use Rattle.plant_record.specs.Description.{Description}
+use Rattle.plant_record.specs.Limits.{IsWithinLimits}
 use Rattle.row_reading.specs.RowsTexts.{AreTurnsWithin}
 use Rattle.controller_table.specs.declared.text_kind.TextKind.{TextKind}
 use Rattle.controller_table.specs.declared.text_kind.TextKind.TheVariants.{Stay}
 use Rattle.controller_table.specs.TextKinds.{turn_rules}
-use Rattle.controller_table.specs.KindTexts.{IsTextOf}
+use Rattle.controller_table.specs.KindTexts.{IsTextOf, HoldsRows}
 use Rattle.controller_table.proofs.HeadedLaws.{one_text}
 use Rattle.controller_table.proofs.TableTexts.{one_within, within_one}
 use Rattle.temporal_texts.specs.StayText.{StayRowsFit, IsStayText}
 use Rattle.temporal_texts.proofs.StayRules.{rows_within, rows_fit}
 
+-- rows that fit a plant are those of a stay text of it
+pub stay_held : (p : Description) (rows : List (Option Row)) → IsWithinLimits p → StayRowsFit p rows → HoldsRows (record { kind = Stay; plant = p; turns = rows ∷ [] })
+stay_held p rows limits fit = record { limits = limits; few = tt; within = one_within (turn_rules Stay p) rows refl (rows_within p rows fit) }
+
 pub stay_as_text : (bytes : List ℕ) (p : Description) (rows : List (Option Row)) → IsStayText bytes p rows → IsTextOf Stay bytes p (rows ∷ [])
-stay_as_text bytes p rows t = record { limits = t.limits; within = one_within (turn_rules Stay p) rows refl (rows_within p rows t.fitting); text = t.text }
+stay_as_text bytes p rows t = record { limits = t.limits; within = (stay_held p rows t.limits t.fitting).within; text = t.text }
 
 pub text_as_stay : (bytes : List ℕ) (p : Description) (rows : List (Option Row)) → IsTextOf Stay bytes p (rows ∷ []) → IsStayText bytes p rows
 text_as_stay bytes p rows t = record { limits = t.limits; fitting = rows_fit p rows (within_one (turn_rules Stay p) rows t.within); text = t.text }

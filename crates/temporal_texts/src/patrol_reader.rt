@@ -6,7 +6,6 @@ ghost use Rattle.temporal_texts.specs.PatrolRefusals.{IsPatrolRefusedFor};
 use crate::patrol_table::PatrolTable;
 use controller_table::{PATROL_LIMIT, TextFault, TextKind, read_after};
 use plant_record::LimitKind;
-use row_reading::after_prefix;
 use std::alloc::Global;
 
 /// Reads the patrol text that the bytes are, or answers why they are none.
@@ -18,7 +17,7 @@ pub fn read_patrol(alloc: Global, bytes: &[u8]) -> Result<PatrolTable, TextFault
         let what = LimitKind::TableText;
         return Err(TextFault::Limit { what });
     }
-    let Some(rest) = after_prefix(bytes, TextKind::Patrol.first_line()) else {
+    let Some(rest) = TextKind::Patrol.take_first_line(bytes) else {
         return Err(TextFault::Malformed { line: 1 });
     };
     let text = read_after(alloc, TextKind::Patrol, rest)?;

@@ -7,7 +7,6 @@ use crate::stay_table::StayTable;
 use base::limits::TABLE_LIMIT;
 use controller_table::{TableFault, TextKind, read_after};
 use plant_record::LimitKind;
-use row_reading::after_prefix;
 use std::alloc::Global;
 
 /// Reads the stay text that the bytes are, or answers why they are none.
@@ -19,7 +18,7 @@ pub fn read_stay(alloc: Global, bytes: &[u8]) -> Result<StayTable, TableFault>
         let what = LimitKind::TableText;
         return Err(TableFault::Limit { what });
     }
-    let Some(rest) = after_prefix(bytes, TextKind::Stay.first_line()) else {
+    let Some(rest) = TextKind::Stay.take_first_line(bytes) else {
         return Err(TableFault::Malformed { line: 1 });
     };
     match read_after(alloc, TextKind::Stay, rest) {

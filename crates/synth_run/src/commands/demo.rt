@@ -11,11 +11,11 @@ ghost use Rattle.text_abstraction.specs.Causes.{without_memory};
 ghost use Rattle.synth_run.specs.inside.Making.{IsMade};
 
 use crate::work::Work;
-use abstraction_table::ForwardAbstraction;
+use abstraction_table::{ForwardAbstraction, add_sources};
 use command_texts::Text;
 use demo_plants::{demo_line, demo_plant};
 use frontier_pool::Gate;
-use goal_solver::solve_game;
+use goal_solver::Scratch;
 use plant_record::GoalKind;
 use std::alloc::Global;
 use std::thread::Threads;
@@ -36,12 +36,13 @@ pub fn demo<R: Threads + Sync, G: Gate>(
     ensures memory { IfErr result (λ stop. stop ≡ without_memory) }
 {
     let forward = demo_forward(rt, alloc, number)?;
-    let solved = solve_game(rt, alloc, GoalKind::Reach, forward, workers, gate)?;
-    let line = demo_line(alloc, number, &solved.game, &solved.solution.answer)?;
-    let solution = solved.solution;
+    let scratch = Scratch::new(rt, alloc, GoalKind::Reach, &forward, workers)?;
+    let game = add_sources(rt, alloc, forward)?;
+    let solved = scratch.solve(rt, alloc, &game, gate);
+    let line = demo_line(alloc, number, &game, &solved.answer)?;
     Ok(Work {
         text: Text::Summary(line),
-        played: Some((solution.board, solution.root)),
+        played: Some((solved.board, solved.root)),
     })
 }
 

@@ -15,7 +15,8 @@ use crate::work::Work;
 use abstraction_table::add_sources;
 use base::limits::TURNS_LIMIT;
 use command_line::Refusal;
-use command_texts::{SolvedPlant, Text};
+use command_texts::Text;
+use controller_table::{RowsText, TextKind};
 use frontier_pool::Gate;
 use plant_record::Plant;
 use std::alloc::Global;
@@ -38,7 +39,8 @@ pub fn patrol<R: Threads + Sync, G: Gate>(
     limit_turns(turns_of(&plant))?;
     let game = add_sources(rt, alloc, forward)?;
     let rows = temporal_games::patrol(rt, alloc, &game, &plant, workers, gate)?;
-    Ok(Work::of_text(Text::Patrol(SolvedPlant { plant, rows })))
+    let text = RowsText::new(TextKind::Patrol, plant, rows);
+    Ok(Work::of_text(Text::Rows(text)))
 }
 
 /// Refuses more pairs of a turn and a cell than the limit.

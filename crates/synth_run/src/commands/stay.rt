@@ -9,7 +9,8 @@ ghost use Rattle.synth_run.specs.inside.Making.{IsMade};
 
 use crate::work::Work;
 use abstraction_table::add_sources;
-use command_texts::{SolvedPlant, Text};
+use command_texts::Text;
+use controller_table::{RowsText, TextKind};
 use frontier_pool::Gate;
 use std::alloc::Global;
 use std::thread::Threads;
@@ -30,5 +31,6 @@ pub fn stay<R: Threads + Sync, G: Gate>(
     let (plant, forward) = forward_of_text(rt, alloc, bytes)?;
     let game = add_sources(rt, alloc, forward)?;
     let rows = temporal_games::stay(rt, alloc, &game, workers, gate)?;
-    Ok(Work::of_text(Text::Stay(SolvedPlant { plant, rows })))
+    let text = RowsText::of_one_turn(alloc, TextKind::Stay, plant, rows)?;
+    Ok(Work::of_text(Text::Rows(text)))
 }

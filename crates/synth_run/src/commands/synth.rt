@@ -8,9 +8,11 @@ ghost use Rattle.text_abstraction.specs.Causes.{IsStopFor};
 ghost use Rattle.synth_run.specs.inside.Making.{IsMade};
 
 use crate::work::Work;
-use command_texts::{SolvedPlant, Text};
+use abstraction_table::add_sources;
+use command_texts::Text;
+use controller_table::{RowsText, TableVersion, TextKind};
 use frontier_pool::Gate;
-use goal_solver::solve_game;
+use goal_solver::Scratch;
 use std::alloc::Global;
 use std::thread::Threads;
 use text_abstraction::{Stop, forward_of_text};
@@ -28,11 +30,13 @@ pub fn synth<R: Threads + Sync, G: Gate>(
     ensures refused { IfErr result (IsStopFor (IsStagedRefusal (Command.Synth workers) bytes.now)) }
 {
     let (plant, forward) = forward_of_text(rt, alloc, bytes)?;
-    let solved = solve_game(rt, alloc, plant.goal(), forward, workers, gate)?;
-    let solution = solved.solution;
-    let rows = solution.answer;
+    let scratch = Scratch::new(rt, alloc, plant.goal(), &forward, workers)?;
+    let game = add_sources(rt, alloc, forward)?;
+    let solved = scratch.solve(rt, alloc, &game, gate);
+    let kind = TextKind::Table(TableVersion::Second);
+    let text = RowsText::of_one_turn(alloc, kind, plant, solved.answer)?;
     Ok(Work {
-        text: Text::Table(SolvedPlant { plant, rows }),
-        played: Some((solution.board, solution.root)),
+        text: Text::Rows(text),
+        played: Some((solved.board, solved.root)),
     })
 }

@@ -20,5 +20,6 @@ pub fn upgrade(alloc: Global, bytes: &[u8]) -> Result<Work, Stop>
 {
     let table = read_table(alloc, bytes)?;
     find_slopes(alloc, table.plant())?;
-    Ok(Work::of_text(Text::Upgraded(table)))
+    let text = table.into_text(alloc)?;
+    Ok(Work::of_text(Text::Rows(text)))
 }

@@ -5,6 +5,8 @@ use Rattle.text_abstraction.specs.declared.stop.Stop.{Stop}
 use Rattle.command_outcomes.specs.IsOutcomeFor.{turns_of}
 use Rattle.command_outcomes.specs.Stages.{IsPatrolRefusal, IsTextRefusal}
 use Rattle.text_abstraction.specs.Causes.{IsStopFor}
+use Rattle.temporal_texts.proofs.TextLaws.{patrol_held}
+use Rattle.temporal_promises.proofs.FittingPatrolRows.{patrol_rows_fit}
 use Rattle.synth_run.proofs.PatrolTables.{patrol_table, patrol_stop}
 use Rattle.base.proofs.Results.{passed_on}
 use Rattle.synth_run.proofs.commands.patrol.patrol.Goals as goal
@@ -15,14 +17,21 @@ patrol-requires-clause-size g c = λ κs within.
     let few : turns_of p ≤ 4194304 = omega (arith, c.turns_of.ensures, c.in_ok-limit_turns.ensures.few) in
     subst (λ (n : ℕ). n * length p.targets ≤ 4194304) (sym (subst (IsGameOf p) (sym c.in_ok-game.ensures.game) c.in_ok-plant.ensures.game).cells) few
 
+pub new-text-requires : goal.new-text-requires
+new-text-requires g c =
+    let p = c.in_ok-plant.plant in
+    let few : turns_of p ≤ 4194304 = omega (arith, c.turns_of.ensures, c.in_ok-limit_turns.ensures.few) in
+    let fits = patrol_rows_fit p (game_of c.in_ok-game.game) c.in_ok-rows.rows (subst (IsGameOf p) (sym c.in_ok-game.ensures.game) c.in_ok-plant.ensures.game) c.in_ok-rows.ensures in
+    patrol_held p c.in_ok-rows.rows c.in_ok-plant.ensures.accepted.limits few fits
+
 pub returns-clause-made : goal.returns-clause-made
 returns-clause-made g c =
     let p = c.in_ok-plant.plant in
     let accepted = c.in_ok-plant.ensures.accepted in
     let few : turns_of p ≤ 2 ^ 22 = omega (arith, c.turns_of.ensures, c.in_ok-limit_turns.ensures.few) in
-    rw c.of_text.ensures
+    rw (c.of_text.ensures, c.new-text.ensures)
     (record {
-      can_be_written = tt;
+      can_be_written = refl;
       answer = (p, accepted, (c.in_ok-plant.ensures.solvable, few), patrol_table p (game_of c.in_ok-game.game) c.in_ok-rows.rows accepted.limits (subst (IsGameOf p) (sym c.in_ok-game.ensures.game) c.in_ok-plant.ensures.game) c.in_ok-rows.ensures);
       leaves = refl;
     })

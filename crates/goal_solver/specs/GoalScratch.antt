@@ -2,8 +2,8 @@
 use Rattle.game_core.specs.Game.{Game}
 use Rattle.plant_record.specs.declared.aims.GoalKind.{GoalKind}
 use Rattle.plant_record.specs.declared.aims.GoalKind.TheVariants.{Reach, Keep}
-use Rattle.goal_solver.specs.declared.solved_abstraction.Scratch.{Scratch}
-use Rattle.goal_solver.specs.declared.solved_abstraction.Scratch.TheVariants.{Reach as ToReach, Keep as ToKeep}
+use Rattle.goal_solver.specs.declared.goal_scratch.Scratch.{Scratch}
+use Rattle.goal_solver.specs.declared.goal_scratch.Scratch.TheVariants.{Reach as ToReach, Keep as ToKeep}
 use Rattle.reach_avoid.specs.ReachBoards.{IsBoardOf as IsReachBoardOf}
 use Rattle.safety_game.specs.KeepBoards.{IsBoardOf as IsKeepBoardOf}
 

@@ -1,50 +1,16 @@
-//! The game of a plant, solved by workers at a board.
-
 ghost use Rattle.std.specs.Prelude.{◌≡◌, IfOk};
 ghost use Rattle.abstraction_table.specs.Table.{game_of, forward_game};
 ghost use Rattle.base.specs.Workers.{AreWorkers};
-ghost use Rattle.goal_solver.specs.inside.GoalScratch.{goal_of, IsScratchFor};
-ghost use Rattle.goal_solver.specs.SolvedAbstractions.{IsSolvedGame, IsSolvedAbstraction};
+ghost use Rattle.goal_solver.specs.GoalScratch.{goal_of, IsScratchFor};
+ghost use Rattle.goal_solver.specs.SolvedGames.{IsSolvedGame};
 
-use abstraction_table::{Abstraction, ForwardAbstraction, add_sources};
+use abstraction_table::{Abstraction, ForwardAbstraction};
 use board_rounds::SolvedGame;
 use frontier_pool::Gate;
 use game_core::NoMemory;
 use plant_record::GoalKind;
 use std::alloc::Global;
 use std::thread::Threads;
-
-/// A game with its solution.
-#[derive(Drop)]
-pub struct SolvedAbstraction {
-    pub game: Abstraction,
-    pub solution: SolvedGame,
-}
-
-/// Solves the game of a forward abstraction for a goal by 1 to 64 workers.
-///
-/// The board is made before the source lists are filled, so that they and the list of the board's numbers, whose memory is returned by
-/// then, never take memory at the same time.
-///
-/// Memory that is requested before the first round may be refused. A round of several hands requests more: where there is none,
-/// one hand does the round, and nothing is refused.
-pub fn solve_game<R: Threads + Sync, T: Gate>(
-    rt: &R,
-    alloc: Global,
-    goal: GoalKind,
-    forward: ForwardAbstraction,
-    workers: u32,
-    gate: &T,
-) -> Result<SolvedAbstraction, NoMemory>
-    requires { AreWorkers workers }
-    ensures game { IfOk result (λ solved. game_of solved.game ≡ forward_game forward) }
-    ensures solved { IfOk result (IsSolvedAbstraction goal) }
-{
-    let scratch = Scratch::new(rt, alloc, goal, &forward, workers)?;
-    let game = add_sources(rt, alloc, forward)?;
-    let solution = scratch.solve(rt, alloc, &game, gate);
-    Ok(SolvedAbstraction { game, solution })
-}
 
 /// The memory in which the game of a goal is solved.
 #[derive(Drop)]
@@ -54,7 +20,11 @@ pub enum Scratch {
 }
 
 impl Scratch {
-    fn new<R: Threads + Sync>(
+    /// Makes the board, for 1 to 64 workers.
+    ///
+    /// Make it before the source lists are filled, so that they and the list of the board's numbers, whose memory is returned by
+    /// then, never take memory at the same time.
+    pub fn new<R: Threads + Sync>(
         rt: &R,
         alloc: Global,
         goal: GoalKind,
@@ -77,7 +47,10 @@ impl Scratch {
         }
     }
 
-    fn solve<R: Threads + Sync, T: Gate>(
+    /// Solves the game.
+    ///
+    /// A round of several hands requests memory: where there is none, one hand does the round, and nothing is refused.
+    pub fn solve<R: Threads + Sync, T: Gate>(
         self,
         rt: &R,
         alloc: Global,

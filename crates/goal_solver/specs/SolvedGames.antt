@@ -5,8 +5,6 @@ use Rattle.game_core.specs.Game.{Game}
 use Rattle.plant_record.specs.declared.aims.GoalKind.{GoalKind}
 use Rattle.plant_record.specs.declared.aims.GoalKind.TheVariants.{Reach, Keep}
 use Rattle.plant_game.specs.PlantSolution.{Solves}
-use Rattle.abstraction_table.specs.Table.{game_of}
-use Rattle.goal_solver.specs.declared.solved_abstraction.SolvedAbstraction.{SolvedAbstraction}
 use Rattle.reach_avoid.specs.ReachBoards.{IsBoardOf as IsReachBoardOf}
 use Rattle.safety_game.specs.KeepBoards.{IsBoardOf as IsKeepBoardOf}
 use Rattle.cell_counters.specs.declared.account.Account.{Account}
@@ -26,7 +24,3 @@ pub record IsSolvedGame (goal : GoalKind) (g : Game) (solved : SolvedGame) : Typ
   pub reckoned : IsReckonedOn goal g solved.board solved.root.accounts
   pub at : solved.root.board ≡ solved.board
   pub settled : solved.root.out ≡ 0
-
--- a game with its solution for a goal
-abbrev pub IsSolvedAbstraction : GoalKind → SolvedAbstraction → Type 0
-IsSolvedAbstraction goal solved = IsSolvedGame goal (game_of solved.game) solved.solution

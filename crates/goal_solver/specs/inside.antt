@@ -1,2 +1,0 @@
--- What only private clauses and proofs name.
-pub mod GoalScratch
