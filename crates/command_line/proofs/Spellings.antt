@@ -8,8 +8,8 @@ use Rattle.std.specs.Fmt.{decimal, signed_decimal}
 use Rattle.std.proofs.lemmas.Fmt.{signed_decimal_injective, parse-decimal}
 use Rattle.std.proofs.lemmas.List.{length-map, get_or-map}
 use Rattle.std.proofs.lemmas.List.Elements.{All-head, All-tail, All-get_or}
-use Rattle.plant_record.specs.Numbers.{IsLiteral}
-use Rattle.plant_record.proofs.lemmas.Spelling.{short_number}
+use Rattle.line_words.specs.Numbers.{IsLiteral}
+use Rattle.line_words.proofs.lemmas.Spelling.{short_number}
 use Rattle.command_line.specs.inside.ArgumentSpelling.{Spell}
 
 -- ---- a number's own spelling is read

@@ -4,7 +4,7 @@ use Rattle.base.specs.Workers.{AreWorkers}
 use Rattle.std.specs.List.{All}
 use Rattle.std.specs.Borrow.{Bor}
 use Rattle.std.specs.Fmt.{decimal, signed_decimal}
-use Rattle.plant_record.specs.Numbers.{IsLiteral}
+use Rattle.line_words.specs.Numbers.{IsLiteral}
 use Rattle.command_line.specs.declared.command.Command.{Command}
 use Rattle.command_line.specs.declared.command.Command.TheVariants.{Synth, Check, Upgrade, Sim, Demo, Stay, Patrol}
 use Rattle.base.specs.declared.limits.TheConstants.{DEMO_LIMIT, SAMPLES_LIMIT, STATES_LIMIT}

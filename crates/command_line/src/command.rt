@@ -1,6 +1,6 @@
 ghost use Rattle.std.specs.Prelude.{◌≡◌, ◌↔◌, ◌^◌, ◌<◌, ◌≤◌, ℕ, ℤ, List, Some, [], ◌∷◌, length, IfSome, IfNone, IsTrue};
 ghost use Rattle.std.specs.Fmt.{decimal, signed_decimal};
-ghost use Rattle.plant_record.specs.Numbers.{IsLiteral};
+ghost use Rattle.line_words.specs.Numbers.{IsLiteral};
 ghost use Rattle.command_line.specs.Command.{IsDemoNumber, as_words, IsOfCommand, AreOfNoCommand};
 ghost use Rattle.base.specs.Workers.{AreWorkers};
 ghost use Rattle.command_line.specs.inside.ArgumentSpelling.{Spell};

@@ -5,7 +5,7 @@ use Rattle.std.proofs.lemmas.Bool.{cases_lt}
 use Rattle.plant_record.specs.declared.limit_kind.LimitKind.TheVariants.{Vectors, Cells, Pairs, PlantText, Edges}
 use Rattle.plant_record.specs.Description.{Description, vectors_of}
 use Rattle.plant_record.specs.Limits.{IsWithinLimits}
-use Rattle.plant_reading.specs.Lines.{lines_of}
+use Rattle.line_words.specs.Lines.{lines_of}
 use Rattle.text_pieces.specs.Steps.{IsReading}
 use Rattle.text_pieces.proofs.Laws as texts
 use Rattle.plant_text.specs.Grammar.{PartialPlant, nothing_yet, LineStep, IsEnded, Spells}

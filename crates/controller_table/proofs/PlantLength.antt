@@ -19,8 +19,8 @@ use Rattle.plant_record.specs.declared.aims.GoalKind.{GoalKind}
 use Rattle.plant_record.specs.declared.aims.GoalKind.TheVariants.{Reach, Keep}
 use Rattle.plant_record.specs.declared.version.PlantVersion.{PlantVersion}
 use Rattle.plant_record.specs.declared.version.PlantVersion.TheVariants.{One, Two}
-use Rattle.plant_record.specs.Names.{IsName}
-use Rattle.plant_record.specs.Numbers.{IsLiteral}
+use Rattle.line_words.specs.Names.{IsName}
+use Rattle.line_words.specs.Numbers.{IsLiteral}
 use Rattle.plant_record.specs.Description.{Description, names_of}
 use Rattle.plant_record.specs.Variables.{IsStateVariable, IsInputVariable, IsNoiseVariable}
 use Rattle.plant_record.specs.StateBoxes.{AreEnds, IsStateBox}

@@ -6,9 +6,9 @@ use Rattle.std.specs.Fmt.{decimal, signed_decimal}
 use Rattle.std.proofs.lemmas.Bool.{and_parts}
 use Rattle.std.proofs.lemmas.List.Elements.{All-head, All-tail}
 use Rattle.std.proofs.lemmas.List.Sums.{sum_by-append}
-use Rattle.plant_record.specs.Numbers.{IsLiteral}
-use Rattle.plant_reading.specs.Separators.{is_separator, is_word}
-use Rattle.plant_reading.proofs.lemmas.NumberBytes.{number_word}
+use Rattle.line_words.specs.Numbers.{IsLiteral}
+use Rattle.line_words.specs.Separators.{is_separator, is_word}
+use Rattle.line_words.proofs.lemmas.NumberBytes.{number_word}
 use Rattle.row_reading.specs.Counting.{line_count}
 use Rattle.command_line.specs.Command.{AreStateNumbers}
 use Rattle.live_script.specs.Scripts.{publish_line, ask_line}

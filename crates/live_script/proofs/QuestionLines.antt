@@ -8,8 +8,8 @@ use Rattle.std.specs.Fmt.{signed_decimal}
 use Rattle.std.proofs.lemmas.Grind.{flat_map-append}
 use Rattle.std.proofs.lemmas.List.{length_push}
 use Rattle.std.proofs.lemmas.List.Elements.{All-head, All-tail, All-push, All-nil}
-use Rattle.plant_record.specs.Numbers.{IsLiteral}
-use Rattle.plant_reading.proofs.lemmas.NumberWords.{whole}
+use Rattle.line_words.specs.Numbers.{IsLiteral}
+use Rattle.line_words.proofs.lemmas.NumberWords.{whole}
 use Rattle.command_line.specs.Command.{AreStateNumbers}
 use Rattle.live_script.specs.Scripts.{ask_line}
 use Rattle.live_script.specs.inside.QuestionWords.{BeginsWithSeparator, IsNumberAt, spaced, IsReadSoFar}

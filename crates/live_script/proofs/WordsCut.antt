@@ -3,11 +3,11 @@ use Rattle.std.proofs.Common.{◌≡◌, ℕ, ◌<◌, ◌≤◌, Bool, true, fa
 use Rattle.std.specs.Prelude.{ℤ, position}
 use Rattle.std.specs.List.{position_or_len}
 use Rattle.std.specs.Fmt.{signed_decimal}
-use Rattle.plant_record.specs.Numbers.{IsLiteral}
-use Rattle.plant_reading.specs.Separators.{is_separator, is_word}
-use Rattle.plant_reading.proofs.lemmas.Positions.{position_some, position_none}
-use Rattle.plant_reading.proofs.lemmas.NumberBytes.{number_word}
-use Rattle.plant_reading.proofs.lemmas.NumberWords.{one_number}
+use Rattle.line_words.specs.Numbers.{IsLiteral}
+use Rattle.line_words.specs.Separators.{is_separator, is_word}
+use Rattle.line_words.proofs.lemmas.Positions.{position_some, position_none}
+use Rattle.line_words.proofs.lemmas.NumberBytes.{number_word}
+use Rattle.line_words.proofs.lemmas.NumberWords.{one_number}
 use Rattle.row_runs.proofs.Cuts.{one_cut}
 use Rattle.live_script.specs.inside.QuestionWords.{BeginsWithSeparator}
 

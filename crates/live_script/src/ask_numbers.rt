@@ -4,7 +4,7 @@ ghost use Rattle.row_reading.specs.Found.{Finds};
 ghost use Rattle.live_script.specs.inside.QuestionWords.{IsNumberAt};
 
 use crate::cuts::take_word;
-use plant_reading::parse_number;
+use line_words::parse_number;
 
 /// The number that stands at the front, and the bytes from the separator after it on.
 pub(crate) fn take_number(bytes: &[u8]) -> Option<(i64, &[u8])>

@@ -1,7 +1,7 @@
 //! The word at the front of some bytes.
 
 ghost use Rattle.std.specs.Prelude.{◌≡◌, ◌<◌, length, position, IfSome};
-ghost use Rattle.plant_reading.specs.Separators.{is_separator};
+ghost use Rattle.line_words.specs.Separators.{is_separator};
 ghost use Rattle.row_reading.specs.Found.{Finds};
 ghost use Rattle.live_script.specs.inside.QuestionWords.{IsWordAt};
 

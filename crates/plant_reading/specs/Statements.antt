@@ -12,8 +12,8 @@ use Rattle.plant_record.specs.declared.version.PlantVersion.{PlantVersion}
 use Rattle.plant_record.specs.Variables.{IsStateVariable, IsInputVariable, IsNoiseVariable}
 use Rattle.plant_record.specs.StateBoxes.{IsStateBox}
 use Rattle.plant_record.specs.Spelling.{version_word, end_words, goal_word}
-use Rattle.plant_reading.specs.Tokens.{tokens_of}
-use Rattle.plant_reading.specs.SyntaxTrees.{AreTokensOf}
+use Rattle.line_words.specs.Tokens.{tokens_of}
+use Rattle.expression_reading.specs.SyntaxTrees.{AreTokensOf}
 
 -- what one line states
 pub data Statement : Type 0 where

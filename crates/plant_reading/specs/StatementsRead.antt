@@ -4,9 +4,9 @@ use Rattle.std.specs.List.{flat_map}
 use Rattle.fixed_expr.specs.Expression.{Expression, expression_of}
 use Rattle.plant_record.specs.declared.variables.Variables.{Variables}
 use Rattle.plant_record.specs.Parts.{variable_names}
-use Rattle.plant_reading.specs.Words.{words_of}
-use Rattle.plant_reading.specs.Tokens.{tokens_of}
-use Rattle.plant_reading.specs.SyntaxTrees.{AreTokensOf}
+use Rattle.line_words.specs.Words.{words_of}
+use Rattle.line_words.specs.Tokens.{tokens_of}
+use Rattle.expression_reading.specs.SyntaxTrees.{AreTokensOf}
 use Rattle.plant_reading.specs.declared.statements.Statement.{Statement as Read}
 use Rattle.plant_reading.specs.declared.statements.Statement.TheVariants as read
 use Rattle.plant_reading.specs.Statements.{Statement, Version, State, Input, Noise, Next, Target, Obstacle, Goal, End, States}

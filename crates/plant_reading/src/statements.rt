@@ -2,25 +2,24 @@
 
 ghost use Rattle.std.specs.Prelude.{◌≡◌, ◌≢◌, ◌≤◌, ◌∷◌, length, codes, IfOk, Err, AllPairs};
 ghost use Rattle.std.specs.List.{All};
-ghost use Rattle.plant_record.specs.Names.{IsName};
-ghost use Rattle.plant_reading.specs.inside.WordReaders.{Finds};
+ghost use Rattle.line_words.specs.Names.{IsName};
+ghost use Rattle.line_words.specs.WordReaders.{Finds};
 ghost use Rattle.plant_record.specs.Parts.{variable_names};
 ghost use Rattle.plant_reading.specs.StatementsRead.{statement_of, StatesOver};
 ghost use Rattle.plant_reading.specs.inside.Keywords.{keyword_text};
-ghost use Rattle.plant_reading.specs.declared.line_fault.LineFault.TheVariants.{Malformed};
+ghost use Rattle.line_words.specs.declared.line_fault.LineFault.TheVariants.{Malformed};
 ghost use Rattle.plant_reading.specs.Statements.{Statement as Stated};
-ghost use Rattle.plant_reading.specs.Words.{words_of};
+ghost use Rattle.line_words.specs.Words.{words_of};
 ghost use Rattle.base.specs.declared.limits.TheConstants.{STATES_LIMIT, VARIABLES_LIMIT};
 
-use crate::declarations::{parse_goal, parse_input, parse_noise, parse_state, parse_version};
-use crate::expression::parse_expression;
-use crate::line_fault::LineFault;
-use crate::state_boxes::parse_box;
-use crate::words::blanks::next_word;
-use crate::words::expected::{expect_end, expect_word};
+use crate::equations::parse_equation;
 use fixed_expr::Expr;
+use line_words::{LineFault, expect_end, expect_word, next_word};
 use plant_record::{
     GoalKind, InputVariable, NoiseVariable, PlantVersion, StateBox, StateVariable, Variables,
+};
+use statement_words::{
+    parse_box, parse_goal, parse_input, parse_noise, parse_state, parse_version,
 };
 use std::alloc::Global;
 
@@ -157,6 +156,6 @@ fn equation_after<'a>(
         return Err(LineFault::Malformed);
     };
     let rest = expect_word(rest, b"=")?;
-    let equation = parse_expression(alloc, variables, rest)?;
+    let equation = parse_equation(alloc, variables, rest)?;
     Ok(Statement::Next { state, equation })
 }

@@ -8,5 +8,4 @@ pub mod NextPoints
 pub mod Numbers
 pub mod OrderedBoxes
 pub mod SoundPlants
-pub mod Spelling
 pub mod VariableValues

@@ -3,7 +3,7 @@ use Rattle.std.specs.Prelude.{ℕ, ◌<◌, ◌≤◌, pos, ◌≤ℤ◌}
 pub use Rattle.fixed_expr.specs.Expression.{nodes_of, depth_of}
 use Rattle.fixed_expr.specs.Expression.{Expression, NumExpr, VarExpr, NegExpr, AddExpr, SubExpr, MulExpr, DivExpr, MinExpr, MaxExpr, AbsExpr, LutExpr}
 use Rattle.fixed_expr.specs.Curves.{IsCurve}
-use Rattle.plant_record.specs.Numbers.{IsLiteral}
+use Rattle.line_words.specs.Numbers.{IsLiteral}
 use Rattle.base.specs.declared.limits.TheConstants.{DEPTH_LIMIT, NODES_LIMIT}
 
 -- numbers without sign, one of the first m variables, divisors of at least 1, and tables that are curves

@@ -4,8 +4,6 @@ pub mod Equations
 pub mod ValueIndices
 pub mod Limits
 pub mod CellMarks
-pub mod Names
-pub mod Numbers
 pub mod Parts
 pub mod Plants
 pub mod Soundness

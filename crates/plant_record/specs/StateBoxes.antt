@@ -2,7 +2,7 @@
 use Rattle.std.specs.Prelude.{◌≡◌, ℕ, ◌-◌, ℤ, pos, ◌≤ℤ◌, ◌++◌, length, take, replicate}
 use Rattle.std.specs.List.{AllZip}
 use Rattle.plant_record.specs.declared.aims.StateBox.{StateBox}
-use Rattle.plant_record.specs.Numbers.{IsLiteral}
+use Rattle.line_words.specs.Numbers.{IsLiteral}
 use Rattle.base.specs.declared.limits.TheConstants.{STATES_LIMIT}
 
 -- two ends in order

@@ -4,8 +4,8 @@ use Rattle.std.specs.List.{All}
 use Rattle.plant_record.specs.declared.variables.StateVariable.{StateVariable}
 use Rattle.plant_record.specs.declared.variables.InputVariable.{InputVariable}
 use Rattle.plant_record.specs.declared.variables.NoiseVariable.{NoiseVariable}
-use Rattle.plant_record.specs.Names.{IsName}
-use Rattle.plant_record.specs.Numbers.{IsLiteral}
+use Rattle.line_words.specs.Names.{IsName}
+use Rattle.line_words.specs.Numbers.{IsLiteral}
 use Rattle.base.specs.declared.limits.TheConstants.{VALUES_LIMIT}
 
 -- A state's range is divided into whole cells.

@@ -7,7 +7,7 @@ ghost use Rattle.grid_quantiser.specs.Axes.{cells_of};
 ghost use Rattle.plant_record.specs.declared.variables.NoiseVariable.{NoiseVariable};
 ghost use Rattle.plant_record.specs.Description.{axes_of, names_of, value_counts, vectors_of, vector_of};
 ghost use Rattle.mixed_radix.specs.Radix.{size, AreDigits, AreDigitsOf};
-ghost use Rattle.plant_record.specs.Numbers.{IsLiteral};
+ghost use Rattle.line_words.specs.Numbers.{IsLiteral};
 ghost use Rattle.plant_record.specs.ValueIndices.{value_count, value_index, value_at};
 ghost use Rattle.plant_record.specs.Plants.{IsPlant};
 ghost use Rattle.plant_record.specs.Limits.{IsWithinLimits, Exceeds};

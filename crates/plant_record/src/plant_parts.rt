@@ -4,7 +4,7 @@ ghost use Rattle.std.specs.Prelude.{◌≡◌, ◌/◌, ◌^◌, ◌<◌, ◌≤
 ghost use Rattle.std.specs.List.{All};
 ghost use Rattle.grid_quantiser.specs.Axes.{cells_of};
 ghost use Rattle.plant_record.specs.Description.{axis_of, value_counts};
-ghost use Rattle.plant_record.specs.Numbers.{IsLiteral};
+ghost use Rattle.line_words.specs.Numbers.{IsLiteral};
 ghost use Rattle.plant_record.specs.Variables.{IsStateVariable, IsInputVariable};
 ghost use Rattle.base.specs.declared.limits.TheConstants.{CELLS_LIMIT, INPUTS_LIMIT, STATES_LIMIT};
 

@@ -2,7 +2,7 @@
 
 ghost use Rattle.std.specs.Prelude.{◌≡◌, ◌<◌, ◌≤◌, length, position, IfOk, IfSome, IfNone, slice_get, Some, Contains};
 ghost use Rattle.std.specs.Str.{bytes_eq};
-ghost use Rattle.plant_record.specs.Names.{IsName};
+ghost use Rattle.line_words.specs.Names.{IsName};
 ghost use Rattle.base.specs.declared.limits.TheConstants.{VARIABLES_LIMIT};
 ghost use Rattle.plant_record.specs.Parts.{variable_names};
 
@@ -18,7 +18,7 @@ pub struct Name {
 
 impl Model for Name {
     ghost use Rattle.std.specs.Prelude.{ℕ, List};
-    ghost use Rattle.plant_record.specs.Names.{IsName};
+    ghost use Rattle.line_words.specs.Names.{IsName};
 
     ghost Value = { List ℕ };
 

@@ -13,3 +13,4 @@ pub mod Lists
 pub mod PlantLines
 pub mod RulesKept
 pub mod SpelledCanonically
+pub mod TreeLiterals

@@ -12,8 +12,8 @@ use Rattle.plant_record.specs.declared.version.PlantVersion.{PlantVersion}
 use Rattle.plant_record.specs.declared.version.PlantVersion.TheVariants.{One}
 use Rattle.plant_record.specs.Equations.{HasNoLut}
 use Rattle.plant_record.specs.Description.{Description, names_over}
-use Rattle.plant_reading.specs.Lines.{lines_of}
-use Rattle.plant_reading.specs.Words.{words_of, is_skipped}
+use Rattle.line_words.specs.Lines.{lines_of}
+use Rattle.line_words.specs.Words.{words_of, is_skipped}
 use Rattle.plant_reading.specs.Statements.{Statement, Version, State, Input, Noise, Next, Target, Obstacle, Goal, End, States}
 use Rattle.text_pieces.specs.Steps.{IsReading, IsFirstRefused}
 use Rattle.base.specs.declared.limits.TheConstants.{BOXES_LIMIT, INPUTS_LIMIT, NOISES_LIMIT, STATES_LIMIT}

@@ -1,8 +1,8 @@
 -- What holds of every plant text.
 use Rattle.std.specs.Prelude.{◌≡◌, ℕ, ℤ, List, ◌++◌, true}
 use Rattle.std.specs.Fmt.{signed_decimal}
-use Rattle.plant_reading.specs.Separators.{is_word}
-use Rattle.plant_record.specs.Numbers.{IsLiteral}
+use Rattle.line_words.specs.Separators.{is_word}
+use Rattle.line_words.specs.Numbers.{IsLiteral}
 use Rattle.plant_record.specs.Description.{Description}
 use Rattle.plant_writing.specs.CanonicalText.{text_of}
 use Rattle.plant_text.specs.declared.plant_fault.PlantFault.{PlantFault}

@@ -5,7 +5,7 @@ use Rattle.plant_record.specs.declared.limit_kind.LimitKind.{LimitKind}
 use Rattle.plant_text.specs.declared.plant_fault.PlantFault.{PlantFault}
 use Rattle.plant_text.specs.declared.plant_fault.PlantFault.TheVariants as faults
 use Rattle.plant_record.specs.Description.{Description}
-use Rattle.plant_reading.specs.Lines.{lines_of}
+use Rattle.line_words.specs.Lines.{lines_of}
 use Rattle.plant_text.specs.Grammar.{Spells, IsLineRefused}
 use Rattle.plant_record.specs.Limits.{Exceeds}
 use Rattle.base.specs.declared.limits.TheConstants.{TEXT_LIMIT}

@@ -1,5 +1,5 @@
 ghost use Rattle.std.specs.Prelude.{◌≡◌, ◌≢◌, ◌↔◌, [], length, None, Some, Err, IsTrue, IfOk, IfErr, OnOk, true, false};
-ghost use Rattle.plant_reading.specs.declared.line_fault.LineFault.TheVariants.{Malformed};
+ghost use Rattle.line_words.specs.declared.line_fault.LineFault.TheVariants.{Malformed};
 ghost use Rattle.fixed_expr.specs.Expression.{expression_of};
 ghost use Rattle.plant_record.specs.declared.aims.GoalKind.TheVariants.{Keep};
 ghost use Rattle.plant_record.specs.declared.version.PlantVersion.TheVariants.{One};

@@ -1,6 +1,6 @@
 ghost use Rattle.std.specs.Prelude.{◌≡◌, ◌≢◌, ◌<◌, [], IfOk, IfErr, true};
 ghost use Rattle.plant_text.specs.declared.plant_fault.PlantFault.TheVariants.{Memory};
-ghost use Rattle.plant_reading.specs.Lines.{lines_of};
+ghost use Rattle.line_words.specs.Lines.{lines_of};
 ghost use Rattle.text_pieces.specs.Steps.{IsReading};
 ghost use Rattle.plant_text.specs.Grammar.{nothing_yet, LineStep, IsEnded, Spells};
 ghost use Rattle.plant_record.specs.Limits.{IsWithinLimits};

@@ -6,8 +6,8 @@ use Rattle.std.proofs.lemmas.Bool.{and_parts}
 use Rattle.std.proofs.lemmas.Fmt.{decimal_by_steps, decimal_digit, decimal_step, decimal_nonempty, decimal_injective, first_decimal}
 use Rattle.std.proofs.lemmas.List.Folds.{list_all-append}
 use Rattle.std.proofs.lemmas.List.Sums.{fold-append}
-use Rattle.plant_record.specs.Names.{is_digit}
-use Rattle.plant_record.proofs.lemmas.Spelling.{one_digit, decimal_digits}
+use Rattle.line_words.specs.Names.{is_digit}
+use Rattle.line_words.proofs.lemmas.Spelling.{one_digit, decimal_digits}
 use Rattle.row_reading.specs.Numbers.{IsNumberTo}
 use Rattle.row_runs.proofs.Cuts.{one_cut, not_both}
 

@@ -1,7 +1,7 @@
 //! Numbers in lines.
 
 ghost use Rattle.std.specs.Prelude.{◌≡◌, ◌⊎◌, ◌+◌, ◌*◌, ◌^◌, ◌<◌, ◌≤◌, false, MatchOption};
-ghost use Rattle.plant_record.specs.Names.{is_digit};
+ghost use Rattle.line_words.specs.Names.{is_digit};
 ghost use Rattle.row_reading.specs.Found.{Finds};
 ghost use Rattle.row_reading.specs.Numbers.{IsNumberTo};
 

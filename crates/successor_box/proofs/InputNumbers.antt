@@ -12,7 +12,7 @@ use Rattle.plant_record.specs.Description.{value_counts, vectors_of, vector_of}
 use Rattle.plant_record.specs.ValueIndices.{value_count, value_index}
 use Rattle.plant_record.proofs.lemmas.ValueIndices.{length-counts}
 use Rattle.plant_record.specs.Variables.{IsInputVariable}
-use Rattle.plant_record.specs.Numbers.{IsLiteral}
+use Rattle.line_words.specs.Numbers.{IsLiteral}
 
 pub value_literal : (inputs : List InputVariable) (u k : ℕ) → All IsInputVariable inputs → nat_abs (get_or (vector_of inputs u) k (pos 0)) < 10 ^ 18
 value_literal [] u k each = omega arith

@@ -2,8 +2,8 @@
 use Rattle.std.specs.Prelude.{◌≡◌, ℕ, ◌<◌, ◌≤◌, true, ℤ, pos, List, ◌∷◌, ◌++◌, length, codes}
 use Rattle.std.specs.List.{All, flat_map}
 use Rattle.std.specs.Fmt.{signed_decimal}
-use Rattle.plant_record.specs.Numbers.{IsLiteral}
-use Rattle.plant_reading.specs.Separators.{is_separator, is_word}
+use Rattle.line_words.specs.Numbers.{IsLiteral}
+use Rattle.line_words.specs.Separators.{is_separator, is_word}
 use Rattle.command_line.specs.Command.{AreStateNumbers}
 use Rattle.live_script.specs.Scripts.{ask_line}
 use Rattle.base.specs.declared.limits.TheConstants.{STATES_LIMIT, TABLE_LIMIT}

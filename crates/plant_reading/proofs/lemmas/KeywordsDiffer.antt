@@ -10,10 +10,10 @@ use Rattle.plant_reading.specs.declared.statements.Keyword.{Keyword}
 use Rattle.plant_reading.specs.declared.statements.Keyword.TheVariants as keywords
 use Rattle.plant_reading.specs.declared.statements.TheConstants.{KEYWORDS}
 use Rattle.plant_reading.specs.inside.Keywords.{keyword_text}
-use Rattle.plant_reading.specs.Tokens.{tokens_of}
-use Rattle.plant_reading.specs.SyntaxTrees.{AreTokensOf}
+use Rattle.line_words.specs.Tokens.{tokens_of}
+use Rattle.expression_reading.specs.SyntaxTrees.{AreTokensOf}
 use Rattle.plant_reading.specs.Statements.{Statement, Version, State, Input, Noise, Next, Target, Obstacle, Goal, End, States}
-use Rattle.plant_reading.proofs.lemmas.Literals.{is_same}
+use Rattle.expression_reading.proofs.lemmas.Literals.{is_same}
 
 -- the first two bytes of the first word, which tell the keywords apart
 abbrev pub front_of : List (List ℕ) → ℕ × ℕ

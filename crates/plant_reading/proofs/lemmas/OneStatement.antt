@@ -14,17 +14,17 @@ use Rattle.plant_record.specs.declared.aims.GoalKind.{GoalKind}
 use Rattle.plant_record.specs.declared.aims.GoalKind.TheVariants.{Reach, Keep}
 use Rattle.plant_record.specs.declared.version.PlantVersion.{PlantVersion}
 use Rattle.plant_record.specs.declared.version.PlantVersion.TheVariants.{One, Two}
-use Rattle.plant_record.specs.Names.{IsName}
-use Rattle.plant_record.specs.Numbers.{IsLiteral}
+use Rattle.line_words.specs.Names.{IsName}
+use Rattle.line_words.specs.Numbers.{IsLiteral}
 use Rattle.plant_record.specs.StateBoxes.{AreEnds}
 use Rattle.plant_record.specs.Spelling.{version_word, end_words, goal_word}
-use Rattle.plant_reading.specs.Words.{words_of, is_skipped}
-use Rattle.plant_reading.specs.Tokens.{tokens_of}
-use Rattle.plant_reading.specs.Laws.{OneExpression}
-use Rattle.plant_reading.specs.SyntaxTrees.{AreTokensOf}
-use Rattle.plant_reading.specs.inside.LineReaders.{SpellsState, SpellsInput, SpellsNoise, SpellsBox}
+use Rattle.line_words.specs.Words.{words_of, is_skipped}
+use Rattle.line_words.specs.Tokens.{tokens_of}
+use Rattle.expression_reading.specs.Laws.{OneExpression}
+use Rattle.expression_reading.specs.SyntaxTrees.{AreTokensOf}
+use Rattle.statement_words.specs.LineReaders.{SpellsState, SpellsInput, SpellsNoise, SpellsBox}
 use Rattle.plant_reading.specs.Statements.{Statement, Version, State, Input, Noise, Next, Target, Obstacle, Goal, End, States}
-use Rattle.plant_reading.proofs.lemmas.NumberWords.{one_number}
+use Rattle.line_words.proofs.lemmas.NumberWords.{one_number}
 use Rattle.plant_reading.proofs.lemmas.KeywordsDiffer.{front_of, kind_of, front_is}
 
 abbrev state_of : List ℕ → ℤ → ℤ → ℤ → StateVariable

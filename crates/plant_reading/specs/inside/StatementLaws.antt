@@ -1,8 +1,8 @@
 -- What lines and statements owe to each other. No public clause names this.
 use Rattle.std.specs.Prelude.{◌≡◌, ◌≢◌, ℕ, true, List, AllPairs}
 use Rattle.std.specs.List.{All}
-use Rattle.plant_record.specs.Names.{IsName}
-use Rattle.plant_reading.specs.Words.{words_of, is_skipped}
+use Rattle.line_words.specs.Names.{IsName}
+use Rattle.line_words.specs.Words.{words_of, is_skipped}
 use Rattle.plant_reading.specs.Statements.{Statement, States}
 
 -- the words of a line state one thing at most

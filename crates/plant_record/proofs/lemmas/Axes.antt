@@ -8,7 +8,7 @@ use Rattle.std.proofs.lemmas.List.Elements.{All-map, All-weaker}
 use Rattle.grid_quantiser.specs.declared.axis.Axis.{Axis}
 use Rattle.grid_quantiser.specs.Axes.{IsAxis, AreAxes, end_of}
 use Rattle.plant_record.specs.declared.variables.StateVariable.{StateVariable}
-use Rattle.plant_record.specs.Numbers.{IsLiteral}
+use Rattle.line_words.specs.Numbers.{IsLiteral}
 use Rattle.plant_record.specs.Description.{axis_of}
 use Rattle.plant_record.specs.Variables.{IsStateVariable}
 use Rattle.plant_record.proofs.lemmas.Numbers.{positive, whole_end, some_count}

@@ -8,12 +8,12 @@ use Rattle.std.proofs.lemmas.List.Elements.{All-get_or, recursion_from_All}
 use Rattle.plant_record.specs.declared.variables.StateVariable.{StateVariable}
 use Rattle.plant_record.specs.declared.variables.InputVariable.{InputVariable}
 use Rattle.plant_record.specs.declared.variables.NoiseVariable.{NoiseVariable}
-use Rattle.plant_record.specs.Names.{IsName}
-use Rattle.plant_record.specs.Numbers.{IsLiteral}
+use Rattle.line_words.specs.Names.{IsName}
+use Rattle.line_words.specs.Numbers.{IsLiteral}
 use Rattle.plant_record.specs.Spelling.{version_word, end_words, goal_word}
 use Rattle.plant_writing.specs.ExpressionText.{expression_text}
-use Rattle.plant_reading.specs.Words.{words_of}
-use Rattle.plant_reading.specs.Tokens.{tokens_of}
+use Rattle.line_words.specs.Words.{words_of}
+use Rattle.line_words.specs.Tokens.{tokens_of}
 use Rattle.plant_reading.specs.Statements.{Statement, Version, State, Input, Noise, Next, Target, Obstacle, Goal, End, States}
 use Rattle.plant_text.specs.Grammar.{PartialPlant, names_in, FitsAfter, with_statement}
 use Rattle.plant_text.specs.CanonicalFronts.{statement_line, ExtendsCanonically}
@@ -23,7 +23,7 @@ use Rattle.plant_text.specs.inside.CanonicalNext.{IsCanonicalNext}
 use Rattle.plant_record.proofs.lemmas.SoundPlants.{well_formed}
 use Rattle.plant_text.proofs.lemmas.RulesKept.{equation_spelled}
 use Rattle.plant_text.proofs.lemmas.LineGrammar.{stated_once}
-use Rattle.plant_reading.proofs.lemmas.PutTogether.{is_printable, IsDarkWord, printable_joined}
+use Rattle.line_words.proofs.lemmas.PutTogether.{is_printable, IsDarkWord, printable_joined}
 use Rattle.plant_text.proofs.lemmas.CanonicalWords.{name_dark, number_dark, numbers_dark, box_dark, version_dark, goal_dark, expression_printable, equation_printable}
 
 -- a stated equation has the variables that it names

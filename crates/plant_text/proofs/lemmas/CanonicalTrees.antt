@@ -6,14 +6,14 @@ use Rattle.std.proofs.lemmas.Bool.{ltb-false}
 use Rattle.std.proofs.lemmas.Int.{ints}
 use Rattle.std.proofs.lemmas.List.{append-nil}
 use Rattle.fixed_expr.specs.Expression.{Expression, NumExpr, VarExpr, NegExpr, AddExpr, SubExpr, MulExpr, DivExpr, MinExpr, MaxExpr, AbsExpr, LutExpr}
-use Rattle.plant_record.specs.Names.{IsName}
+use Rattle.line_words.specs.Names.{IsName}
 use Rattle.plant_record.specs.Equations.{HasLiterals, IsEquation, depth_of}
 use Rattle.plant_writing.specs.ExpressionText.{expression_text}
-use Rattle.plant_reading.specs.Words.{words_of}
-use Rattle.plant_reading.specs.Tokens.{tokens_of}
-use Rattle.plant_reading.specs.SyntaxTrees.{Syntax, AddTree, SubTree, MulTree, DivTree, ParenTree, yield_of, level_of, IsGrammatical, meaning_of, brackets_of, AreTokensOf}
+use Rattle.line_words.specs.Words.{words_of}
+use Rattle.line_words.specs.Tokens.{tokens_of}
+use Rattle.expression_reading.specs.SyntaxTrees.{Syntax, AddTree, SubTree, MulTree, DivTree, ParenTree, yield_of, level_of, IsGrammatical, meaning_of, brackets_of, AreTokensOf}
 use Rattle.plant_record.proofs.lemmas.Numbers.{positive}
-use Rattle.plant_reading.proofs.lemmas.OneScan.{scan, scan_is}
+use Rattle.line_words.proofs.lemmas.OneScan.{scan, scan_is}
 use Rattle.plant_text.proofs.lemmas.ExpressionTokens.{tree, yields}
 use Rattle.plant_record.proofs.lemmas.Numbers.{some_divisor}
 

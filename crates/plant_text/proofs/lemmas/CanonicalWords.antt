@@ -12,16 +12,16 @@ use Rattle.plant_record.specs.declared.aims.GoalKind.{GoalKind}
 use Rattle.plant_record.specs.declared.aims.GoalKind.TheVariants.{Reach, Keep}
 use Rattle.plant_record.specs.declared.version.PlantVersion.{PlantVersion}
 use Rattle.plant_record.specs.declared.version.PlantVersion.TheVariants.{One, Two}
-use Rattle.plant_record.specs.Names.{IsName, is_letter, is_digit, is_name_byte}
-use Rattle.plant_record.specs.Numbers.{IsLiteral}
+use Rattle.line_words.specs.Names.{IsName, is_letter, is_digit, is_name_byte}
+use Rattle.line_words.specs.Numbers.{IsLiteral}
 use Rattle.plant_record.specs.Equations.{HasLiterals}
 use Rattle.plant_record.specs.StateBoxes.{AreEnds, IsStateBox}
 use Rattle.plant_record.specs.declared.aims.StateBox.{StateBox}
 use Rattle.plant_writing.specs.ExpressionText.{expression_text, point_text}
 use Rattle.plant_record.specs.Spelling.{version_word, end_words, goal_word}
-use Rattle.plant_record.proofs.lemmas.Spelling.{decimal_digits}
-use Rattle.plant_reading.proofs.lemmas.OneScan.{name_byte_above}
-use Rattle.plant_reading.proofs.lemmas.PutTogether.{is_dark, is_printable, IsDarkWord, dark_printable, printable_both}
+use Rattle.line_words.proofs.lemmas.Spelling.{decimal_digits}
+use Rattle.line_words.proofs.lemmas.OneScan.{name_byte_above}
+use Rattle.line_words.proofs.lemmas.PutTogether.{is_dark, is_printable, IsDarkWord, dark_printable, printable_both}
 
 name_bytes : (w : List ℕ) → list_all is_name_byte w ≡ true → is_dark w ≡ true
 name_bytes [] names = refl

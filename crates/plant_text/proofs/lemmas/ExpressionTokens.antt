@@ -8,14 +8,14 @@ use Rattle.std.proofs.lemmas.Fmt.{decimal_nonempty}
 use Rattle.std.proofs.lemmas.List.Elements.{All-get_or, recursion_from_All}
 use Rattle.fixed_expr.specs.Expression.{Expression, NumExpr, VarExpr, NegExpr, AddExpr, SubExpr, MulExpr, DivExpr, MinExpr, MaxExpr, AbsExpr, LutExpr}
 use Rattle.fixed_expr.specs.Curves.{IsShort}
-use Rattle.plant_record.specs.Names.{is_letter, is_digit, IsName}
-use Rattle.plant_record.specs.Numbers.{IsLiteral}
-use Rattle.plant_reading.specs.Words.{is_blank}
+use Rattle.line_words.specs.Names.{is_letter, is_digit, IsName}
+use Rattle.line_words.specs.Numbers.{IsLiteral}
+use Rattle.line_words.specs.Words.{is_blank}
 use Rattle.plant_record.specs.Equations.{HasLiterals}
 use Rattle.plant_writing.specs.ExpressionText.{expression_text, point_text}
-use Rattle.plant_reading.specs.SyntaxTrees.{Syntax, NumTree, VarTree, NegTree, AddTree, SubTree, MulTree, DivTree, MinTree, MaxTree, AbsTree, LutTree, ParenTree, signed_tokens, point_tokens, yield_of}
-use Rattle.plant_record.proofs.lemmas.Spelling.{decimal_digits}
-use Rattle.plant_reading.proofs.lemmas.OneScan.{scan, is_break, is_run, symbol_front, run_front, name_front, digits_front}
+use Rattle.expression_reading.specs.SyntaxTrees.{Syntax, NumTree, VarTree, NegTree, AddTree, SubTree, MulTree, DivTree, MinTree, MaxTree, AbsTree, LutTree, ParenTree, signed_tokens, point_tokens, yield_of}
+use Rattle.line_words.proofs.lemmas.Spelling.{decimal_digits}
+use Rattle.line_words.proofs.lemmas.OneScan.{scan, is_break, is_run, symbol_front, run_front, name_front, digits_front}
 
 -- ---- texts and their tokens
 

@@ -6,11 +6,11 @@ use Rattle.std.proofs.Math.Seq.{take-append_seam}
 use Rattle.std.proofs.lemmas.List.{append_cancel_right}
 use Rattle.base.proofs.Lists.{same_head}
 use Rattle.plant_record.specs.Description.{Description}
-use Rattle.plant_reading.specs.Lines.{lines_of}
-use Rattle.plant_reading.specs.Words.{words_of}
+use Rattle.line_words.specs.Lines.{lines_of}
+use Rattle.line_words.specs.Words.{words_of}
 use Rattle.plant_reading.specs.Statements.{Statement, Version, State, Input, Noise, Next, Target, Obstacle, Goal, End}
-use Rattle.plant_reading.proofs.lemmas.WhereCut.{feed_has_position}
-use Rattle.plant_reading.proofs.lemmas.PutTogether.{lines_front}
+use Rattle.line_words.proofs.lemmas.WhereCut.{feed_has_position}
+use Rattle.line_words.proofs.lemmas.PutTogether.{lines_front}
 use Rattle.plant_writing.specs.CanonicalText.{text_of}
 use Rattle.text_pieces.specs.Steps.{joined, Leads, IsRead, IsStuck, IsGrammar}
 use Rattle.text_pieces.proofs.Laws.{read_on, met}

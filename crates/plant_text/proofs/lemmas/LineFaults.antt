@@ -3,8 +3,8 @@ use Rattle.std.proofs.Common.{◌≡◌, ℕ, refl, sym, ap, subst}
 use Rattle.plant_record.specs.Description.{Description}
 use Rattle.plant_record.specs.Limits.{IsWithinLimits, Exceeds}
 use Rattle.plant_record.proofs.lemmas.Limits.{one_limit, exceeds_none}
-use Rattle.plant_reading.specs.declared.line_fault.LineFault.{LineFault}
-use Rattle.plant_reading.specs.declared.line_fault.LineFault.TheVariants as reading
+use Rattle.line_words.specs.declared.line_fault.LineFault.{LineFault}
+use Rattle.line_words.specs.declared.line_fault.LineFault.TheVariants as reading
 use Rattle.plant_text.specs.declared.plant_fault.PlantFault.{PlantFault}
 use Rattle.plant_text.specs.declared.plant_fault.PlantFault.TheVariants as faults
 

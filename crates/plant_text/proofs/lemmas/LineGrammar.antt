@@ -1,8 +1,8 @@
 -- From line to line of a text: its lines are a grammar, each of which leads to one part.
 use Rattle.std.proofs.Common.{inl, inr, ◌≡◌, ℕ, ◌+◌, ◌<◌, true, false, List, [], ◌∷◌, ◌++◌, length, arith, refl, sym, ap, ◌∙◌, subst, length-append}
 use Rattle.base.proofs.Lists.{same_head}
-use Rattle.plant_reading.specs.Lines.{lines_of}
-use Rattle.plant_reading.specs.Words.{words_of}
+use Rattle.line_words.specs.Lines.{lines_of}
+use Rattle.line_words.specs.Words.{words_of}
 use Rattle.plant_reading.specs.Statements.{Statement, States}
 use Rattle.plant_reading.proofs.lemmas.StatementLaws.{one_statement, skipped}
 use Rattle.text_pieces.specs.Steps.{IsRead, IsReading, IsStuck, IsGrammar}

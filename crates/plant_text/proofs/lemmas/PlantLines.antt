@@ -13,8 +13,8 @@ use Rattle.plant_record.specs.declared.aims.StateBox.{StateBox}
 use Rattle.plant_record.specs.declared.aims.GoalKind.{GoalKind}
 use Rattle.plant_record.specs.declared.version.PlantVersion.{PlantVersion}
 use Rattle.plant_record.specs.declared.version.PlantVersion.TheVariants.{One, Two}
-use Rattle.plant_record.specs.Names.{IsName}
-use Rattle.plant_record.specs.Numbers.{IsLiteral}
+use Rattle.line_words.specs.Names.{IsName}
+use Rattle.line_words.specs.Numbers.{IsLiteral}
 use Rattle.plant_record.specs.Description.{Description, names_over, names_of}
 use Rattle.plant_record.specs.Variables.{IsStateVariable, IsInputVariable, IsNoiseVariable}
 use Rattle.plant_record.specs.StateBoxes.{IsStateBox}
@@ -24,12 +24,12 @@ use Rattle.plant_writing.specs.CanonicalText.{text_of, state_line, input_line, n
 use Rattle.plant_record.specs.Spelling.{version_word, end_words, goal_word}
 use Rattle.base.specs.Lines.{line}
 use Rattle.plant_writing.specs.ExpressionText.{expression_text}
-use Rattle.plant_reading.specs.Words.{words_of}
+use Rattle.line_words.specs.Words.{words_of}
 use Rattle.plant_reading.specs.Statements.{Statement, Version, State, Input, Noise, Next, Target, Obstacle, Goal, End, States}
 use Rattle.plant_text.specs.Grammar.{PartialPlant, nothing_yet, names_in, FitsAfter, with_statement, IsWhole}
 use Rattle.text_pieces.specs.Steps.{joined, Leads}
 use Rattle.plant_text.specs.CanonicalFronts.{statement_line, IsInOrder, FrontStep}
-use Rattle.plant_reading.proofs.lemmas.PutTogether.{IsDarkWord, words_front, words_joined}
+use Rattle.line_words.proofs.lemmas.PutTogether.{IsDarkWord, words_front, words_joined}
 use Rattle.plant_text.proofs.lemmas.CanonicalWords.{name_dark, number_dark, numbers_dark, box_dark, goal_dark}
 use Rattle.plant_text.proofs.lemmas.CanonicalTrees.{tokens_spell}
 use Rattle.plant_writing.proofs.lemmas.WrittenLines.{name_of_state}

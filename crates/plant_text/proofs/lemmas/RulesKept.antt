@@ -13,17 +13,17 @@ use Rattle.plant_record.specs.declared.aims.GoalKind.{GoalKind}
 use Rattle.plant_record.specs.declared.aims.GoalKind.TheVariants.{Keep}
 use Rattle.plant_record.specs.declared.version.PlantVersion.{PlantVersion}
 use Rattle.plant_record.specs.declared.version.PlantVersion.TheVariants.{One}
-use Rattle.plant_record.specs.Names.{IsName}
+use Rattle.line_words.specs.Names.{IsName}
 use Rattle.plant_record.specs.Variables.{IsStateVariable, IsInputVariable, IsNoiseVariable}
 use Rattle.plant_record.specs.StateBoxes.{IsStateBox}
 use Rattle.plant_record.specs.Equations.{IsEquation, HasLiterals, HasNoLut}
-use Rattle.plant_reading.specs.Words.{words_of}
-use Rattle.plant_reading.specs.Tokens.{tokens_of}
-use Rattle.plant_reading.specs.SyntaxTrees.{AreTokensOf}
+use Rattle.line_words.specs.Words.{words_of}
+use Rattle.line_words.specs.Tokens.{tokens_of}
+use Rattle.expression_reading.specs.SyntaxTrees.{AreTokensOf}
 use Rattle.plant_reading.specs.Statements.{Statement, Version, State, Input, Noise, Next, Target, Obstacle, Goal, End, States}
 use Rattle.plant_text.specs.Grammar.{PartialPlant, nothing_yet, names_in, HasEquations, FitsAfter, with_statement, Extends}
 use Rattle.plant_text.specs.inside.PartialPlantRules.{KeepsRules, IsAimless}
-use Rattle.plant_reading.proofs.lemmas.TreeLiterals.{tree_literals}
+use Rattle.plant_text.proofs.lemmas.TreeLiterals.{tree_literals}
 use Rattle.plant_text.proofs.lemmas.Lists.{differ}
 
 -- a new name at the end of the names

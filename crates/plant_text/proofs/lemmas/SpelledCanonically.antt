@@ -1,7 +1,7 @@
 -- The canonical text of a plant spells it.
 use Rattle.std.proofs.Common.{inr, ◌≡◌, ℕ, List, [], ◌∷◌, ◌++◌, append-nil, refl, sym, ap, ◌∙◌}
-use Rattle.plant_reading.specs.Lines.{lines_of}
-use Rattle.plant_reading.specs.Words.{words_of}
+use Rattle.line_words.specs.Lines.{lines_of}
+use Rattle.line_words.specs.Words.{words_of}
 use Rattle.text_pieces.specs.Steps.{joined, Leads}
 use Rattle.plant_text.specs.Grammar.{PartialPlant, nothing_yet, LineStep}
 use Rattle.plant_text.specs.CanonicalFronts.{FrontStep}

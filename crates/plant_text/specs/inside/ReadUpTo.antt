@@ -1,6 +1,6 @@
 -- How far a text is read. No public clause names this.
 use Rattle.std.specs.Prelude.{◌≡◌, ℕ, suc, ◌+◌, ◌≤◌, List, length}
-use Rattle.plant_reading.specs.Lines.{lines_of}
+use Rattle.line_words.specs.Lines.{lines_of}
 use Rattle.text_pieces.specs.Steps.{IsRead}
 use Rattle.plant_text.specs.Grammar.{PartialPlant, nothing_yet, LineStep}
 use Rattle.plant_text.specs.inside.PartialPlantRules.{KeepsRules}

@@ -1,5 +1,5 @@
 use Rattle.std.proofs.Common.{◌∙◌}
-use Rattle.plant_record.proofs.lemmas.Spelling.{parsed_number}
+use Rattle.line_words.proofs.lemmas.Spelling.{parsed_number}
 use Rattle.command_line.proofs.command.parsed_state.Goals as goal
 
 pub returns : goal.returns

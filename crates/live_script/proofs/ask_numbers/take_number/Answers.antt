@@ -1,6 +1,6 @@
 use Rattle.std.proofs.Common.{sym, ◌∙◌}
 use Rattle.std.specs.Fmt.{signed_decimal}
-use Rattle.plant_reading.proofs.lemmas.NumberBytes.{number_word}
+use Rattle.line_words.proofs.lemmas.NumberBytes.{number_word}
 use Rattle.live_script.proofs.WordsCut.{one_word}
 use Rattle.live_script.proofs.ask_numbers.take_number.Goals as goal
 

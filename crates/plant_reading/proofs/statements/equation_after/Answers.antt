@@ -4,10 +4,10 @@ use Rattle.std.specs.List.{flat_map}
 use Rattle.plant_record.specs.Parts.{variable_names}
 use Rattle.plant_reading.specs.StatementsRead.{statement_of}
 use Rattle.plant_reading.specs.Statements.{States}
-use Rattle.plant_reading.specs.SyntaxTrees.{AreTokensOf}
-use Rattle.plant_reading.specs.Words.{words_of}
-use Rattle.plant_reading.specs.Tokens.{tokens_of}
-use Rattle.plant_reading.proofs.lemmas.RefusalsPassOn.{exits, refuses}
+use Rattle.expression_reading.specs.SyntaxTrees.{AreTokensOf}
+use Rattle.line_words.specs.Words.{words_of}
+use Rattle.line_words.specs.Tokens.{tokens_of}
+use Rattle.line_words.proofs.lemmas.RefusalsPassOn.{exits, refuses}
 use Rattle.plant_reading.proofs.lemmas.KeywordsDiffer.{only_next}
 use Rattle.plant_reading.proofs.statements.equation_after.Goals as goal
 

@@ -2,9 +2,9 @@ use Rattle.std.proofs.Common.{◌≡◌, length}
 use Rattle.plant_record.specs.Parts.{variable_names}
 use Rattle.plant_reading.specs.inside.Keywords.{keyword_text}
 use Rattle.plant_reading.specs.Statements.{States}
-use Rattle.plant_reading.specs.Words.{words_of}
+use Rattle.line_words.specs.Words.{words_of}
 use Rattle.plant_reading.specs.declared.statements.Keyword.{Keyword}
-use Rattle.plant_reading.proofs.lemmas.RefusalsPassOn.{refused_whole}
+use Rattle.line_words.proofs.lemmas.RefusalsPassOn.{refused_whole}
 use Rattle.plant_reading.proofs.lemmas.KeywordsDiffer.{has_keyword}
 use Rattle.plant_reading.proofs.statements.parse_statement.Goals as goal
 

@@ -3,9 +3,9 @@ use Rattle.std.specs.Prelude.{codes}
 use Rattle.plant_record.specs.Parts.{variable_names}
 use Rattle.plant_reading.specs.StatementsRead.{statement_of}
 use Rattle.plant_reading.specs.Statements.{States}
-use Rattle.plant_reading.specs.inside.LineReaders.{SpellsVersion}
-use Rattle.plant_reading.specs.Words.{words_of}
-use Rattle.plant_reading.proofs.lemmas.RefusalsPassOn.{exits}
+use Rattle.statement_words.specs.LineReaders.{SpellsVersion}
+use Rattle.line_words.specs.Words.{words_of}
+use Rattle.line_words.proofs.lemmas.RefusalsPassOn.{exits}
 use Rattle.plant_reading.proofs.lemmas.KeywordsDiffer.{only_version, only_end}
 use Rattle.plant_reading.proofs.statements.statement_after.Goals as goal
 

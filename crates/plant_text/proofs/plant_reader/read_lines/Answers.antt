@@ -1,5 +1,5 @@
 use Rattle.std.proofs.Common.{arith, Err, ap}
-use Rattle.plant_reading.specs.Lines.{lines_of}
+use Rattle.line_words.specs.Lines.{lines_of}
 use Rattle.plant_text.specs.PlantRefusals.{IsRefusedFor}
 use Rattle.plant_text.specs.inside.DraftsInMemory.{partial_of}
 use Rattle.plant_text.proofs.lemmas.LineGrammar.{at_first_line, at_next_line, refused_here, all_read, ends_early}

@@ -1,6 +1,6 @@
 use Rattle.std.proofs.lemmas.Result.{on_ok_weaker}
 use Rattle.plant_text.specs.Grammar.{names_in}
-use Rattle.plant_reading.specs.Words.{words_of}
+use Rattle.line_words.specs.Words.{words_of}
 use Rattle.plant_text.specs.inside.DraftsInMemory.{partial_of}
 use Rattle.plant_reading.specs.StatementsRead.{statement_of}
 use Rattle.plant_text.proofs.lemmas.RulesKept.{rules_stated}

@@ -1,5 +1,5 @@
 use Rattle.std.proofs.Common.{refl}
-use Rattle.plant_reading.specs.Words.{words_of}
+use Rattle.line_words.specs.Words.{words_of}
 use Rattle.plant_text.specs.inside.DraftsInMemory.{partial_of}
 use Rattle.plant_reading.specs.StatementsRead.{statement_of}
 use Rattle.plant_text.proofs.lemmas.RulesKept.{rules_stated}

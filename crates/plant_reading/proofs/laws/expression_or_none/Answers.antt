@@ -1,5 +1,0 @@
-use Rattle.plant_reading.proofs.lemmas.ExpressionLaws as laws
-use Rattle.plant_reading.proofs.laws.expression_or_none.Goals as goal
-
-pub returns : goal.returns
-returns c = laws.expression_or_none

@@ -1,6 +1,0 @@
-use Rattle.std.proofs.Common.{sym}
-use Rattle.plant_reading.proofs.lemmas.RisingPoints.{short_rises}
-use Rattle.plant_reading.proofs.points.+rises.Goals as goal
-
-pub returns-in_default : goal.returns-in_default
-returns-in_default t c = sym (short_rises c.args.points.now c.in_default.len_below)

@@ -1,6 +1,0 @@
-use Rattle.plant_reading.specs.Words.{words_of}
-use Rattle.plant_reading.proofs.lemmas.BoxEnds.{AreRead}
-use Rattle.plant_reading.proofs.state_boxes.parse_box.Given as goal
-
-abbrev pub invariant-loop-i : goal.invariant-loop-i
-invariant-loop-i l = AreRead l.i l.low l.high (words_of l.bytes) (words_of l.rest)

@@ -1,7 +1,0 @@
-use Rattle.std.proofs.Common.{arith}
-use Rattle.plant_reading.specs.Words.{is_blank}
-use Rattle.plant_reading.proofs.lemmas.Positions.{position_or_length}
-use Rattle.plant_reading.proofs.words.blanks.word_end.Goals as goal
-
-pub returns-clause-end : goal.returns-clause-end
-returns-clause-end c = grind (arith, position_or_length is_blank c.args.bytes.now)

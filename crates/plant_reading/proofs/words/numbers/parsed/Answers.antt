@@ -1,5 +1,0 @@
-use Rattle.plant_reading.proofs.lemmas.NumberWords.{text_of_number}
-use Rattle.plant_reading.proofs.words.numbers.parsed.Goals as goal
-
-pub returns-in-Err : goal.returns-in-Err
-returns-in-Err c = λ z lt e. absurd (c.in-Err.ensures.cases.0 (text_of_number c.args.word.now z lt e))

@@ -1,7 +1,0 @@
-use Rattle.std.proofs.Common.{arith}
-use Rattle.plant_reading.specs.Words.{is_blank}
-use Rattle.plant_reading.proofs.lemmas.Positions.{failing_or_len}
-use Rattle.plant_reading.proofs.words.tokens.blanks_before.Goals as goal
-
-pub returns-clause-blanks : goal.returns-clause-blanks
-returns-clause-blanks c = grind (arith, failing_or_len is_blank c.args.bytes.now)

@@ -1,9 +1,0 @@
--- The tokens of a line. No public clause names this.
-use Rattle.std.specs.Prelude.{ℕ, List}
-use Rattle.std.specs.List.{flat_map}
-use Rattle.plant_reading.specs.Words.{words_of}
-use Rattle.plant_reading.specs.Tokens.{tokens_of}
-
--- the tokens of the words, one after the other
-abbrev pub tokens_in : List ℕ → List (List ℕ)
-tokens_in bytes = flat_map tokens_of (words_of bytes)

@@ -1,0 +1,4 @@
+-- Lemmas that several proofs use.
+pub mod BoxEnds
+pub mod InputValues
+pub mod WordsSpellOne
