@@ -21,7 +21,7 @@ use Rattle.controller_table.specs.declared.table_fault.TableFault.{TableFault}
 use Rattle.controller_table.specs.declared.table_fault.TableFault.TheVariants as tables
 use Rattle.controller_table.specs.Tables.{IsTable}
 use Rattle.controller_table.specs.TableRefusals.{IsTableRefusedFor}
-use Rattle.table_check.specs.Verdicts.{IsFirstWithout}
+use Rattle.game_core.specs.Judging.{IsFirstFailure}
 use Rattle.command_line.specs.declared.command.Command.{Command}
 use Rattle.command_line.specs.declared.command.Command.TheVariants.{Synth, Check, Upgrade, Sim, Demo, Stay, Patrol}
 use Rattle.command_line.specs.declared.outcome.Refusal.{Refusal}
@@ -154,7 +154,7 @@ patrol_exact p plant =
 one_wrong : (p : Description) (rows : List (Option Row)) (b c : ℕ) → IsPlant p → IsFirstWrong p rows b → IsFirstWrong p rows c → b ≡ c
 one_wrong p rows b c plant f g =
     one_first (IsRightFor p.goal g.game rows) g.game.cells b c
-    (subst (λ (h : Game). IsFirstWithout (IsRightFor p.goal h rows) h.cells b) (one_game p f.game g.game plant f.abstraction g.abstraction) f.wrong)
+    (subst (λ (h : Game). IsFirstFailure (IsRightFor p.goal h rows) 0 h.cells (Some b)) (one_game p f.game g.game plant f.abstraction g.abstraction) f.wrong)
     g.wrong
 
 -- each row of a solution is right for its goal
@@ -166,8 +166,8 @@ each_right Keep g rows c game solution lt = (rows, solution, refl)
 no_wrong : (p : Description) (rows : List (Option Row)) (c : ℕ) → IsPlant p → IsSolutionOf p rows → IsFirstWrong p rows c → ⊥
 no_wrong p rows c plant solution wrong =
     let same : wrong.game ≡ solution.game = one_game p wrong.game solution.game plant wrong.abstraction solution.abstraction in
-    let first : IsFirstWithout (IsRightFor p.goal solution.game rows) solution.game.cells c = subst (λ (h : Game). IsFirstWithout (IsRightFor p.goal h rows) h.cells c) same wrong.wrong in
-    first.without (each_right p.goal solution.game rows c solution.abstraction.game solution.solution first.inside)
+    let first = subst (λ (h : Game). IsFirstFailure (IsRightFor p.goal h rows) 0 h.cells (Some c)) same wrong.wrong in
+    first.2 (each_right p.goal solution.game rows c solution.abstraction.game solution.solution first.1)
 
 rows_exact : (p : Description) (rows : List (Option Row)) → IsPlant p → IsExact (AreRight p rows) (IsRowsRefusal p rows)
 rows_exact p rows plant =

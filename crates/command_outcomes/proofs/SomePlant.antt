@@ -33,16 +33,16 @@ some_overflow p deny =
     first_without (λ i. (u : ℕ) → u < vectors_of p.inputs → HasNoOverflowAt p i u) (length p.equations) (λ found. elim found [
       | inl all ↦ deny (inl (λ i u equation input. all i equation u input))
       | inr (i, first) ↦ first_without (HasNoOverflowAt p i) (vectors_of p.inputs) (λ at. elim at [
-        | inl fits ↦ first.without fits
+        | inl fits ↦ first.2 fits
         | inr (u, here) ↦ deny (inr (
           i,
           u,
           record {
-            equation = first.inside;
-            input = here.inside;
-            overflow = here.without;
-            equations_before = λ j v lt input. first.before j lt v input;
-            inputs_before = here.before;
+            equation = first.1;
+            input = here.1;
+            overflow = here.2;
+            equations_before = λ j v lt input. first.3 j (omega arith) lt v input;
+            inputs_before = λ v lt. here.3 v (omega arith) lt;
           },
         ))
       ])

@@ -1,8 +1,8 @@
 -- What can't be denied: classical logic in the command that needs no axiom. Each lemma leads to whatever its last argument gives.
-use Rattle.std.proofs.Common.{inl, inr, ◌≡◌, ◌⊎◌, ℕ, zero, suc, ◌<◌, List, [], ◌∷◌, length, get_or, refl, sym, subst, arith}
+use Rattle.std.proofs.Common.{inl, inr, ◌≡◌, ◌⊎◌, ℕ, zero, suc, ◌<◌, Some, List, [], ◌∷◌, length, get_or, refl, sym, subst, arith}
 use Rattle.std.proofs.lemmas.Bool.{cases_eq}
 use Rattle.text_pieces.proofs.Undeniable.{either}
-use Rattle.table_check.specs.Verdicts.{IsFirstWithout}
+use Rattle.game_core.specs.Judging.{IsFirstFailure}
 
 one_more : (Fact : ℕ → Type 0) (n : ℕ) → ((c : ℕ) → c < n → Fact c) → Fact n → (c : ℕ) → c < suc n → Fact c
 one_more Fact n below here c lt =
@@ -12,15 +12,15 @@ one_more Fact n below here c lt =
     ]
 
 -- a fact holds of the first n numbers, or there is a first of which it doesn't
-pub first_without : (Fact : ℕ → Type 0) (n : ℕ) → (((c : ℕ) → c < n → Fact c) ⊎ ((c : ℕ) × IsFirstWithout Fact n c) → ⊥) → ⊥
+pub first_without : (Fact : ℕ → Type 0) (n : ℕ) → (((c : ℕ) → c < n → Fact c) ⊎ ((c : ℕ) × IsFirstFailure Fact 0 n (Some c)) → ⊥) → ⊥
 first_without Fact zero deny = deny (inl (λ c lt. absurd (omega (arith, lt))))
 first_without Fact (suc n) deny =
     first_without Fact n (λ found. elim found [
       | inl all ↦ either (Fact n) (λ here. elim here [
         | inl fact ↦ deny (inl (one_more Fact n all fact))
-        | inr fails ↦ deny (inr (n, record { inside = omega arith; without = fails; before = all }))
+        | inr fails ↦ deny (inr (n, (omega arith, omega arith, fails, λ b low. all b)))
       ])
-      | inr first ↦ (let lt = first.1.inside in deny (inr (first.0, record { inside = omega (arith, lt); without = first.1.without; before = first.1.before })))
+      | inr first ↦ deny (inr (first.0, (omega arith, omega (arith, first.1.1), first.1.2, first.1.3)))
     ])
 
 -- one value for each of the first n numbers

@@ -1,5 +1,5 @@
 -- What a text demands: to be refused for the first reason that applies, or to be answered.
-use Rattle.std.specs.Prelude.{◌≡◌, ◌⊎◌, ℕ, ◌*◌, ◌<◌, ◌≤◌, List, length, Option}
+use Rattle.std.specs.Prelude.{◌≡◌, ◌⊎◌, ℕ, ◌*◌, ◌<◌, ◌≤◌, List, length, Option, Some}
 use Rattle.plant_record.specs.declared.limit_kind.LimitKind.{LimitKind}
 use Rattle.plant_record.specs.declared.limit_kind.LimitKind.TheVariants.{Edges}
 use Rattle.plant_text.specs.declared.plant_fault.PlantFault.{PlantFault}
@@ -14,6 +14,7 @@ use Rattle.plant_text.specs.PlantRefusals.{IsShort, IsRefusedFor}
 use Rattle.successor_box.specs.Deviations.{HasNoOverflow, IsFirstOverflow}
 use Rattle.game_core.specs.declared.game.Row.{Row}
 use Rattle.game_core.specs.Game.{Game}
+use Rattle.game_core.specs.Judging.{IsFirstFailure}
 use Rattle.game_core.specs.Right.{IsRight}
 use Rattle.plant_game.specs.Abstraction.{IsGameOf, AreEdges}
 use Rattle.plant_game.specs.PlantSolution.{IsSolutionOf}
@@ -21,7 +22,7 @@ use Rattle.controller_table.specs.declared.table_fault.TableFault.{TableFault}
 use Rattle.controller_table.specs.declared.table_fault.TableFault.TheVariants as tables
 use Rattle.controller_table.specs.Tables.{IsTable}
 use Rattle.controller_table.specs.TableRefusals.{IsTableRefusedFor}
-use Rattle.table_check.specs.Verdicts.{IsFirstWithout, HasItsKeepRow}
+use Rattle.table_check.specs.Verdicts.{HasItsKeepRow}
 use Rattle.command_line.specs.declared.command.Command.{Command}
 use Rattle.command_line.specs.declared.command.Command.TheVariants.{Synth, Check, Upgrade, Sim, Demo, Stay, Patrol}
 use Rattle.command_line.specs.declared.outcome.Refusal.{Refusal}
@@ -66,7 +67,7 @@ IsRightFor Keep g rows c = HasItsKeepRow g rows c
 pub record IsFirstWrong (p : Description) (rows : List (Option Row)) (cell : ℕ) : Type 0 where
   pub game : Game
   pub abstraction : IsGameOf p game
-  pub wrong : IsFirstWithout (IsRightFor p.goal game rows) game.cells cell
+  pub wrong : IsFirstFailure (IsRightFor p.goal game rows) 0 game.cells (Some cell)
 
 -- ---- the text of a command
 

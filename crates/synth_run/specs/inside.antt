@@ -1,4 +1,3 @@
 pub mod Judging
-pub mod RightLaws
 pub mod Making
 pub mod Working

@@ -1,2 +1,3 @@
+pub mod Judges
 pub mod Verdicts
 pub mod inside

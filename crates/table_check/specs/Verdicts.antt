@@ -1,23 +1,18 @@
 -- What a checker says of rows: that they are the solution of a game, or which cell is the first that isn't right.
-use Rattle.std.specs.Prelude.{◌≡◌, ℕ, ◌<◌, ◌≤◌, ◌↔◌, List, Option, Some, None}
+use Rattle.std.specs.Prelude.{◌≡◌, ℕ, ◌↔◌, List, Option, Some, None}
 use Rattle.game_core.specs.declared.game.Row.{Row}
 use Rattle.game_core.specs.Game.{Game}
+use Rattle.game_core.specs.Judging.{IsFirstFailure}
 use Rattle.game_core.specs.Keep.{IsKeepSolution}
 use Rattle.game_core.specs.Right.{IsRight}
 use Rattle.game_core.specs.Solution.{row_of, IsReachSolution}
 use Rattle.table_check.specs.declared.verdict.Verdict.{Verdict}
 use Rattle.table_check.specs.declared.verdict.Verdict.TheVariants.{Valid, Invalid}
 
--- The least of the first n numbers of which a fact doesn't hold.
-pub record IsFirstWithout (Fact : ℕ → Type 0) (n c : ℕ) : Type 0 where
-  pub inside : c < n
-  pub without : Fact c → ⊥
-  pub before : (b : ℕ) → b < c → Fact b
-
 -- Valid exactly for the solution, invalid at exactly the first of the cells that isn't right.
 pub record IsVerdict (IsSolution : Type 0) (IsRightCell : ℕ → Type 0) (cells : ℕ) (verdict : Verdict) : Type 0 where
   pub valid : (verdict ≡ Valid) ↔ IsSolution
-  pub invalid : (c : ℕ) → (verdict ≡ Invalid c) ↔ IsFirstWithout IsRightCell cells c
+  pub invalid : (c : ℕ) → (verdict ≡ Invalid c) ↔ IsFirstFailure IsRightCell 0 cells (Some c)
 
 -- the verdict by the first cell that isn't right, where there is one
 abbrev pub verdict_by : Option ℕ → Verdict
@@ -27,11 +22,6 @@ verdict_by (Some c) = Invalid c
 -- the verdict on the rows of a reach table
 abbrev pub IsReachVerdict : Game → List (Option Row) → Verdict → Type 0
 IsReachVerdict g rows verdict = IsVerdict (IsReachSolution g rows) (IsRight g rows) g.cells verdict
-
--- the first of the cells from one up to another that isn't right, where there is one
-abbrev pub IsFirstNotRight : Game → List (Option Row) → ℕ → ℕ → Option ℕ → Type 0
-IsFirstNotRight g rows from to None = (c : ℕ) → from ≤ c → c < to → IsRight g rows c
-IsFirstNotRight g rows from to (Some c) = (from ≤ c) × (c < to) × (IsRight g rows c → ⊥) × ((b : ℕ) → from ≤ b → b < c → IsRight g rows b)
 
 -- a cell has the same row in two lists, or none in both
 abbrev pub HasSameRow : List (Option Row) → List (Option Row) → ℕ → Type 0

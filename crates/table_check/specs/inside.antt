@@ -1,3 +1,4 @@
 -- What only tests and proofs name.
 pub mod Below
 pub mod Line
+pub mod RightLaws

@@ -1,85 +1,84 @@
-ghost use Rattle.std.specs.Prelude.{◌≡◌, ◌<◌, ◌≤◌, ◌↔◌, IsTrue};
+ghost use Rattle.std.specs.Prelude.{◌≡◌, ◌<◌, ◌≤◌, ◌↔◌, IsTrue, length};
 ghost use Rattle.grid_quantiser.specs.Axes.{cells_of};
 ghost use Rattle.plant_record.specs.declared.aims.GoalKind.TheVariants.{Reach};
 ghost use Rattle.plant_record.specs.Description.{axes_of, vectors_of};
 ghost use Rattle.game_core.specs.Game.{pairs_of};
 ghost use Rattle.game_core.specs.Solution.{HasRowBelow};
 ghost use Rattle.game_core.specs.Right.{IsUnwinnable, IsRight, IsRightRanked};
-ghost use Rattle.controller_table.specs.Tables.{RowsFit};
+ghost use Rattle.table_check.specs.Judges.{judged_rows, CanJudge};
 ghost use Rattle.table_check.specs.inside.Below.{LeadsBelow, NoneLeadsBelow};
 
 use controller_table::Table;
-use game_core::{CellTest, Forward, Mark, Row};
+use game_core::{Answer, CellJudge, CellTest, Forward, Mark, Row};
 
-/// A reach table, to be judged cell by cell against a game over its cells and inputs.
+/// Judges the cells of games by the rows of a reach table: a cell by its row and those of its successors alone.
 #[derive(Drop)]
-pub(crate) struct Judge<'a, G: Forward> {
-    graph: &'a G,
-    table: &'a Table,
-    ghost ranked: { table.now.plant.goal ≡ Reach },
-    ghost same_cells: { (G.game graph.now).cells ≡ cells_of (axes_of table.now.plant) },
-    ghost same_inputs: { (G.game graph.now).inputs ≡ vectors_of table.now.plant.inputs },
+pub struct RowJudge<'a> {
+    rows: &'a Answer,
 }
 
-impl<'a, G: Forward> Judge<'a, G> {
-    pub(crate) fn new(graph: &'a G, table: &'a Table) -> Judge<'a, G>
-        requires ranked { table.now.plant.goal ≡ Reach }
-        requires same_cells { (G.game graph.now).cells ≡ cells_of (axes_of table.now.plant) }
-        requires same_inputs { (G.game graph.now).inputs ≡ vectors_of table.now.plant.inputs }
-        ensures graph { result.graph.now ≡ graph.now }
-        ensures table { result.table.now ≡ table.now }
+impl<'a> RowJudge<'a> {
+    /// For the games over the cells and inputs of the table's plant.
+    pub fn new(table: &'a Table) -> RowJudge<'a>
+        requires { table.now.plant.goal ≡ Reach }
+        ensures rows { judged_rows result ≡ table.now.rows }
+        ensures judges { CanJudge table.now.rows (cells_of (axes_of table.now.plant)) (vectors_of table.now.plant.inputs) }
     {
-        Judge { graph, table }
+        RowJudge {
+            rows: table.answer(),
+        }
     }
 
     /// Whether a cell's row is right.
-    pub(crate) fn is_right(&self, c: u32) -> bool
-        requires fit { RowsFit self.now.table.now.plant self.now.table.now.rows }
-        requires cell { c < (G.game self.now.graph.now).cells }
-        ensures { IsTrue result ↔ IsRight (G.game self.now.graph.now) self.now.table.now.rows c }
+    fn has_right_row<G: Forward>(&self, g: &G, c: u32) -> bool
+        requires judged { CanJudge self.now.rows.now (G.game g.now).cells (G.game g.now).inputs }
+        requires cell { c < (G.game g.now).cells }
+        ensures { IsTrue result ↔ IsRight (G.game g.now) self.now.rows.now c }
     {
-        let row = self.table.row(c);
-        match self.graph.mark(c) {
+        let row = self.rows.row(c);
+        match g.mark(c) {
             Mark::Obstacle => row.is_none(),
             Mark::Goal => row == Some(Row { rank: 0, input: 0 }),
             Mark::Plain => match row {
-                Some(row) => self.is_best(c, row),
-                None => self.is_unwinnable(c),
+                Some(row) => self.is_best(g, c, row),
+                None => self.is_unwinnable(g, c),
             },
         }
     }
 
     /// Whether the row of a plain cell is right.
-    fn is_best(&self, c: u32, row: Row) -> bool
-        requires cell { c < (G.game self.now.graph.now).cells }
-        requires input { row.input < (G.game self.now.graph.now).inputs }
-        ensures { IsTrue result ↔ IsRightRanked (G.game self.now.graph.now) self.now.table.now.rows c row.rank row.input }
+    fn is_best<G: Forward>(&self, g: &G, c: u32, row: Row) -> bool
+        requires one_each { length self.now.rows.now ≡ (G.game g.now).cells }
+        requires cell { c < (G.game g.now).cells }
+        requires input { row.input < (G.game g.now).inputs }
+        ensures { IsTrue result ↔ IsRightRanked (G.game g.now) self.now.rows.now c row.rank row.input }
     {
-        let inputs = self.graph.inputs();
+        let inputs = g.inputs();
         row.rank > 0
-            && self.leads_below(c * inputs + row.input, row.rank)
-            && self.none_leads_below(c, 0, row.input, row.rank)
-            && self.none_leads_below(c, row.input, inputs, row.rank - 1)
+            && self.leads_below(g, c * inputs + row.input, row.rank)
+            && self.none_leads_below(g, c, 0, row.input, row.rank)
+            && self.none_leads_below(g, c, row.input, inputs, row.rank - 1)
     }
 
     /// Whether a plain cell is right to have no row. No rank is as great as the number of cells.
-    fn is_unwinnable(&self, c: u32) -> bool
-        requires fit { RowsFit self.now.table.now.plant self.now.table.now.rows }
-        requires cell { c < (G.game self.now.graph.now).cells }
-        ensures { IsTrue result ↔ IsUnwinnable (G.game self.now.graph.now) self.now.table.now.rows c }
+    fn is_unwinnable<G: Forward>(&self, g: &G, c: u32) -> bool
+        requires judged { CanJudge self.now.rows.now (G.game g.now).cells (G.game g.now).inputs }
+        requires cell { c < (G.game g.now).cells }
+        ensures { IsTrue result ↔ IsUnwinnable (G.game g.now) self.now.rows.now c }
     {
-        self.none_leads_below(c, 0, self.graph.inputs(), self.graph.cells())
+        self.none_leads_below(g, c, 0, g.inputs(), g.cells())
     }
 
     /// Whether no input of a range leads from a cell to ranks below the bound alone.
-    fn none_leads_below(&self, c: u32, from: u32, to: u32, bound: u32) -> bool
-        requires cell { c < (G.game self.now.graph.now).cells }
-        requires inputs { to ≤ (G.game self.now.graph.now).inputs }
-        ensures { IsTrue result ↔ NoneLeadsBelow (G.game self.now.graph.now) self.now.table.now.rows c from to bound }
+    fn none_leads_below<G: Forward>(&self, g: &G, c: u32, from: u32, to: u32, bound: u32) -> bool
+        requires one_each { length self.now.rows.now ≡ (G.game g.now).cells }
+        requires cell { c < (G.game g.now).cells }
+        requires inputs { to ≤ (G.game g.now).inputs }
+        ensures { IsTrue result ↔ NoneLeadsBelow (G.game g.now) self.now.rows.now c from to bound }
     {
-        let first = c * self.graph.inputs();
+        let first = c * g.inputs();
         for input in from..to {
-            if self.leads_below(first + input, bound) {
+            if self.leads_below(g, first + input, bound) {
                 return false;
             }
         }
@@ -87,32 +86,54 @@ impl<'a, G: Forward> Judge<'a, G> {
     }
 
     /// Whether a pair has successors, all with rows of ranks below the bound.
-    fn leads_below(&self, pair: u32, bound: u32) -> bool
-        requires { pair < pairs_of (G.game self.now.graph.now) }
-        ensures { IsTrue result ↔ LeadsBelow (G.game self.now.graph.now) self.now.table.now.rows pair bound }
+    fn leads_below<G: Forward>(&self, g: &G, pair: u32, bound: u32) -> bool
+        requires one_each { length self.now.rows.now ≡ (G.game g.now).cells }
+        requires pair { pair < pairs_of (G.game g.now) }
+        ensures { IsTrue result ↔ LeadsBelow (G.game g.now) self.now.rows.now pair bound }
     {
         let below = RankBelow {
-            table: self.table,
+            rows: self.rows,
             bound,
         };
-        self.graph.leads_only_to(pair, &below)
+        g.leads_only_to(pair, &below)
     }
+}
+
+impl CellJudge for RowJudge<'_> {
+    ghost use Rattle.game_core.specs.Right.{IsRight};
+    ghost use Rattle.table_check.specs.Judges.{judged_rows, CanJudge};
+    ghost use Rattle.table_check.specs.inside.RightLaws.{same_right};
+
+    ghost judges = { λ judge. CanJudge (judged_rows judge) };
+
+    ghost is_right = { λ judge g. IsRight g (judged_rows judge) };
+
+    fn first_wrong<G: Forward>(&self, g: &G, from: u32, to: u32) -> Option<u32> {
+        for c in from..to {
+            if !self.has_right_row(g, c) {
+                return Some(c);
+            }
+        }
+        None
+    }
+
+    ghost local = { λ judge g h. same_right g h (judged_rows judge) };
 }
 
 /// Whether a cell has a row of a rank below the bound.
 #[derive(Drop)]
 struct RankBelow<'a> {
-    table: &'a Table,
+    rows: &'a Answer,
     bound: u32,
 }
 
 impl<'a> CellTest for RankBelow<'a> {
-    ghost cells = { λ below. cells_of (axes_of below.table.now.plant) };
+    ghost cells = { λ below. length below.rows.now };
 
-    ghost passes = { λ below. HasRowBelow below.table.now.rows below.bound };
+    ghost passes = { λ below. HasRowBelow below.rows.now below.bound };
 
     fn passes(&self, c: u32) -> bool {
-        match self.table.row(c) {
+        match self.rows.row(c) {
             Some(row) => row.rank < self.bound,
             None => false,
         }

@@ -6,7 +6,6 @@ ghost use Rattle.table_check.specs.Verdicts.{HasSameRow, IsVerdict, IsKeepVerdic
 
 use crate::verdict::Verdict;
 use controller_table::Table;
-use controller_table::laws::every_table_fits;
 use game_core::{Answer, Graph, NoMemory, keep_plain};
 use std::alloc::Global;
 
@@ -17,19 +16,17 @@ pub fn check_keep<G: Graph>(alloc: Global, g: &G, t: &Table) -> Result<Verdict, 
     requires inputs { (G.game g.now).inputs ≡ vectors_of t.now.plant.inputs }
     ensures { IfOk result (IsKeepVerdict (G.game g.now) t.now.rows) }
 {
-    every_table_fits(t);
     let kept = keep_plain(alloc, g)?;
-    Ok(compare(t, &kept))
+    Ok(compare(t.answer(), &kept))
 }
 
 /// The verdict on rows beside those that they should be.
-fn compare(t: &Table, answer: &Answer) -> Verdict
-    requires table { length t.now.rows ≡ cells_of (axes_of t.now.plant) }
-    requires answer { length answer.now ≡ cells_of (axes_of t.now.plant) }
-    ensures { IsVerdict (t.now.rows ≡ answer.now) (HasSameRow t.now.rows answer.now) (length answer.now) result }
+fn compare(rows: &Answer, kept: &Answer) -> Verdict
+    requires { length rows.now ≡ length kept.now }
+    ensures { IsVerdict (rows.now ≡ kept.now) (HasSameRow rows.now kept.now) (length kept.now) result }
 {
-    for c in 0..answer.cells() {
-        if t.row(c) != answer.row(c) {
+    for c in 0..kept.cells() {
+        if rows.row(c) != kept.row(c) {
             return Verdict::Invalid { cell: c };
         }
     }

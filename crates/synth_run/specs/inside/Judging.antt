@@ -3,10 +3,7 @@ use Rattle.std.specs.Prelude.{◌≡◌, ℕ, List, Option}
 use Rattle.game_core.specs.declared.game.Row.{Row}
 use Rattle.game_core.specs.Game.{Game}
 use Rattle.plant_record.specs.declared.aims.GoalKind.{GoalKind}
-use Rattle.plant_record.specs.declared.aims.GoalKind.TheVariants.{Reach}
-use Rattle.grid_quantiser.specs.Axes.{cells_of}
-use Rattle.plant_record.specs.Description.{Description, axes_of, vectors_of}
-use Rattle.controller_table.specs.Tables.{RowsFit}
+use Rattle.plant_record.specs.Description.{Description}
 use Rattle.plant_game.specs.Abstraction.{IsGameOf}
 use Rattle.plant_game.specs.PlantSolution.{Solves}
 use Rattle.table_check.specs.declared.verdict.Verdict.{Verdict}
@@ -30,10 +27,3 @@ pub record IsJudged (p : Description) (rows : List (Option Row)) (verdict : Verd
 -- rows are refused for the cell that the verdict tells
 abbrev pub IsStopBy : Verdict → Stop → Type 0
 IsStopBy verdict stop = (cell : ℕ) × (verdict ≡ Invalid cell) × (stop ≡ Refused (refusals.Invalid cell))
-
--- Rows of a plant to be reached can be judged in games of so many cells and inputs.
-pub record CanJudge (p : Description) (rows : List (Option Row)) (cells inputs : ℕ) : Type 0 where
-  pub goal : p.goal ≡ Reach
-  pub fit : RowsFit p rows
-  pub cells_are : cells ≡ cells_of (axes_of p)
-  pub inputs_are : inputs ≡ vectors_of p.inputs

@@ -12,17 +12,16 @@ ghost use Rattle.synth_run.specs.inside.Judging.{IsJudged, IsStopBy};
 ghost use Rattle.synth_run.specs.inside.Making.{IsMade};
 
 use crate::work::Work;
-use abstraction_table::{CellJudge, add_sources, find_first_wrong};
+use abstraction_table::add_sources;
 use command_line::Refusal;
 use command_texts::Text;
-use controller_table::laws::every_table_fits;
 use controller_table::{Table, read_table};
-use game_core::Forward;
+use game_parts::find_first_wrong;
 use plant_record::GoalKind;
 use std::alloc::Global;
 use std::thread::Threads;
 use successor_box::find_slopes;
-use table_check::{Verdict, check_keep, first_wrong};
+use table_check::{RowJudge, Verdict, check_keep};
 use text_abstraction::{Stop, forward_of};
 
 /// That the bytes are the table of their plant.
@@ -75,34 +74,11 @@ fn reach_verdict<R: Threads + Sync>(rt: &R, alloc: Global, table: &Table) -> Res
     ensures verdict { IfOk result (IsJudged table.now.plant table.now.rows) }
     ensures refused { IfErr result (IsStopFor (IsRowsRefusal table.now.plant table.now.rows)) }
 {
-    every_table_fits(table);
     let plant = table.plant();
     let slopes = find_slopes(alloc, plant)?;
-    let judge = RowJudge { table };
+    let judge = RowJudge::new(table);
     let first = find_first_wrong(rt, alloc, plant, &slopes, &judge)?;
     Ok(Verdict::by_first_wrong(first))
-}
-
-/// Judges cells by the rows of a reach table.
-#[derive(Drop)]
-struct RowJudge<'a> {
-    table: &'a Table,
-}
-
-impl CellJudge for RowJudge<'_> {
-    ghost use Rattle.synth_run.specs.inside.Judging.{CanJudge};
-    ghost use Rattle.game_core.specs.Right.{IsRight};
-    ghost use Rattle.synth_run.specs.inside.RightLaws.{same_right};
-
-    ghost judges = { λ judge cells inputs. CanJudge judge.table.now.plant judge.table.now.rows cells inputs };
-
-    ghost is_right = { λ judge g c. IsRight g judge.table.now.rows c };
-
-    fn first_wrong<G: Forward>(&self, g: &G, from: u32, to: u32) -> Option<u32> {
-        first_wrong(g, self.table, from, to)
-    }
-
-    ghost local = { λ judge g h c same. same_right g h judge.table.now.rows c same };
 }
 
 /// The verdict on a table by which its plant is to be kept.

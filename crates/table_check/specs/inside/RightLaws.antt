@@ -6,7 +6,7 @@ use Rattle.game_core.specs.declared.game.Row.{Row}
 use Rattle.game_core.specs.Game.{Game, mark_of, IsEnabled}
 use Rattle.game_core.specs.Right.{LeadsDownTo, IsBestInput, IsUnwinnable, IsRight, IsRightAt, IsRightRanked}
 use Rattle.game_core.specs.Solution.{row_of, greatest_rank, HasRow, HasRowBelow}
-use Rattle.abstraction_table.specs.GameParts.{IsSameAt}
+use Rattle.game_core.specs.Judging.{IsSameAt}
 
 same_back : (c : ℕ) (g h : Game) → IsSameAt c g h → IsSameAt c h g
 same_back c g h same = record {

@@ -6,6 +6,9 @@ use Rattle.table_check.specs.Verdicts.{IsVerdict, HasItsKeepRow}
 use Rattle.table_check.proofs.Verdicts.{same_verdict}
 use Rattle.table_check.proofs.keep.check_keep.Goals as goal
 
+pub compare-requires : goal.compare-requires
+compare-requires g c = c.answer.ensures.fit.one_each ∙ sym (c.in_ok-kept.ensures.one_each ∙ c.requires.cells)
+
 pub returns : goal.returns
 returns g c =
     let game = g.G.Graph.game c.args.g.now in
@@ -17,4 +20,4 @@ returns g c =
     (same_verdict (rows ≡ kept) (λ b. row_of rows b ≡ row_of kept b) (length kept) (IsKeepSolution game rows) (HasItsKeepRow game rows) c.compare.result
     (λ e. subst (IsKeepSolution game) (sym e) solution, λ s. one rows kept s solution)
     (λ b lt. (λ e. (kept, solution, e), λ h. h.2 ∙ ap (λ rows. row_of rows b) (one h.0 kept h.1 solution)))
-    c.compare.ensures)
+    (rw c.answer.ensures.rows at c.compare.ensures))

@@ -2,14 +2,13 @@ use Rattle.std.proofs.Common.{arith, sym, ◌∙◌}
 use Rattle.std.proofs.lemmas.Bool.{false≢true}
 use Rattle.std.proofs.lemmas.Bool.Decides.{Decides-ltb}
 use Rattle.table_check.proofs.Best.{right_ranked, ranked_some, ranked_leads, ranked_lesser, ranked_further}
-use Rattle.table_check.proofs.judge.Judge.is_best.Goals as goal
-use Rattle.table_check.proofs.judge.Judge.is_best.Goals.{then-row-gt0, else-row-gt0, then-leads_below, else-leads_below}
+use Rattle.table_check.proofs.judge.RowJudge.is_best.Goals as goal
+use Rattle.table_check.proofs.judge.RowJudge.is_best.Goals.{then-row-gt0, else-row-gt0, then-leads_below, else-leads_below}
 
 pub returns-then-none_leads_below : goal.returns-then-none_leads_below
 returns-then-none_leads_below g c =
-    let judge = c.args.self.now in
-    let game = g.G.Forward.game judge.graph.now in
-    let rows = judge.table.now.rows in
+    let game = g.G.Forward.game c.args.g.now in
+    let rows = c.args.self.now.rows.now in
     let row = c.args.row in
     let inputs = c.inputs-inputs.result in
     let further = c.none_leads_below-then-none_leads_below.ensures in
@@ -32,9 +31,8 @@ returns-then-none_leads_below g c =
 
 pub returns-else-none_leads_below : goal.returns-else-none_leads_below
 returns-else-none_leads_below g c =
-    let judge = c.args.self.now in
-    let game = g.G.Forward.game judge.graph.now in
-    let rows = judge.table.now.rows in
+    let game = g.G.Forward.game c.args.g.now in
+    let rows = c.args.self.now.rows.now in
     let row = c.args.row in
     let inputs = c.inputs-inputs.result in
     let no = c.if-none_leads_below.false in (
