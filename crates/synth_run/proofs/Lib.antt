@@ -4,9 +4,7 @@ pub mod Giving
 pub mod Leaving
 pub mod Limits
 pub mod OneText
-pub mod PatrolTables
 pub mod Reporting
-pub mod StayTables
 pub mod Simulations
 pub mod Tables
 pub mod Working

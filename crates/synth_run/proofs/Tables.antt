@@ -1,5 +1,5 @@
--- The facts that make a table, and those that judge one.
-use Rattle.std.proofs.Common.{inl, inr, ◌≡◌, ℕ, List, [], ◌∷◌, Option, refl, sym, subst}
+-- The facts that make a table, a text of reach and stay and one of a patrol, and those that keep one from being made.
+use Rattle.std.proofs.Common.{inl, inr, ◌≡◌, ℕ, List, [], ◌∷◌, Option, refl, sym, subst, length}
 use Rattle.game_core.specs.declared.game.Row.{Row}
 use Rattle.game_core.specs.Game.{Game, IsGraph}
 use Rattle.plant_record.specs.declared.aims.GoalKind.{GoalKind}
@@ -19,14 +19,20 @@ use Rattle.controller_table.specs.declared.text_kind.TextKind.TheVariants.{Table
 use Rattle.controller_table.proofs.SolutionsFit.{keep_fits}
 use Rattle.controller_table.proofs.TableTexts.{text_is}
 use Rattle.plant_refine.proofs.SolutionTables.{tables_control}
-use Rattle.synth_run.specs.Headline.{IsTableOf}
+use Rattle.synth_run.specs.Headline.{IsTableOf, IsStayTableOf, IsPatrolTableOf}
 use Rattle.command_line.specs.declared.outcome.Refusal.{Refusal}
-use Rattle.command_line.specs.declared.outcome.Failure.TheVariants.{Read, Write, Memory}
 use Rattle.text_abstraction.specs.declared.stop.Stop.{Stop}
-use Rattle.text_abstraction.specs.declared.stop.Stop.TheVariants.{Refused, Failed}
 use Rattle.text_abstraction.specs.Causes.{of_table, IsStopFor}
-use Rattle.command_outcomes.specs.Stages.{IsTableRefusal}
+use Rattle.text_abstraction.proofs.PlantTexts.{IsStopFor-weaker}
+use Rattle.command_outcomes.specs.Stages.{IsTableRefusal, IsPlantRefusal, IsPatrolRefusal, IsTextRefusal}
 use Rattle.command_outcomes.proofs.Below.{reach_fits}
+use Rattle.temporal_games.specs.Stay.{IsStaySolution}
+use Rattle.temporal_texts.specs.StayText.{stay_text}
+use Rattle.temporal_promises.proofs.StayLaws.{solution_has_stay_text, stay_text_settles}
+use Rattle.turn_rows.specs.Targets.{IsInTarget}
+use Rattle.temporal_games.specs.Patrol.{IsPatrol}
+use Rattle.temporal_texts.specs.PatrolText.{patrol_text}
+use Rattle.temporal_promises.proofs.PatrolLaws.{solution_has_patrol_text, patrol_text_patrols}
 
 -- the rows of a solution fit its plant
 pub solution_fits : (p : Description) (g : Game) (rows : List (Option Row)) (goal : GoalKind) → goal ≡ p.goal → IsGraphOver p g → Solves goal g rows → RowsFit p rows
@@ -47,6 +53,32 @@ solution_table p g rows goal limits same graph abstraction solution =
       controls = tables_control (rows_text (Table written_version) p (rows ∷ [])) p rows (record { limits = limits; fitting = fits; version = written_version; text = text }) solved;
     }
 
+-- the text of a plant within the limits and of the solution of its game
+pub stay_table : (p : Description) (g : Game) (rows : List (Option Row)) → IsWithinLimits p → IsGameOf p g → IsStaySolution g rows → IsStayTableOf p (stay_text p rows)
+stay_table p g rows limits abstraction solution =
+    let table = solution_has_stay_text p g rows limits abstraction solution in
+    record {
+      game = g;
+      abstraction = abstraction;
+      rows = rows;
+      solution = solution;
+      table = table;
+      settles = stay_text_settles (stay_text p rows) p g rows table abstraction solution;
+    }
+
+-- the text of a plant within the limits and of the solution of its patrol
+pub patrol_table : (p : Description) (g : Game) (rows : List (List (Option Row))) → IsWithinLimits p → IsGameOf p g → IsPatrol g (IsInTarget p) (length p.targets) rows → IsPatrolTableOf p (patrol_text p rows)
+patrol_table p g rows limits abstraction solution =
+    let table = solution_has_patrol_text p g rows limits abstraction solution in
+    record {
+      game = g;
+      abstraction = abstraction;
+      rows = rows;
+      solution = solution;
+      table = table;
+      patrols = patrol_text_patrols (patrol_text p rows) p g rows table abstraction solution;
+    }
+
 -- what a reader of tables refuses is refused, whatever is asked of the table's plant and rows
 pub table_stop : (Refuses : Description → List (Option Row) → Refusal → Type 0) (bytes : List ℕ) (fault : TableFault) → ((fault ≡ tables.Memory → ⊥) → IsTableRefusedFor bytes fault) → IsStopFor (IsTableRefusal Refuses bytes) (of_table fault)
 table_stop Refuses bytes (tables.Malformed line) refused = inl (inl (line, refl, refused (λ e. cc)))
@@ -55,7 +87,11 @@ table_stop Refuses bytes tables.Memory refused = tt
 
 -- what is asked of them refuses the table
 pub rows_stop : (Refuses : Description → List (Option Row) → Refusal → Type 0) (bytes : List ℕ) (p : Description) (rows : List (Option Row)) (stop : Stop) → IsTable bytes p rows → IsStopFor (Refuses p rows) stop → IsStopFor (IsTableRefusal Refuses bytes) stop
-rows_stop Refuses bytes p rows (Refused r) table h = inr (p, rows, table, h)
-rows_stop Refuses bytes p rows (Failed Read) table h = h
-rows_stop Refuses bytes p rows (Failed Write) table h = h
-rows_stop Refuses bytes p rows (Failed Memory) table h = h
+rows_stop Refuses bytes p rows stop table = IsStopFor-weaker (Refuses p rows) (IsTableRefusal Refuses bytes) (λ r h. inr (p, rows, table, h)) stop
+
+-- what refuses a plant refuses a patrol of its targets
+pub patrol_stop : (bytes : List ℕ) (stop : Stop) → IsStopFor (IsTextRefusal IsPlantRefusal bytes) stop → IsStopFor (IsTextRefusal IsPatrolRefusal bytes) stop
+patrol_stop bytes = IsStopFor-weaker (IsTextRefusal IsPlantRefusal bytes) (IsTextRefusal IsPatrolRefusal bytes) (λ r h. elim h [
+  | inl refused ↦ inl refused
+  | inr accepted ↦ inr (accepted.0, accepted.1, inl accepted.2)
+])

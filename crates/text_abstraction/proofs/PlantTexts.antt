@@ -21,6 +21,12 @@ use Rattle.command_outcomes.specs.Stages.{IsTextRefusal}
 pub is_solvable : (p : Description) (g : Game) → HasNoOverflow p → IsGameOf p g → IsGraph g → IsSolvable p
 is_solvable p g fits abstraction graph = (sum_by length g.successors, record { fits = fits; counted = games_count_their_edges p g abstraction }, graph.edges_bound)
 
+pub IsStopFor-weaker : (P Q : Refusal → Type 0) → ((r : Refusal) → P r → Q r) → (stop : Stop) → IsStopFor P stop → IsStopFor Q stop
+IsStopFor-weaker P Q more (Refused r) h = more r h
+IsStopFor-weaker P Q more (Failed Read) h = h
+IsStopFor-weaker P Q more (Failed Write) h = h
+IsStopFor-weaker P Q more (Failed Memory) h = h
+
 -- what a reader of plants refuses is refused
 pub text_stop : (Refuses : Description → Refusal → Type 0) (bytes : List ℕ) (fault : PlantFault) → ((fault ≡ plants.Memory → ⊥) → IsRefusedFor bytes fault) → IsStopFor (IsTextRefusal Refuses bytes) (of_plant fault)
 text_stop Refuses bytes (plants.Malformed line) refused = inl (inl (line, refl, refused (λ e. cc)))
@@ -29,7 +35,4 @@ text_stop Refuses bytes plants.Memory refused = tt
 
 -- what refuses the plant refuses its text
 pub plant_stop : (Refuses : Description → Refusal → Type 0) (bytes : List ℕ) (p : Description) (stop : Stop) → IsAccepted bytes p → IsStopFor (Refuses p) stop → IsStopFor (IsTextRefusal Refuses bytes) stop
-plant_stop Refuses bytes p (Refused r) accepted h = inr (p, accepted, h)
-plant_stop Refuses bytes p (Failed Read) accepted h = h
-plant_stop Refuses bytes p (Failed Write) accepted h = h
-plant_stop Refuses bytes p (Failed Memory) accepted h = h
+plant_stop Refuses bytes p stop accepted = IsStopFor-weaker (Refuses p) (IsTextRefusal Refuses bytes) (λ r h. inr (p, accepted, h)) stop

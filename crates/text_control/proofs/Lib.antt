@@ -11,6 +11,6 @@ pub mod Answering
 pub mod TableLoops
 pub mod TemporalLoops
 pub mod TextRefusals
-mod TextsRead
+pub mod TextsRead
 pub mod SameBox
 mod NextBoxes

@@ -1,50 +1,27 @@
 -- One reason, never a text and refused, never neither: by the text as which bytes begin.
-use Rattle.std.proofs.Common.{inl, inr, ◌≡◌, ℕ, List, [], ◌∷◌, ◌++◌, get_or, Option, refl, sym, ap, subst, ◌∙◌, append_assoc, arith}
-use Rattle.std.specs.List.{concat}
+use Rattle.std.proofs.Common.{inl, inr, ◌≡◌, ℕ, List, [], ◌∷◌, ◌++◌, Option, refl, sym, ap, subst, ◌∙◌, append_assoc}
 use Rattle.game_core.specs.declared.game.Row.{Row}
 use Rattle.plant_record.specs.Description.{Description}
 use Rattle.plant_writing.specs.CanonicalText.{text_of}
-use Rattle.row_runs.specs.declared.run.TableVersion.{TableVersion}
-use Rattle.row_runs.specs.declared.run.TableVersion.TheVariants.{First, Second}
-use Rattle.controller_table.specs.Tables.{IsTable}
-use Rattle.controller_table.specs.TableText.{version_line, lines_after}
-use Rattle.controller_table.proofs.OneRefusal as tables
-use Rattle.controller_table.specs.TextKinds.{stay_line}
-use Rattle.controller_table.specs.TextKinds.{patrol_line}
-use Rattle.controller_table.specs.TextKinds.{HasFewTurns}
-use Rattle.temporal_texts.proofs.TextLaws as texts
-use Rattle.text_control.specs.declared.text_fault.TextFault.{TextFault}
+use Rattle.row_runs.specs.declared.run.TableVersion.TheVariants.{First}
 use Rattle.controller_table.specs.declared.text_kind.TextKind.{TextKind}
 use Rattle.controller_table.specs.declared.text_kind.TextKind.TheVariants.{Table, Stay, Patrol}
+use Rattle.controller_table.specs.TextKinds.{first_line, stay_line, patrol_line, HasFewTurns}
+use Rattle.controller_table.specs.KindTexts.{IsTextOf}
+use Rattle.controller_table.proofs.HeadedLaws.{after_plant}
+use Rattle.controller_table.proofs.OneRefusal as tables
+use Rattle.controller_table.proofs.TableTexts.{as_text}
+use Rattle.temporal_texts.proofs.OneStayText.{stay_as_text}
+use Rattle.temporal_texts.proofs.OnePatrolText.{patrol_as_text}
+use Rattle.temporal_texts.proofs.TextLaws as texts
+use Rattle.text_control.specs.declared.text_fault.TextFault.{TextFault}
 use Rattle.text_control.specs.Texts.{TextModel, TellsAs, Tells, HasFirstLine, IsTextRefusedFor, fault_of_table, fault_of_patrol}
 use Rattle.text_control.specs.Laws.{ReadTextsTell, OneTextRefusal, TextOrRefused, NoBytesAreNeither}
+use Rattle.text_control.proofs.TextsRead.{no_stay, no_patrol, not_both}
 
--- ---- first lines
-
-abbrev pub first : List ℕ → ℕ
-first bytes = get_or bytes 0 0
-
-stay_first : (bytes : List ℕ) → HasFirstLine stay_line bytes → first bytes ≡ 115
-stay_first bytes h = ap first h.1
-
-patrol_first : (bytes : List ℕ) → HasFirstLine patrol_line bytes → first bytes ≡ 112
-patrol_first bytes h = ap first h.1
-
-pub version_first : (v : TableVersion) (rest : List ℕ) → first (version_line v ++ rest) ≡ 116
-version_first First rest = refl
-version_first Second rest = refl
-
-pub table_first : (bytes : List ℕ) (p : Description) (rows : List (Option Row)) → IsTable bytes p rows → first bytes ≡ 116
-table_first bytes p rows h =
-    let rest : List ℕ = concat (lines_after h.version p.goal rows) in
-    ap first (h.text ∙ append_assoc (version_line h.version) (text_of p) rest) ∙ version_first h.version (text_of p ++ rest)
-
--- what a text begins with
-begins : (line plant rest bytes : List ℕ) → bytes ≡ line ++ plant ++ rest → HasFirstLine line bytes
-begins line plant rest bytes e = (plant ++ rest, e ∙ append_assoc line plant rest)
-
-apart : (bytes : List ℕ) → HasFirstLine stay_line bytes → HasFirstLine patrol_line bytes → ⊥
-apart bytes s p = omega (arith, stay_first bytes s, patrol_first bytes p)
+-- a text begins with the first line of its kind
+begins : (kind : TextKind) (bytes : List ℕ) (p : Description) (turns : List (List (Option Row))) → IsTextOf kind bytes p turns → HasFirstLine (first_line kind) bytes
+begins kind bytes p turns t = (text_of p ++ after_plant kind p turns, t.text ∙ append_assoc (first_line kind) (text_of p) (after_plant kind p turns))
 
 -- ---- laws
 
@@ -55,9 +32,9 @@ read_texts_tell bytes t (inr (inr h)) = subst (Tells bytes) (sym h.1) h.2
 
 pub one_text_refusal : OneTextRefusal
 one_text_refusal bytes f g (inl h) (inl k) = h.1.1 ∙ ap fault_of_table (texts.one_stay_refusal bytes h.1.0 k.1.0 h.1.2 k.1.2) ∙ sym k.1.1
-one_text_refusal bytes f g (inl h) (inr (inl k)) = absurd (apart bytes h.0 k.0)
+one_text_refusal bytes f g (inl h) (inr (inl k)) = absurd (not_both bytes h.0 k.0)
 one_text_refusal bytes f g (inl h) (inr (inr k)) = absurd (k.0 h.0)
-one_text_refusal bytes f g (inr (inl h)) (inl k) = absurd (apart bytes k.0 h.0)
+one_text_refusal bytes f g (inr (inl h)) (inl k) = absurd (not_both bytes k.0 h.0)
 one_text_refusal bytes f g (inr (inl h)) (inr (inl k)) = h.1.1 ∙ ap fault_of_patrol (texts.one_patrol_refusal bytes h.1.0 k.1.0 h.1.2 k.1.2) ∙ sym k.1.1
 one_text_refusal bytes f g (inr (inl h)) (inr (inr k)) = absurd (k.1 h.0)
 one_text_refusal bytes f g (inr (inr h)) (inl k) = absurd (h.0 k.0)
@@ -65,15 +42,15 @@ one_text_refusal bytes f g (inr (inr h)) (inr (inl k)) = absurd (h.1 k.0)
 one_text_refusal bytes f g (inr (inr h)) (inr (inr k)) = h.2.1 ∙ ap fault_of_table (tables.one_refusal bytes h.2.0 k.2.0 h.2.2 k.2.2) ∙ sym k.2.1
 
 refused_as : (kind : TextKind) (bytes : List ℕ) (t : TextModel) (f : TextFault) → TellsAs kind bytes t → (kind ≡ Patrol → HasFewTurns t.plant) → IsTextRefusedFor bytes f → ⊥
-refused_as (Table v) bytes t f tells few (inl h) = omega (arith, stay_first bytes h.0, table_first bytes t.plant _ tells)
-refused_as (Table v) bytes t f tells few (inr (inl h)) = omega (arith, patrol_first bytes h.0, table_first bytes t.plant _ tells)
+refused_as (Table v) bytes t f tells few (inl h) = no_stay tells.version bytes (begins (Table tells.version) bytes t.plant _ (as_text bytes t.plant _ tells)) h.0
+refused_as (Table v) bytes t f tells few (inr (inl h)) = no_patrol tells.version bytes (begins (Table tells.version) bytes t.plant _ (as_text bytes t.plant _ tells)) h.0
 refused_as (Table v) bytes t f tells few (inr (inr h)) = tables.table_or_refused bytes t.plant _ h.2.0 tells h.2.2
 refused_as Stay bytes t f tells few (inl h) = texts.stay_text_or_refused bytes t.plant _ h.1.0 tells h.1.2
-refused_as Stay bytes t f tells few (inr (inl h)) = apart bytes (begins stay_line (text_of t.plant) _ bytes tells.text) h.0
-refused_as Stay bytes t f tells few (inr (inr h)) = h.0 (begins stay_line (text_of t.plant) _ bytes tells.text)
-refused_as Patrol bytes t f tells few (inl h) = apart bytes h.0 (begins patrol_line (text_of t.plant) _ bytes tells.text)
+refused_as Stay bytes t f tells few (inr (inl h)) = not_both bytes (begins Stay bytes t.plant _ (stay_as_text bytes t.plant _ tells)) h.0
+refused_as Stay bytes t f tells few (inr (inr h)) = h.0 (begins Stay bytes t.plant _ (stay_as_text bytes t.plant _ tells))
+refused_as Patrol bytes t f tells few (inl h) = not_both bytes h.0 (begins Patrol bytes t.plant t.turns (patrol_as_text bytes t.plant t.turns tells))
 refused_as Patrol bytes t f tells few (inr (inl h)) = texts.patrol_text_or_refused bytes t.plant t.turns h.1.0 tells (few refl) h.1.2
-refused_as Patrol bytes t f tells few (inr (inr h)) = h.1 (begins patrol_line (text_of t.plant) _ bytes tells.text)
+refused_as Patrol bytes t f tells few (inr (inr h)) = h.1 (begins Patrol bytes t.plant t.turns (patrol_as_text bytes t.plant t.turns tells))
 
 pub text_or_refused : TextOrRefused
 text_or_refused bytes t f tells few refused = refused_as t.kind bytes t f tells few refused

@@ -1,5 +1,5 @@
 -- What is read from bytes, and why they are refused, by the kind whose first line they begin with.
-use Rattle.std.proofs.Common.{inl, inr, ◌≡◌, ℕ, ◌≤◌, List, ◌++◌, length, Option, refl, sym, ap, subst, ◌∙◌}
+use Rattle.std.proofs.Common.{inl, inr, ◌≡◌, ℕ, ◌≤◌, List, [], ◌∷◌, ◌++◌, length, Option, refl, sym, ap, subst, ◌∙◌}
 use Rattle.base.specs.declared.limits.TheConstants.{TABLE_LIMIT}
 use Rattle.game_core.specs.declared.game.Row.{Row}
 use Rattle.plant_record.specs.declared.limit_kind.LimitKind.TheVariants.{TableText}
@@ -17,10 +17,10 @@ use Rattle.controller_table.specs.KindTexts.{IsTextOf}
 use Rattle.controller_table.specs.HeadedTexts.{IsTextRefusedFor as IsRefusedAmong, alone, text_fault}
 use Rattle.controller_table.specs.inside.TextReading.{IsBegun, IsRefusedAfter}
 use Rattle.controller_table.proofs.EachKind.{one_kind}
-use Rattle.controller_table.proofs.TableTexts.{only_turn, as_table}
+use Rattle.controller_table.proofs.TableTexts.{only_turn, as_text, as_table}
 use Rattle.controller_table.proofs.TextsRead.{refused_among}
-use Rattle.temporal_texts.proofs.OneStayText.{text_as_stay}
-use Rattle.temporal_texts.proofs.OnePatrolText.{text_as_patrol}
+use Rattle.temporal_texts.proofs.OneStayText.{stay_as_text, text_as_stay}
+use Rattle.temporal_texts.proofs.OnePatrolText.{patrol_as_text, text_as_patrol}
 use Rattle.text_control.specs.declared.text_fault.TextFault.TheVariants.{Malformed, Limit}
 use Rattle.text_control.specs.Texts.{TextModel, IsReadFrom, HasFirstLine, IsTextRefusedFor, fault_of_table, fault_of_patrol}
 
@@ -43,6 +43,12 @@ read_from Stay bytes p turns t says text =
     ))
 read_from Patrol bytes p turns t says text = inr (inr (record { plant = p; rows = turns }, says, text_as_patrol bytes p turns text))
 
+-- it is the text of its kind
+pub text_read : (bytes : List ℕ) (t : TextModel) → IsReadFrom bytes t → IsTextOf t.kind bytes t.plant t.turns
+text_read bytes t (inl h) = subst (λ (m : TextModel). IsTextOf m.kind bytes m.plant m.turns) (sym h.1) (subst (λ (v : TableVersion). IsTextOf (Table v) bytes h.0.plant (h.0.rows ∷ [])) h.2.1 (as_text bytes h.0.plant h.0.rows h.2.0))
+text_read bytes t (inr (inl h)) = subst (λ (m : TextModel). IsTextOf m.kind bytes m.plant m.turns) (sym h.1) (stay_as_text bytes h.0.plant h.0.rows h.2)
+text_read bytes t (inr (inr h)) = subst (λ (m : TextModel). IsTextOf m.kind bytes m.plant m.turns) (sym h.1) (patrol_as_text bytes h.0.plant h.0.rows h.2)
+
 -- ---- why bytes are refused
 
 -- a reason other than the number of turns is one of a table
@@ -52,21 +58,24 @@ without_turns Refuses (rows.Limit what) few some refused = (tables.Limit what, r
 without_turns Refuses rows.Turns few some refused = absurd (few refused)
 without_turns Refuses rows.Memory few some refused = absurd (some refl)
 
--- a table begins as no other text
-no_table : (kind : TextKind) (version : TableVersion) (bytes rest : List ℕ) → bytes ≡ first_line (Table version) ++ rest → (Table version ≡ kind → ⊥) → HasFirstLine (first_line kind) bytes → ⊥
-no_table kind version bytes rest begun other first = other (one_kind (Table version) kind rest first.0 (sym begun ∙ first.1)).0
+-- bytes begin with the first line of one kind
+one_beginning : (k l : TextKind) (bytes : List ℕ) → HasFirstLine (first_line k) bytes → HasFirstLine (first_line l) bytes → k ≡ l
+one_beginning k l bytes h m = (one_kind k l h.0 m.0 (sym h.1 ∙ m.1)).0
 
-no_stay : (version : TableVersion) → Table version ≡ Stay → ⊥
-no_stay version e = absurd (cc)
+pub no_stay : (version : TableVersion) (bytes : List ℕ) → HasFirstLine (first_line (Table version)) bytes → HasFirstLine (first_line Stay) bytes → ⊥
+no_stay version bytes h m = let e = one_beginning (Table version) Stay bytes h m in cc
 
-no_patrol : (version : TableVersion) → Table version ≡ Patrol → ⊥
-no_patrol version e = absurd (cc)
+pub no_patrol : (version : TableVersion) (bytes : List ℕ) → HasFirstLine (first_line (Table version)) bytes → HasFirstLine (first_line Patrol) bytes → ⊥
+no_patrol version bytes h m = let e = one_beginning (Table version) Patrol bytes h m in cc
+
+pub not_both : (bytes : List ℕ) → HasFirstLine (first_line Stay) bytes → HasFirstLine (first_line Patrol) bytes → ⊥
+not_both bytes h m = let e = one_beginning Stay Patrol bytes h m in cc
 
 module _ (bytes : List ℕ) where
   pub refused_after : (kind : TextKind) (rest : List ℕ) (fault : RowsFault) → bytes ≡ first_line kind ++ rest → length bytes ≤ most_bytes kind → (fault ≡ rows.Memory → ⊥) → IsRefusedAfter kind rest fault → IsTextRefusedFor bytes (fault_of_patrol fault)
   refused_after (Table version) rest fault begun short some refused = inr (inr (
-    no_table Stay version bytes rest begun (no_stay version),
-    no_table Patrol version bytes rest begun (no_patrol version),
+    no_stay version bytes (rest, begun),
+    no_patrol version bytes (rest, begun),
     without_turns (IsRefusedAmong Table TABLE_LIMIT bytes) fault (λ h. h.1.many tt) some (refused_among Table version TABLE_LIMIT bytes rest short begun fault some refused),
   ))
   refused_after Stay rest fault begun short some refused = inl (
@@ -76,7 +85,7 @@ module _ (bytes : List ℕ) where
   refused_after Patrol rest fault begun short some refused = inr (inl ((rest, begun), (fault, refl, refused_among (alone Patrol) tt PATROL_LIMIT bytes rest short begun fault some refused)))
 
   pub too_long : (kind : TextKind) (rest : List ℕ) → bytes ≡ first_line kind ++ rest → (length bytes ≤ most_bytes kind → ⊥) → IsTextRefusedFor bytes Limit
-  too_long (Table version) rest begun long = inr (inr (no_table Stay version bytes rest begun (no_stay version), no_table Patrol version bytes rest begun (no_patrol version), (tables.Limit TableText, refl, long)))
+  too_long (Table version) rest begun long = inr (inr (no_stay version bytes (rest, begun), no_patrol version bytes (rest, begun), (tables.Limit TableText, refl, long)))
   too_long Stay rest begun long = inl ((rest, begun), (tables.Limit TableText, refl, long))
   too_long Patrol rest begun long = inr (inl ((rest, begun), (rows.Limit TableText, refl, long)))
 

@@ -7,7 +7,7 @@ use Rattle.command_outcomes.specs.Stages.{IsPatrolRefusal, IsTextRefusal}
 use Rattle.text_abstraction.specs.Causes.{IsStopFor}
 use Rattle.temporal_texts.proofs.TextLaws.{patrol_held}
 use Rattle.temporal_promises.proofs.FittingPatrolRows.{patrol_rows_fit}
-use Rattle.synth_run.proofs.PatrolTables.{patrol_table, patrol_stop}
+use Rattle.synth_run.proofs.Tables.{patrol_table, patrol_stop}
 use Rattle.base.proofs.Results.{passed_on}
 use Rattle.synth_run.proofs.commands.patrol.patrol.Goals as goal
 
