@@ -1,13 +1,9 @@
-use Rattle.std.proofs.Common.{◌≡◌, List, refl, sym, subst, rules}
+use Rattle.std.proofs.Common.{◌≡◌, List, refl, subst, rules}
 use Rattle.grid_quantiser.specs.declared.axis.Axis.{Axis}
 use Rattle.grid_quantiser.specs.Cells.{IsInDomain, cell_of}
-use Rattle.successor_box.specs.Deviations.{HasNoOverflow}
 use Rattle.text_control.specs.Followed.{FollowedSample, IsSized}
 use Rattle.text_control.proofs.NextBoxes.{outside}
 use Rattle.text_control.proofs.following.follows.Goals as goal
-
-pub lies_in_box-requires-clause-fits : goal.lies_in_box-requires-clause-fits
-lies_in_box-requires-clause-fits c = subst HasNoOverflow (sym c.plant-plant.ensures.plant) c.in-Some-slopes.ensures.1
 
 pub returns-else-lies_in_box : goal.returns-else-lies_in_box
 returns-else-lies_in_box c =
