@@ -5,4 +5,3 @@ pub mod ShiftedValues
 pub mod Pieces
 pub mod PointsPassed
 pub mod Laws
-pub mod EachNode

@@ -1,15 +1,11 @@
-use Rattle.std.proofs.Common.{ℕ, ◌<◌, List, [], ◌∷◌, ◌++◌, ◌∙◌, length, map, ap, ap₂, sym, subst, arith}
+use Rattle.std.proofs.Common.{ℕ, ◌<◌, List, [], ◌∷◌, ◌++◌, ◌∙◌, length, map, ap, ap₂, sym, arith}
 use Rattle.std.specs.Prelude.{ℤ, pos}
 use Rattle.std.specs.Global.{Vec}
 use borrow.Author.Count.{below_more}
 use Rattle.std.proofs.lemmas.List.{map-append, map_more, take_all}
 use Rattle.fixed_expr.specs.Expression.{NumExpr}
-use Rattle.plant_record.specs.Description.{Description, vectors_of}
-use Rattle.successor_box.specs.Deviations.{HasNoOverflowAt, IsFirstOverflow, IsOverflow, deviations_along}
-use Rattle.successor_box.specs.declared.slope_fault.SlopeFault.{SlopeFault}
-use Rattle.successor_box.specs.declared.slope_fault.SlopeFault.TheVariants.{Overflow, Memory}
-use Rattle.successor_box.specs.inside.Area.{IsOverflowAlong}
-use Rattle.base.proofs.Results.{passed_on}
+use Rattle.plant_record.specs.Description.{vectors_of}
+use Rattle.successor_box.specs.Deviations.{HasNoOverflowAt, deviations_along}
 use Rattle.successor_box.proofs.DeviationLanes.{equations_count}
 use Rattle.successor_box.proofs.slopes.find_slopes.Goals as goal
 
@@ -39,15 +35,3 @@ pub returns-clause-fits : goal.returns-clause-fits
 returns-clause-fits c =
     let each = equations_count _ _ c.equations-equation-end.ensures.same in
     λ i u lt lu. c.loop-equation.invariant.fits i u (omega (arith, each)) lu
-
--- the first overflow along an equation is the first of all where the equations before fit
-reported : (p : Description) (k : ℕ) (f : SlopeFault) → k < length p.equations → IsOverflowAlong p k f → ((i u : ℕ) → i < k → u < vectors_of p.inputs → HasNoOverflowAt p i u) → IsOverflow p f
-reported p k (Overflow j u) lt h before = subst (λ (i : ℕ). IsFirstOverflow p i u) (sym h.0) (record { equation = lt; input = h.1; overflow = h.2; equations_before = before; inputs_before = h.3 })
-reported p k Memory lt h before = tt
-
-pub returns-in_err-deviations_along-clause-overflow : goal.returns-in_err-deviations_along-clause-overflow
-returns-in_err-deviations_along-clause-overflow c =
-    let p = c.args.p.now in
-    let each = equations_count _ _ c.equations-equation-end.ensures.same in
-    passed_on c.from_residual.result c.in_err-deviations_along.field-0.0 _ c.from_residual.ensures.1
-    (reported p c.loop-equation.equation c.in_err-deviations_along.field-0.0 (omega (arith, each)) c.in_err-deviations_along.ensures.overflow c.loop-equation.invariant.fits)
