@@ -50,7 +50,7 @@ extern "C" {
 #endif
 
 /* The version of this header: two digits for each number. gaffcurrant_version() is that of the library. */
-#define GAFFCURRANT_VERSION 11600
+#define GAFFCURRANT_VERSION 11700
 
 /* Bytes of stack that gaffcurrant_open takes at most (measured over the deepest texts that the limits allow). Threads of some
    C libraries have less. */

@@ -2,7 +2,7 @@
 -- given by a name for each; a text may have so many bytes at most.
 use Rattle.std.specs.Prelude.{◌≡◌, ◌⊎◌, ℕ, suc, ◌+◌, ◌≤◌, List, ◌++◌, length}
 use Rattle.plant_record.specs.declared.limit_kind.LimitKind.{LimitKind}
-use Rattle.plant_record.specs.declared.limit_kind.LimitKind.TheVariants.{PlantText, TableText, Vectors, Cells, Pairs, Edges}
+use Rattle.plant_record.specs.declared.limit_kind.LimitKind.TheVariants.{PlantText, TableText, Edges}
 use Rattle.plant_record.specs.Description.{Description}
 use Rattle.plant_record.specs.Limits.{IsWithinLimits}
 use Rattle.plant_writing.specs.CanonicalText.{text_of}
@@ -61,10 +61,8 @@ IsFirstRefusedLine kind_of bytes n =
 abbrev pub ExceedsTextLimit : {Name : Type 0} → (Name → TextKind) → ℕ → List ℕ → LimitKind → Type 0
 ExceedsTextLimit kind_of most bytes PlantText = ⊥
 ExceedsTextLimit kind_of most bytes TableText = length bytes ≤ most → ⊥
-ExceedsTextLimit kind_of most bytes Vectors = (length bytes ≤ most) × IsPlantRefusedFor kind_of bytes (front.Limit Vectors)
-ExceedsTextLimit kind_of most bytes Cells = (length bytes ≤ most) × IsPlantRefusedFor kind_of bytes (front.Limit Cells)
-ExceedsTextLimit kind_of most bytes Pairs = (length bytes ≤ most) × IsPlantRefusedFor kind_of bytes (front.Limit Pairs)
 ExceedsTextLimit kind_of most bytes Edges = ⊥
+ExceedsTextLimit kind_of most bytes what = (length bytes ≤ most) × IsPlantRefusedFor kind_of bytes (front.Limit what)
 
 -- why a text is refused, in the order of the text; want of memory is the text's fault never
 abbrev pub IsTextRefusedFor : {Name : Type 0} → (Name → TextKind) → ℕ → List ℕ → TextFault → Type 0

@@ -50,25 +50,11 @@ rules_of version p = record {
 
 -- those of its stay text: ranks from 0 to the number of cells less one
 abbrev pub stay_rules : Description → RowRules
-stay_rules p = record {
-  version = Second;
-  format = Both;
-  cells = cells_of (axes_of p);
-  vectors = vectors_of p.inputs;
-  least_rank = 0;
-  most_rank = cells_of (axes_of p) - 1;
-}
+stay_rules p = record (rules_of Second p) { format = Both; most_rank = cells_of (axes_of p) - 1 }
 
 -- those of its patrol text: ranks from 1 to the number of cells
 abbrev pub patrol_rules : Description → RowRules
-patrol_rules p = record {
-  version = Second;
-  format = Both;
-  cells = cells_of (axes_of p);
-  vectors = vectors_of p.inputs;
-  least_rank = 1;
-  most_rank = cells_of (axes_of p);
-}
+patrol_rules p = record (stay_rules p) { least_rank = 1; most_rank = cells_of (axes_of p) }
 
 -- the rules of a text by turns: a patrol has a turn for each target, another text has one
 abbrev pub turn_rules : TextKind → Description → TurnRules
@@ -82,9 +68,8 @@ HasFewTurns p = cells_of (axes_of p) * length p.targets ≤ TURNS_LIMIT
 
 -- a patrol's plant has few enough turns
 abbrev pub HasFewTurnsFor : TextKind → Description → Type 0
-HasFewTurnsFor (Table version) p = Unit {0}
-HasFewTurnsFor Stay p = Unit {0}
 HasFewTurnsFor Patrol p = HasFewTurns p
+HasFewTurnsFor kind p = Unit {0}
 
 -- how many bytes a text may have
 abbrev pub most_bytes : TextKind → ℕ

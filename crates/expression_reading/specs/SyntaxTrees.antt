@@ -47,18 +47,11 @@ yield_of names (ParenTree a) = codes "(" ∷ yield_of names a ++ codes ")" ∷ [
 
 -- sums have level 1, products 2, factors 3
 abbrev pub level_of : Syntax → ℕ
-level_of (NumTree k) = 3
-level_of (VarTree i) = 3
-level_of (NegTree a) = 3
 level_of (AddTree a b) = 1
 level_of (SubTree a b) = 1
 level_of (MulTree a b) = 2
 level_of (DivTree a k) = 2
-level_of (MinTree a b) = 3
-level_of (MaxTree a b) = 3
-level_of (AbsTree a) = 3
-level_of (LutTree a points) = 3
-level_of (ParenTree a) = 3
+level_of factor = 3
 
 -- the rules of the grammar over m variables: sums and products group to the left, a divisor isn't 0, the points of a table rise
 abbrev pub IsGrammatical : ℕ → Syntax → Type 0
