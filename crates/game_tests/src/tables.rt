@@ -1,10 +1,11 @@
-//! Tables of both versions, and the lines of their runs.
+//! Texts with rows that are read and written again, and the lines of runs.
 
 use controller_table::{Table, TableWriter, read_table};
 use game_core::{Answer, Row};
 use row_runs::{RowFormat, RunLines};
 use std::alloc::Global;
 use std::test::Fail;
+use temporal_texts::{PatrolWriter, StayWriter, read_patrol, read_stay};
 use text_pieces::Pieces;
 
 /// The carriage of three positions a step, to be kept on the line: cells 1 to 4 have equal rows.
@@ -20,6 +21,14 @@ const CORRIDOR_BY_CELLS: &[u8] =
 
 const CORRIDOR_BY_RUNS: &[u8] =
     b"table 2\nplant 1\nstate x 0 14 3\ninput u 4 7\nnoise w -1 1\nnext x = x + u + w\ntarget 9 14\ngoal reach\nend\nrows 4\n0 0 2 0\n1 1 1 1\n2 2 1 0\n3 4 0 -\nend\n";
+
+/// The carriage may also stand still, as it does at the target.
+const STAY: &[u8] =
+    b"stay 1\nplant 1\nstate x 0 14 3\ninput u -3 0 3\nnext x = x + u\ntarget 12 14\ngoal reach\nend\nrows 2\n3 3 1 2\n4 4 0 1\nend\n";
+
+/// A target at either end, and for each turn the cell beside its target.
+const PATROL: &[u8] =
+    b"patrol 1\nplant 1\nstate x 0 14 3\ninput u -3 3\nnext x = x + u\ntarget 0 2\ntarget 12 14\ngoal reach\nend\nturn 0 rows 1\n1 1 1 0\nturn 1 rows 1\n3 3 1 1\nend\n";
 
 /// What comes out of pieces of at most seven bytes, so many at most.
 fn text_of_pieces<P: Pieces>(alloc: Global, pieces: &mut P, most: u32) -> Result<Vec<u8>, Fail> {
@@ -47,6 +56,34 @@ fn tables_of_both_versions_are_written_by_runs(rt: HostRuntime) -> Result<(), Fa
             && is_written_as(alloc, CORRIDOR_BY_RUNS, CORRIDOR_BY_RUNS)?
             && is_written_as(alloc, KEPT_BY_CELLS, KEPT_BY_RUNS)?
     );
+    Ok(())
+}
+
+/// Whether the stay text that was read is written again.
+fn is_stay_text_written(alloc: Global) -> Result<bool, Fail> {
+    let stay = read_stay(alloc, STAY)?;
+    let mut writer = StayWriter::new(alloc, stay.plant(), stay.answer())?;
+    Ok(text_of_pieces(alloc, &mut writer, 40)?.as_slice() == STAY)
+}
+
+#[test]
+fn a_stay_text_is_written_as_it_was_read(rt: HostRuntime) -> Result<(), Fail> {
+    assert!(rt; is_stay_text_written(rt.alloc())?);
+    Ok(())
+}
+
+/// Whether the patrol text that was read is written again, both turns.
+fn is_patrol_text_written(alloc: Global) -> Result<bool, Fail> {
+    let Ok(patrol) = read_patrol(alloc, PATROL) else {
+        return Ok(false);
+    };
+    let mut writer = PatrolWriter::new(alloc, patrol.plant(), patrol.answers())?;
+    Ok(text_of_pieces(alloc, &mut writer, 40)?.as_slice() == PATROL)
+}
+
+#[test]
+fn a_patrol_text_is_written_as_it_was_read(rt: HostRuntime) -> Result<(), Fail> {
+    assert!(rt; is_patrol_text_written(rt.alloc())?);
     Ok(())
 }
 
