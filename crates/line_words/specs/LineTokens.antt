@@ -1,4 +1,4 @@
--- The tokens of a line. No public clause names this.
+-- The tokens of a line.
 use Rattle.std.specs.Prelude.{ℕ, List}
 use Rattle.std.specs.List.{flat_map}
 use Rattle.line_words.specs.Words.{words_of}

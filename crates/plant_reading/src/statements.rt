@@ -3,7 +3,7 @@
 ghost use Rattle.std.specs.Prelude.{◌≡◌, ◌≢◌, ◌≤◌, ◌∷◌, length, codes, IfOk, Err, AllPairs};
 ghost use Rattle.std.specs.List.{All};
 ghost use Rattle.line_words.specs.Names.{IsName};
-ghost use Rattle.line_words.specs.WordReaders.{Finds};
+ghost use Rattle.line_words.specs.WordReaders.{Finds, FindsInPlace};
 ghost use Rattle.plant_record.specs.Parts.{variable_names};
 ghost use Rattle.plant_reading.specs.StatementsRead.{statement_of, StatesOver};
 ghost use Rattle.plant_reading.specs.inside.Keywords.{keyword_text};
@@ -82,7 +82,7 @@ fn text_of(keyword: Keyword) -> &'static [u8]
 }
 
 fn parse_keyword(word: &[u8]) -> Result<Keyword, LineFault>
-    ensures { Finds (λ k. k) (λ k. word.now ≡ keyword_text k) result }
+    ensures { FindsInPlace (λ k. k) (λ k. word.now ≡ keyword_text k) result }
 {
     for keyword in KEYWORDS {
         if word == text_of(keyword) {

@@ -4,7 +4,7 @@ ghost use Rattle.std.specs.Prelude.{◌≡◌, ◌↔◌, ◌<◌, ◌%◌, IsTr
 ghost use Rattle.plant_record.specs.Spelling.{version_word, goal_word};
 ghost use Rattle.line_words.specs.Numbers.{IsLiteral};
 ghost use Rattle.line_words.specs.Words.{words_of};
-ghost use Rattle.line_words.specs.WordReaders.{Finds};
+ghost use Rattle.line_words.specs.WordReaders.{Finds, FindsInPlace};
 ghost use Rattle.statement_words.specs.LineReaders.{HasWholeCells, StartsWithEnds, SpellsVersion, SpellsState, SpellsCells, SpellsInput, SpellsNoise, SpellsValues, SpellsGoal};
 
 use base::limits::VALUES_LIMIT;
@@ -19,13 +19,13 @@ use std::alloc::Global;
 
 /// `1` or `2`.
 pub fn parse_version(bytes: &[u8]) -> Result<PlantVersion, LineFault>
-    ensures { Finds (λ v. v) (SpellsVersion (words_of bytes.now)) result }
+    ensures { FindsInPlace (λ v. v) (SpellsVersion (words_of bytes.now)) result }
 {
     parse_version_word(only_word(bytes)?)
 }
 
 fn parse_version_word(word: &[u8]) -> Result<PlantVersion, LineFault>
-    ensures { Finds (λ v. v) (λ v. word.now ≡ version_word v) result }
+    ensures { FindsInPlace (λ v. v) (λ v. word.now ≡ version_word v) result }
 {
     match word {
         b"1" => Ok(PlantVersion::One),
@@ -51,7 +51,7 @@ pub fn parse_state(alloc: Global, bytes: &[u8]) -> Result<StateVariable, LineFau
 
 /// `LOW HIGH WIDTH`.
 fn parse_axis(bytes: &[u8]) -> Result<(i128, i128, i128), LineFault>
-    ensures { Finds (λ r. (r.0, r.1, r.2)) (SpellsCells (words_of bytes.now)) result }
+    ensures { FindsInPlace (λ r. (r.0, r.1, r.2)) (SpellsCells (words_of bytes.now)) result }
 {
     let (low, high, rest) = take_ends(bytes)?;
     let (width, rest) = take_number(rest)?;
@@ -119,7 +119,7 @@ pub fn parse_noise(alloc: Global, bytes: &[u8]) -> Result<NoiseVariable, LineFau
 
 /// Two numbers in order, and what stands after them.
 pub fn take_ends(bytes: &[u8]) -> Result<(i128, i128, &[u8]), LineFault>
-    ensures { Finds (λ r. ((r.0, r.1), words_of r.2.now)) (StartsWithEnds (words_of bytes.now)) result }
+    ensures { FindsInPlace (λ r. ((r.0, r.1), words_of r.2.now)) (StartsWithEnds (words_of bytes.now)) result }
 {
     let (low, rest) = take_number(bytes)?;
     let (high, rest) = take_number(rest)?;
@@ -137,13 +137,13 @@ fn is_ordered(least: i128, greatest: i128) -> bool
 
 /// `reach` or `keep`.
 pub fn parse_goal(bytes: &[u8]) -> Result<GoalKind, LineFault>
-    ensures { Finds (λ kind. kind) (SpellsGoal (words_of bytes.now)) result }
+    ensures { FindsInPlace (λ kind. kind) (SpellsGoal (words_of bytes.now)) result }
 {
     parse_goal_word(only_word(bytes)?)
 }
 
 fn parse_goal_word(word: &[u8]) -> Result<GoalKind, LineFault>
-    ensures { Finds (λ kind. kind) (λ kind. word.now ≡ goal_word kind) result }
+    ensures { FindsInPlace (λ kind. kind) (λ kind. word.now ≡ goal_word kind) result }
 {
     match word {
         b"reach" => Ok(GoalKind::Reach),

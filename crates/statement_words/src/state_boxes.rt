@@ -2,7 +2,7 @@
 
 ghost use Rattle.std.specs.Prelude.{◌≤◌};
 ghost use Rattle.line_words.specs.Words.{words_of};
-ghost use Rattle.line_words.specs.WordReaders.{Finds};
+ghost use Rattle.line_words.specs.WordReaders.{FindsInPlace};
 ghost use Rattle.statement_words.specs.LineReaders.{SpellsBox};
 ghost use Rattle.base.specs.declared.limits.TheConstants.{STATES_LIMIT};
 
@@ -13,7 +13,7 @@ use plant_record::StateBox;
 /// `LOW HIGH` for each state in turn. The positions past the states are 0.
 pub fn parse_box(bytes: &[u8], states: usize) -> Result<StateBox, LineFault>
     requires { states ≤ STATES_LIMIT }
-    ensures { Finds (λ b. b) (SpellsBox states (words_of bytes.now)) result }
+    ensures { FindsInPlace (λ b. b) (SpellsBox states (words_of bytes.now)) result }
 {
     let mut low = [0; 6];
     let mut high = [0; 6];

@@ -3,12 +3,12 @@ use Rattle.std.specs.Fmt.{signed_decimal}
 use Rattle.line_words.specs.Words.{words_of}
 use Rattle.line_words.specs.WordReaders.{StartsWithName}
 use Rattle.statement_words.specs.LineReaders.{SpellsInput, SpellsValues}
-use Rattle.line_words.proofs.lemmas.RefusalsPassOn.{exits}
+use Rattle.line_words.proofs.lemmas.RefusalsPassOn.{exits, exits_from_place}
 use Rattle.statement_words.proofs.declarations.parse_input.Goals as goal
 
 pub returns-in_err-name : goal.returns-in_err-name
 returns-in_err-name c =
-    exits (λ i. i) (SpellsInput (words_of c.args.bytes.now)) (StartsWithName (words_of c.args.bytes.now)) c.in_err-name.field-0.0 _ c.from_residual.ensures.1 c.in_err-name.ensures
+    exits_from_place (λ i. i) (SpellsInput (words_of c.args.bytes.now)) (StartsWithName (words_of c.args.bytes.now)) c.in_err-name.field-0.0 _ c.from_residual.ensures.1 c.in_err-name.ensures
     (λ i h. ((i.name, map signed_decimal i.values), (h.1.name, h.0)))
 
 pub returns-in_err-values : goal.returns-in_err-values
