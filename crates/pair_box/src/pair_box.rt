@@ -1,5 +1,5 @@
 //! The box of a pair as it is kept: two numbers, the greatest there are where there is no box.
-ghost use Rattle.std.specs.Prelude.{◌≡◌, ◌*◌, ◌^◌, ◌<◌, ◌≤◌, IfSome, IsTrue};
+ghost use Rattle.std.specs.Prelude.{◌≡◌, ◌↔◌, ◌*◌, ◌^◌, ◌<◌, ◌≤◌, IfSome, IsTrue};
 ghost use Rattle.grid_quantiser.specs.ExtentBoxes.{one_cell};
 ghost use Rattle.pair_box.specs.Sums.{term, plus};
 ghost use Rattle.pair_box.specs.inside.BoxWords.{word_of};
@@ -67,7 +67,7 @@ impl PairBox {
     /// Whether it is the one cell on no axis, which adds nothing.
     #[inline]
     pub fn is_one_cell(&self) -> bool
-        ensures { IsTrue result → self.now ≡ one_cell }
+        ensures { IsTrue result ↔ (self.now ≡ one_cell) }
     {
         self.first == 0 && self.last == 0
     }
