@@ -34,10 +34,6 @@ HasFreeSlot f r = (r < length f.rows) × (length (row_at f.rows r) < slice_index
 abbrev pub EachHasFreeSlot : Filling → ℕ → ℕ → Type 0
 EachHasFreeSlot f first count = (r : ℕ) → first ≤ r → r < first + count → HasFreeSlot f r
 
--- each row has as many values as slots
-abbrev pub EachIsFull : Filling → Type 0
-EachIsFull f = (r : ℕ) → r < length f.lengths → length (row_at f.rows r) ≡ slice_index f.lengths r
-
 -- how many slots are not written
 abbrev pub slots_left : Filling → ℕ
 slots_left f = sum f.lengths - sum (map length f.rows)

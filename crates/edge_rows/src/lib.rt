@@ -7,7 +7,6 @@
 #![tactic(auto)]
 
 mod fill;
-pub mod laws;
 mod rows;
 
 pub use base::NoMemory;

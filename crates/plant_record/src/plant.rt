@@ -5,7 +5,7 @@ ghost use Rattle.std.specs.Option.{option_map};
 ghost use Rattle.fixed_expr.specs.Expression.{expression_of};
 ghost use Rattle.grid_quantiser.specs.Axes.{cells_of};
 ghost use Rattle.plant_record.specs.declared.variables.NoiseVariable.{NoiseVariable};
-ghost use Rattle.plant_record.specs.Description.{axes_of, names_of, value_counts, vectors_of, vector_of};
+ghost use Rattle.plant_record.specs.Description.{axes_of, value_counts, vectors_of, vector_of};
 ghost use Rattle.mixed_radix.specs.Radix.{size, AreDigits, AreDigitsOf};
 ghost use Rattle.line_words.specs.Numbers.{IsLiteral};
 ghost use Rattle.plant_record.specs.ValueIndices.{value_count, value_index, value_at};
@@ -21,7 +21,6 @@ use crate::aims::GoalKind;
 use crate::cell_marks::{lies_in_one, touches_one};
 use crate::limit_kind::LimitKind;
 use crate::plant_parts::{PlantParts, grid_of, value_counts};
-use crate::variables::Name;
 use crate::version::PlantVersion;
 use base::limits::{INPUTS_LIMIT, PAIRS_LIMIT, STATES_LIMIT, VECTORS_LIMIT};
 use fixed_expr::Expr;
@@ -292,14 +291,6 @@ impl Plant {
         ensures { IsTrue result ↔ IsObstacleCell self.now c }
     {
         touches_one(&self.grid, c, &self.parts.obstacles)
-    }
-
-    /// The name of a variable: the states come first, then the inputs, then the noises.
-    pub fn name(&self, variable: u32) -> &Name
-        requires { variable < length (names_of self.now) }
-        ensures { slice_get (names_of self.now) variable ≡ Some result.now }
-    {
-        self.parts.variables.names().name(variable)
     }
 
     /// The equations, where they lie in memory.

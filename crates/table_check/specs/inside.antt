@@ -1,4 +1,3 @@
--- What only tests and proofs name.
+-- What private clauses and proofs name.
 pub mod Below
-pub mod Line
 pub mod RightLaws
