@@ -11,7 +11,7 @@ use plant_text::{PlantFault, read_front};
 use plant_writing::write_plant;
 use std::alloc::Global;
 
-/// The plant that a plant's text is read back as.
+/// A copy of a plant, by way of its text: so expressions need no copy of their own.
 pub(crate) fn copy_plant(alloc: Global, p: &Plant) -> Result<Plant, NoMemory>
     requires { IsWithinLimits p.now }
     ensures { IfOk result (λ copy. copy ≡ p.now) }

@@ -16,8 +16,8 @@ use plant_text::{Front, PlantFault, read_front};
 use row_reading::{line_count, read_turns};
 use std::alloc::Global;
 
-/// Reads the text of a kind from what stands after its first line, or answers why it is none. So many bytes have lines that 32 bits
-/// count.
+/// Reads the text of a kind from what stands after its first line, or answers why it is none. The bytes are so few that
+/// 32 bits count their lines.
 pub fn read_after(alloc: Global, kind: TextKind, rest: &[u8]) -> Result<RowsText, TextFault>
     requires { length rest.now < 2 ^ 30 }
     ensures kind { IfOk result (λ t. t.kind ≡ kind) }

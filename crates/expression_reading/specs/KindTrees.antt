@@ -1,4 +1,4 @@
--- The grammar of expressions over kinds of tokens. No public clause names this.
+-- The grammar of expressions over kinds of tokens.
 use Rattle.std.specs.Prelude.{◌≡◌, ℕ, suc, ◌≤◌, ℤ, pos, negsuc, List, [], ◌∷◌, ◌++◌}
 use Rattle.std.specs.List.{flat_map}
 use Rattle.fixed_expr.specs.Expression.{Expression, nodes_of, depth_of}

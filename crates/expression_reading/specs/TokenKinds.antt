@@ -1,4 +1,4 @@
--- The kind of a token: a symbol, a function's name, a variable, a number, or none of them. No public clause names this.
+-- The kind of a token: a symbol, a function's name, a variable, a number, or none of them.
 use Rattle.std.specs.Prelude.{◌≢◌, ℕ, suc, ◌<◌, nat_lt, ◌&&◌, List, [], ◌∷◌, map, slice_index_or, Option, Some, None, if◌then◌else◌, codes}
 use Rattle.std.specs.List.{All, AllPairs}
 use Rattle.std.specs.Option.{option_map}

@@ -36,7 +36,7 @@ impl Model for Operand {
     ghost invariant = { λ t. (t.nodes ≡ nodes_of (expression_of t.expr.value)) × (t.depth ≡ depth_of (expression_of t.expr.value)) × IsSmall (expression_of t.expr.value) };
 }
 
-/// None where it exceeds a limit.
+/// The operand of an expression, refused where it exceeds a limit.
 fn kept(alloc: Global, expr: Expr, nodes: u32, depth: u32) -> Result<Operand, LineFault>
     requires nodes { nodes ≡ nodes_of (expression_of expr) }
     requires depth { depth ≡ depth_of (expression_of expr) }

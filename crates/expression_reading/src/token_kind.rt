@@ -5,7 +5,7 @@ ghost use Rattle.expression_reading.specs.TokenKinds.{parse_symbol, parse_functi
 
 use line_words::parse_number;
 
-/// What a token is. A variable is told by its number.
+/// What a token is. A variable is given by its number.
 #[derive(Clone, Copy)]
 pub enum TokenKind {
     Number(u64),

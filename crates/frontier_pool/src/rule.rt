@@ -9,9 +9,9 @@ pub struct ClaimList {
 
 /// What the caller or a member knows. No value of it is made.
 pub struct SeatView {
-    /// Of the caller how many parts were made, its own among them.
+    /// Of the caller how many seats were made, its own among them.
     pub made: u64,
-    /// Of a member its part, and of the caller its own and then those that were collected.
+    /// Of a member its list, and of the caller its own and then those that were collected.
     pub claim_lists: LinkedList<ClaimList>,
 }
 

@@ -1,4 +1,4 @@
-//! With what the counters of pairs begin.
+//! The numbers with which the counters of pairs begin.
 ghost use Rattle.std.specs.Prelude.{◌≡◌, map, length, IfOk};
 
 use crate::game::Forward;

@@ -10,8 +10,8 @@ use crate::axis::{Axis, CellPoint, NO_AXIS};
 use base::limits::{CELLS_LIMIT, STATES_LIMIT};
 use std::marker::Model;
 
-/// The numbers of a state, one for each axis of the grid. The indices past the last axis are 0 in
-/// an answer, and are not looked at in what a call is given.
+/// The numbers of a state, one for each axis of the grid. What stands past the last axis is 0 in
+/// an answer, and isn't looked at in what a call is given.
 pub type Point = [i128; STATES_LIMIT];
 
 /// The grid would have more than 2^20 cells.

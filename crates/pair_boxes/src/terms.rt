@@ -152,7 +152,7 @@ pub(crate) fn build_tables<R: Threads + Sync>(
     Ok(tables)
 }
 
-/// The terms along the axis of one state: a table, unless it had a slot for each pair.
+/// The terms along the axis of one state: a table, unless it would have a slot for each pair.
 fn build_state<R: Threads + Sync>(
     rt: &R,
     alloc: Global,
@@ -171,7 +171,8 @@ fn build_state<R: Threads + Sync>(
     Ok(StateTerms::Table(build_terms(alloc, of, extents)?))
 }
 
-/// Whether a table of extents had a slot for each pair, and none were shifted: then it would only be written and read once.
+/// Whether a table of extents would have a slot for each pair, and none be shifted: then it would only be written and read
+/// once.
 fn has_slot_for_each_pair(of: &StateOf<'_>, digits: &Digits) -> bool {
     let p = of.sampled.plant;
     !p.equation(of.state).shifts_with(of.state) && digits.slots == p.grid().cells() * p.vectors()

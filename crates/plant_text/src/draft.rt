@@ -56,7 +56,7 @@ impl Draft {
         }
     }
 
-    /// Passes over a line, or takes in what it states.
+    /// Skips a line, or takes in what it states.
     pub fn read_line(&mut self, alloc: Global, line: &[u8]) -> Result<(), LineFault>
         requires { KeepsRules (partial_of self.old) }
         ensures read { OnOk result (Extends (partial_of self.old) line.now (partial_of self.new)) }
@@ -149,7 +149,7 @@ impl Draft {
         }
     }
 
-    /// Whether a statement has its position after the lines so far, and its position in the canonical order.
+    /// Whether a statement may stand after the lines so far, and in the canonical order.
     fn fits_in_order(&self, statement: &Statement) -> bool
         requires { KeepsRules (partial_of self.now) }
         ensures { IsTrue result ↔ FitsInOrder (partial_of self.now) (statement_of statement.now) }
@@ -157,8 +157,8 @@ impl Draft {
         self.fits(statement) && self.is_in_order(statement)
     }
 
-    /// Refuses a statement that has no position after the lines so far or in the canonical order, or
-    /// whose canonical line is another one.
+    /// Refuses a statement that may not stand after the lines so far or in the canonical order, or whose
+    /// canonical line is another one.
     fn check_canonical(
         &self,
         statement: &Statement<'_>,

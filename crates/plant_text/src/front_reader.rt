@@ -21,7 +21,7 @@ pub struct Front {
 }
 
 /// Reads the canonical plant text with which some bytes begin, up to its line `end` and no further,
-/// or answers why there is none. So many bytes have lines that 32 bits count.
+/// or answers why there is none. The bytes are so few that 32 bits count their lines.
 pub fn read_front(alloc: Global, bytes: &[u8]) -> Result<Front, PlantFault>
     requires { length bytes.now < 2 ^ 31 }
     ensures read { IfOk result (λ f. IsFront bytes.now f.plant f.length × IsWithinLimits f.plant) }

@@ -9,7 +9,7 @@ use std::alloc::{AllocError, Global};
 use std::marker::{Model, Send, Sync};
 use std::thread::Threads;
 
-/// The most threads that make a list, as of a chain of `rayon`.
+/// More processors than so many make no more parts.
 const THREADS_LIMIT: usize = 32;
 
 /// A list in one block of memory, which is given back when this is dropped.
@@ -31,8 +31,8 @@ impl<T: Copy> Model for RawList<T> {
 
 impl<T: Copy> RawList<T> {
     /// So many elements, made by chunks of `size`, the last one perhaps shorter: `f` is given each chunk filled with `start`, and the
-    /// position at which it begins. The chunks are shared among two threads for each processor, up to 64. Each is made in memory of its
-    /// thread and copied, so that no thread clears memory for another; no thread is started for one chunk.
+    /// position at which it begins. The chunks are shared among at most two threads for each processor, a power of two, up to 64. Each
+    /// is made in memory of its thread and copied, so that no thread clears memory for another; no thread is started for one chunk.
     pub fn by_chunks<R: Threads + Sync, F: Fn(usize, &mut [T]) + Sync>(
         rt: &R,
         alloc: Global,

@@ -1,4 +1,4 @@
-//! Between which cells the boxes of neighbouring pairs lie: a band passes over pairs that lead to none of its cells.
+//! Between which cells the boxes of neighbouring pairs lie: a band skips pairs that lead to none of its cells.
 ghost use Rattle.std.specs.Prelude.{◌+◌, ◌^◌, ◌<◌, ◌≤◌, length, IsTrue, IfOk};
 ghost use Rattle.source_lists.specs.inside.CellRanges.{Misses, IsRangeOf, AreRangesOf};
 ghost use Rattle.base.specs.declared.limits.TheConstants.{PAIRS_LIMIT};

@@ -121,7 +121,7 @@ pub(crate) fn build_cuts<R: Threads>(
 }
 
 /// How many bands there are at most. There is one for each processor, unless there are few pairs. Where boxes are wide
-/// there are more, so that the indices at which a band's rows go on stay in fast memory.
+/// there are more, so that the ends of a band's rows stay in fast memory.
 fn band_count<R: Threads>(rt: &R, pairs: usize, edges: u64) -> u64
     ensures some { 1 ≤ result }
     ensures few { result ≤ BANDS_LIMIT }

@@ -33,7 +33,7 @@ BoxesHoldTheSuccessors = (p : Description) (c u : ℕ) (b : Option CellBox) → 
 abbrev pub EnabledPairsHaveSuccessors : Type 0
 EnabledPairsHaveSuccessors = (p : Description) (c u : ℕ) (cells : List ℕ) → IsSound p → AreSuccessors p c u cells → (cells ≡ [] → ⊥) ↔ IsEnabledAt p c u
 
--- a state's point, with 0 in the indices past the states, lies where the state does
+-- a state's point, with 0 past the states, lies where the state does
 abbrev pub PointsLieWithTheirStates : Type 0
 PointsLieWithTheirStates =
     (p : Description) (xs : List ℤ) → length p.states ≤ length xs →

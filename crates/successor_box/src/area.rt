@@ -16,7 +16,7 @@ use plant_record::Plant;
 
 pub(crate) const NO_RANGE: Interval = Interval { lo: 0, hi: 0 };
 
-/// Where each variable lies under an input vector. Nothing is said of the indices past the last.
+/// Where each variable lies under an input vector. Nothing is said of what stands past the last variable.
 pub(crate) fn domain_area(p: &Plant, input: u32) -> [Interval; VARIABLES_LIMIT]
     requires plant { IsWithinLimits p.now }
     requires input { input < vectors_of p.now.inputs }
@@ -27,7 +27,8 @@ pub(crate) fn domain_area(p: &Plant, input: u32) -> [Interval; VARIABLES_LIMIT]
     area_between(p, &grid.low(0), &grid.high(last), input)
 }
 
-/// Where each variable lies while the state is in a cell, under an input vector. Nothing is said of the indices past the last.
+/// Where each variable lies while the state is in a cell, under an input vector. Nothing is said of what stands past the
+/// last variable.
 pub(crate) fn cell_area(p: &Plant, c: u32, input: u32) -> [Interval; VARIABLES_LIMIT]
     requires cell { c < cells_of (axes_of p.now) }
     requires input { input < vectors_of p.now.inputs }
@@ -109,7 +110,7 @@ fn cell_offset(p: &Plant, state: u32) -> Interval
     }
 }
 
-/// How far each variable is at most from its centre. Nothing is said of the indices past the last.
+/// How far each variable is at most from its centre. Nothing is said of what stands past the last variable.
 pub(crate) fn radii(p: &Plant) -> [i128; VARIABLES_LIMIT]
     ensures { AreRadii p.now result }
 {

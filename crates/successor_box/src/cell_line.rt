@@ -87,7 +87,7 @@ fn middles(first: i64, width: i64, index: u32, cells: usize) -> [i64; LANES]
     middles
 }
 
-/// The number of the input vector whose values have these indices, which stand behind those of the states.
+/// The number of the input vector whose values have these indices, which stand after those of the states.
 fn input_number(p: &Plant, indices: &[u32; INDICES_LIMIT]) -> u32
     requires plant { IsWithinLimits p.now }
     requires indices { (u : ℕ) × AreInputIndices p.now indices.now u }

@@ -22,7 +22,7 @@ pub fn enabled_pairs_have_successors()
     ensures { EnabledPairsHaveSuccessors }
 {}
 
-/// The indices of a point past the states decide nothing.
+/// What stands in a point past the states decides nothing.
 pub fn points_lie_with_their_states()
     ensures { PointsLieWithTheirStates }
 {}

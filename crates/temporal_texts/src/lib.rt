@@ -2,8 +2,8 @@
 //!
 //! The layer above hands in a plant and the rows of either, and gets their text piece by piece: the plant's text, and the
 //! longest runs of cells with one row, for a patrol turn by turn. Or it gives bytes and gets the one plant and the rows that
-//! they say, or the first reason why they are refused. What a text promises of its plant is said here too, of every length
-//! of run. No solver and no game occurs here.
+//! they say, or the first reason why they are refused. What a text promises of its plant is said here too, of trajectories
+//! of every length. No solver and no game occurs here.
 #![tactic(auto)]
 
 pub mod laws;

@@ -1,4 +1,4 @@
-//! What a solver of patrol gives.
+//! The rows of each turn, of a patrol or of a text with one turn.
 ghost use Rattle.std.specs.Prelude.{◌≡◌, ◌<◌, ◌^◌, [], ◌∷◌, length};
 ghost use Rattle.game_core.specs.Solution.{row_of};
 ghost use Rattle.turn_rows.specs.Rows.{rows_for};

@@ -65,7 +65,7 @@ unfolding negated
 no_sign None = refl
 no_sign (Some a) = refl
 
--- a factor behind a minus is one behind one sign more
+-- a factor after a minus is one after one sign more
 pub sign_more : (budget below : Budget) (signs : ℕ) (ts : List TokenKind) → IsBelow budget (Ok below) → signed signs (read_in budget factor_of (kind.Minus ∷ ts)) ≡ signed (signs + 1) (read_in below factor_of ts)
 unfolding factor_of negated read_at step
 sign_more budget below signs ts b =
