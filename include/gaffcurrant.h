@@ -9,8 +9,8 @@
    A text isn't judged. One whose inputs or ranks were changed opens if it is still a text, and then its promise may
    fail. `gaffcurrant check` judges a table; no command judges a stay text or a patrol text. Open what `synth`, `stay`
    or `patrol` wrote, byte for byte. Then every loop that applies the values answered with 1 comes to its targets, stays
-   or goes on as the goal says (proved, crates/driven_loops), if the plant obeys its equations with its noises in their
-   ranges; or, whatever moves the plant, as long as gaffcurrant_follows answers 1 at each sample.
+   or goes on as the goal says (proved, crates/driven_loops). This holds if the plant obeys its equations with its noises
+   in their ranges. Whatever moves the plant, it holds as long as gaffcurrant_follows answers 1 at each sample.
 
    When a loop has come. By a table with `goal reach` go on while the answer is 1, and end at the answer 0, which comes
    within as many samples as the first rank. The first state in a target isn't the end: if its cell isn't wholly in the
@@ -138,10 +138,10 @@ int32_t gaffcurrant_rank(struct gaffcurrant *controller, const int64_t *state, s
 
 /* Whether the next state lies in the successor box of the state's cell under these inputs. The box holds every state to
    which the equations may lead from the cell with the noises in their ranges. Under the inputs that a text of `synth`,
-   `stay` or `patrol` applies, a plant that obeys its equations is therefore always answered with 1 (proved). Under
-   other inputs the box may leave the ranges: then the answer is 0, also for such a plant. The promise of a text that
-   was written for the plant holds of every loop whose samples are answered with 1, whatever moved the plant (proved).
-   It takes no memory.
+   `stay` or `patrol` applies, a plant that obeys its equations is always answered with 1 (proved). Under other inputs
+   the box may leave the ranges: then the answer is 0, also for such a plant. The promise of a text that was written for
+   the plant holds of every loop whose samples are answered with 1, whatever moved the plant (proved). It takes no
+   memory.
 
    1: the next state lies in the successor box of the state's cell. 0: it doesn't, or the box leaves the ranges. -1: the
    state is outside the plant's ranges, or the inputs aren't one of its input vectors. -2: states or next_states
