@@ -9,8 +9,8 @@
    A text isn't judged. One whose inputs or ranks were changed opens if it is still a text, and then its promise may
    fail. `gaffcurrant check` judges a table; no command judges a stay text or a patrol text. Open what `synth`, `stay`
    or `patrol` wrote, byte for byte. Then every loop that applies the values answered with 1 comes to its targets, stays
-   or goes on as the goal says (proved, crates/driven_loops). This holds if the plant obeys its equations with its noises
-   in their ranges. Whatever moves the plant, it holds as long as gaffcurrant_follows answers 1 at each sample.
+   or goes on as the goal says (proved, crates/driven_loops). This holds if the plant obeys its equations with its
+   noises in their ranges. Whatever moves the plant, it holds as long as gaffcurrant_follows answers 1 at each sample.
 
    When a loop has come. By a table with `goal reach` go on while the answer is 1, and end at the answer 0, which comes
    within as many samples as the first rank. The first state in a target isn't the end: if its cell isn't wholly in the
