@@ -143,7 +143,7 @@ pub extern "C" fn gaffcurrant_sizes(
     DONE
 }
 
-/// How many samples are left at most at the state. 1: told. -1: the state has no row. -2: a wrong number of
+/// The rank of the state's row, for the turn that is due. 1: told. -1: the state has no row. -2: a wrong number of
 /// states. -3: closed.
 #[unsafe(no_mangle)]
 pub extern "C" fn gaffcurrant_rank(

@@ -251,9 +251,9 @@ class Controller:
     def follows(
         self, state: Iterable[SupportsInt], values: Iterable[SupportsInt], after: Iterable[SupportsInt]
     ) -> bool:
-        """Whether the next state lies in the successor box of the state's cell under these values of the inputs, as it
-        does of a plant that obeys its equations. Raises NoRow where the state is outside the ranges or the values are
-        no input vector, Refused where a number of the plant leaves the range."""
+        """Whether the next state lies in the successor box of the state's cell under these values of the inputs. Under
+        the text's own inputs it does, if the plant obeys its equations. Raises NoRow if the state is outside the ranges
+        or the values are no input vector, Refused if a number of the plant leaves the range."""
         whole, inputs = self.whole(state), numbers_of(values)
         reply = self._rows.follows(whole, inputs, self.whole(after))
         if reply == NO_ROW:
