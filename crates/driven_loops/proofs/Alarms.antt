@@ -23,8 +23,8 @@ use Rattle.text_control.specs.Followed.{FollowedSample, IsInItsBox, IsSized, IsS
 use Rattle.driven_loops.specs.Followed.{followed_of}
 use Rattle.driven_loops.specs.CalledLoops.{AlwaysFollows, NoFalseAlarms}
 use Rattle.text_control.proofs.Answering.{chosen_by}
-use Rattle.driven_loops.proofs.Patrolling.{patrolled, patrol_enabled}
-use Rattle.driven_loops.proofs.Following.{AppliesEnabled, IsEnabledText, sample_in_box, turn_after_visit, table_enabled, stay_text_enabled}
+use Rattle.driven_loops.proofs.LeadingOn.{AppliesEnabled}
+use Rattle.driven_loops.proofs.Following.{IsEnabledText, sample_in_box, turn_after_visit, table_enabled, stay_text_enabled, patrol_enabled}
 
 -- an answer 1 says that there is a number for each state
 sized_by : (t : TextModel) (x before values : List ℤ) (reply : Reply) → pos 1 ≡ reply_number reply → IsReply t x before values reply → AreSized t x before
@@ -79,6 +79,6 @@ no_false_alarms bytes text t read = (
     | inr stay ↦ enabled_follows stay.0 t (stay_text_enabled bytes text t read stay) stay.2.1.fits x y samples loop
   ],
   λ given j x y samples u loop.
-      let h = patrolled given.0 bytes text t given.1.spells given read in
-      follows_patrol t h.1.plant (λ i. patrol_enabled t h.1 i) (subst HasNoOverflow (sym h.0) given.2.0.1.fits) samples j x y u loop,
+      let e = patrol_enabled bytes text t read given in
+      follows_patrol t e.1 e.2 (subst HasNoOverflow (sym e.0) given.2.0.1.fits) samples j x y u loop,
 )

@@ -1,9 +1,10 @@
 -- A state that the plant's equations lead to lies in its box.
-use Rattle.std.proofs.Common.{inl, inr, ◌≡◌, ℕ, ◌<◌, List, [], ◌∷◌, map, Some, refl, sym, subst, ◌∙◌}
+use Rattle.std.proofs.Common.{inl, inr, ◌≡◌, ℕ, ◌<◌, List, [], ◌∷◌, map, Option, Some, refl, sym, subst, ◌∙◌}
 use Rattle.std.specs.Prelude.{ℤ}
 use Rattle.std.specs.List.{Contains}
 use Rattle.std.proofs.lemmas.List.{length-map}
 use Rattle.game_core.specs.declared.game.Row.{Row}
+use Rattle.game_core.specs.Game.{Game}
 use Rattle.grid_quantiser.specs.declared.boxes.CellBox.{CellBox}
 use Rattle.grid_quantiser.specs.Cells.{IsInDomain, cell_of}
 use Rattle.grid_quantiser.specs.CellBoxes.{cells_between}
@@ -20,23 +21,23 @@ use Rattle.successor_box.specs.SuccessorBoxes.{low_corner, high_corner, IsEnable
 use Rattle.successor_box.proofs.Enabled.{box_successors, corners_ordered}
 use Rattle.successor_box.proofs.Steps.{step_among}
 use Rattle.controller_table.specs.Choice.{HasRowAt}
-use Rattle.plant_refine.proofs.Down.{guides}
+use Rattle.controller_table.specs.declared.text_kind.TextKind.{TextKind}
 use Rattle.text_control.specs.Texts.{TextModel, due_rows, IsReadFrom}
-use Rattle.text_control.specs.Control.{AppliesAs}
 use Rattle.text_control.specs.Loops.{LoopSample, moved_by, Answers, IsLoop, IsPatrolLoop}
 use Rattle.text_control.specs.Visits.{with_turn, IsVisit}
 use Rattle.text_control.specs.declared.visits.Visit.{Visit}
 use Rattle.text_control.specs.declared.visits.Visit.TheVariants.{Next, Same, WrongSize}
-use Rattle.synth_run.specs.Headline.{IsTableFor, IsStayTableFor}
+use Rattle.synth_run.specs.Headline.{IsTableFor, IsStayTableFor, IsPatrolTableFor}
 use Rattle.text_control.specs.Followed.{IsInItsBox}
 use Rattle.driven_loops.specs.Followed.{followed_of, IsFollowedLoop, IsFollowedPatrolLoop}
 use Rattle.driven_loops.specs.FollowedLaws.{LoopsAreFollowed}
-use Rattle.text_control.proofs.Answering.{chosen_by, moves}
-use Rattle.driven_loops.proofs.Ending.{reach_enabled, right_rows}
-use Rattle.driven_loops.proofs.Keeping.{keep_enabled}
-use Rattle.driven_loops.proofs.ReadBack.{holds_table}
-use Rattle.driven_loops.proofs.Settling.{settled, stay_enabled}
-use Rattle.driven_loops.proofs.Patrolling.{patrolled, patrol_enabled}
+use Rattle.text_control.proofs.Answering.{chosen, moves}
+use Rattle.driven_loops.proofs.ReadBack.{Holds, says, holds_table, holds_stay, holds_patrol}
+use Rattle.driven_loops.proofs.LeadingOn.{AppliesEnabled, LeadOn, applies_enabled}
+use Rattle.driven_loops.proofs.Ending.{falling_rows}
+use Rattle.driven_loops.proofs.Keeping.{kept_rows}
+use Rattle.driven_loops.proofs.Settling.{settling_rows}
+use Rattle.driven_loops.proofs.Patrolling.{patrol_rows}
 
 in_its_box : (p : Description) (s : LoopSample) (u : ℕ) → IsPlant p → IsInDomain (axes_of p) s.state → u < vectors_of p.inputs → IsEnabledAt p (cell_of (axes_of p) s.state) u → s.values ≡ vector_of p.inputs u → IsNoise p.noises s.noise → IsInItsBox p (followed_of p s)
 in_its_box p s u plant inside below enabled are noise =
@@ -59,13 +60,9 @@ in_its_box p s u plant inside below enabled are noise =
       among = subst (λ (z : List ℤ). Contains (cells_between (axes_of p) box.first box.last) (cell_of (axes_of p) z)) there (step.1 (cells_between (axes_of p) box.first box.last) (box_successors p c u (Some box) is_box));
     }
 
--- each input that a row applies at a state is one of the vectors, and has its box within the domain
-abbrev pub AppliesEnabled : TextModel → Type 0
-AppliesEnabled t = (x : List ℤ) (row : Row) (u : ℕ) → HasRowAt t.plant (due_rows t) x row → AppliesAs t.kind t.plant.goal row u → (u < vectors_of t.plant.inputs) × IsEnabledAt t.plant (cell_of (axes_of t.plant) x) u
-
 pub sample_in_box : (t : TextModel) → IsPlant t.plant → AppliesEnabled t → (s : LoopSample) (x : List ℤ) → s.state ≡ x → Answers t x s.values → IsNoise t.plant.noises s.noise → IsInItsBox t.plant (followed_of t.plant s)
 sample_in_box t plant on s x at answer noise =
-    let c = chosen_by t x answer.0 s.values answer.1.0 answer.1.1 answer.1.2 in
+    let c = chosen t x s.values answer in
     let has : HasRowAt t.plant (due_rows t) s.state c.row = subst (λ (z : List ℤ). HasRowAt t.plant (due_rows t) z c.row) (sym at) c.has in
     let enabled = on s.state c.row c.input has c.applies in
     in_its_box t.plant s c.input plant has.inside enabled.0 enabled.1 c.are noise
@@ -101,21 +98,27 @@ followed_patrol t plant on (s ∷ samples) j x y u loop =
 abbrev pub IsEnabledText : Description → TextModel → Type 0
 IsEnabledText p t = (t.plant ≡ p) × IsPlant t.plant × AppliesEnabled t
 
+-- the same where any turn of a patrol is due
+abbrev pub IsEnabledPatrol : Description → TextModel → Type 0
+IsEnabledPatrol p t = (t.plant ≡ p) × IsPlant t.plant × ((j : ℕ) → AppliesEnabled (with_turn t j))
+
+enabled_text : {kind : TextKind} {IsSolution : Game → List (List (Option Row)) → Type 0} {Next : ℕ → ℕ → Type 0} (p : Description) (t : TextModel) (h : Holds kind IsSolution p t) → LeadOn (says kind p h.turns) Next → IsEnabledText p t
+enabled_text p t h rows = subst (IsEnabledText p) (sym h.is) (refl, h.plant, applies_enabled rows)
+
 table_by_goal : (bytes text : List ℕ) (t : TextModel) → IsReadFrom text t → (given : IsTableFor bytes text) (goal : GoalKind) → given.0.goal ≡ goal → IsEnabledText given.0 t
-table_by_goal bytes text t read given Reach goal =
-    let r = holds_table given.0 bytes text t Reach given.1.spells goal given read in
-    let h = r.1 in
-    let right = right_rows t h in
-    (r.0, h.plant, reach_enabled t h.plant h.version h.kind h.goal_is right (guides t.plant (due_rows t) h.plant right))
-table_by_goal bytes text t read given Keep goal =
-    let r = holds_table given.0 bytes text t Keep given.1.spells goal given read in
-    (r.0, r.1.plant, keep_enabled t r.1)
+table_by_goal bytes text t read given Reach goal = let h = holds_table given.0 bytes text t given.1.spells Reach goal given read in enabled_text given.0 t h (falling_rows given.0 t goal h)
+table_by_goal bytes text t read given Keep goal = let h = holds_table given.0 bytes text t given.1.spells Keep goal given read in enabled_text given.0 t h (kept_rows given.0 t goal h)
 
 pub table_enabled : (bytes text : List ℕ) (t : TextModel) → IsReadFrom text t → (given : IsTableFor bytes text) → IsEnabledText given.0 t
 table_enabled bytes text t read given = table_by_goal bytes text t read given given.0.goal refl
 
 pub stay_text_enabled : (bytes text : List ℕ) (t : TextModel) → IsReadFrom text t → (given : IsStayTableFor bytes text) → IsEnabledText given.0 t
-stay_text_enabled bytes text t read given = let h = settled given.0 bytes text t given.1.spells given read in (h.0, h.1.plant, stay_enabled t h.1)
+stay_text_enabled bytes text t read given = let h = holds_stay given.0 bytes text t given.1.spells given read in enabled_text given.0 t h (settling_rows given.0 t h)
+
+pub patrol_enabled : (bytes text : List ℕ) (t : TextModel) → IsReadFrom text t → (given : IsPatrolTableFor bytes text) → IsEnabledPatrol given.0 t
+patrol_enabled bytes text t read given =
+    let h = holds_patrol given.0 bytes text t given.1.spells given read in
+    subst (IsEnabledPatrol given.0) (sym h.is) (refl, h.plant, λ j. applies_enabled (patrol_rows given.0 t h j))
 
 pub loops_are_followed : LoopsAreFollowed
 loops_are_followed bytes text t read = (
@@ -123,7 +126,5 @@ loops_are_followed bytes text t read = (
     | inl table ↦ let e = table_enabled bytes text t read table in followed t e.1 e.2 samples x y loop
     | inr stay ↦ let e = stay_text_enabled bytes text t read stay in followed t e.1 e.2 samples x y loop
   ],
-  λ given j x y samples u loop.
-      let h = patrolled given.0 bytes text t given.1.spells given read in
-      followed_patrol t h.1.plant (λ i. patrol_enabled t h.1 i) samples j x y u loop,
+  λ given j x y samples u loop. let e = patrol_enabled bytes text t read given in followed_patrol t e.1 e.2 samples j x y u loop,
 )

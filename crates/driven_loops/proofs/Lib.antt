@@ -2,6 +2,7 @@ pub mod ReadBack
 pub mod Reading
 pub mod ItsBox
 pub mod RowAnswers
+pub mod LeadingOn
 pub mod Ending
 pub mod Keeping
 pub mod Settling

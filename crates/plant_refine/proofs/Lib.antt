@@ -6,5 +6,6 @@ pub mod InBoxes
 pub mod Choosing
 pub mod Arriving
 pub mod RightTables
+pub mod KeepRows
 pub mod KeptTables
 pub mod SolutionTables

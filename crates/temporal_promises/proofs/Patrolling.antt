@@ -1,11 +1,10 @@
 -- The text of the solution of patrol visits the targets in turn: by induction on the noises.
-use Rattle.std.proofs.Common.{inl, inr, ◌≡◌, ℕ, zero, suc, ◌-◌, ◌<◌, ◌≤◌, List, [], ◌∷◌, length, Option, Some, None, Contains, refl, ap, subst, arith}
-use Rattle.std.specs.Prelude.{ℤ, ◌⊎◌}
+use Rattle.std.proofs.Common.{inl, inr, ◌≡◌, ◌⊎◌, ℕ, ◌-◌, ◌<◌, ◌≤◌, List, [], ◌∷◌, length, Option, Some, None, Contains, refl, subst, arith}
+use Rattle.std.specs.Prelude.{ℤ}
 use Rattle.std.specs.List.{AllByRecursion}
 use Rattle.std.proofs.lemmas.List.Elements.{recursion_from_All}
 use Rattle.game_core.specs.declared.game.Row.{Row}
 use Rattle.game_core.specs.Game.{Game, successors_of}
-use Rattle.game_core.specs.Strategy.{Tree, Leaf, Apply, Trees, NoTrees, AndTree, LeadsTo, LeadEachTo, depth_of, greatest_depth}
 use Rattle.game_core.specs.Solution.{row_of}
 use Rattle.grid_quantiser.specs.Cells.{IsInDomain, cell_of}
 use Rattle.plant_record.specs.Description.{Description, axes_of}
@@ -14,49 +13,25 @@ use Rattle.plant_record.specs.Steps.{step_of, IsNoise}
 use Rattle.plant_game.specs.Abstraction.{IsGameOf}
 use Rattle.plant_game.specs.Refinement.{IsRefinement}
 use Rattle.turn_rows.specs.Targets.{IsInTarget, next_turn}
-use Rattle.temporal_games.specs.Visits.{VisitsOn, IsArrival}
+use Rattle.turn_rows.proofs.NextTurns.{next_below}
 use Rattle.temporal_texts.specs.PatrolText.{IsPatrolText, HasPatrolRow, IsArrivalIn}
 use Rattle.turn_rows.specs.Rows.{rows_for}
-use Rattle.temporal_games.specs.Patrol.{IsReachedLaterBy, IsPatrolRow, IsPatrol}
-use Rattle.temporal_games.proofs.PatrolRowLaws.{targets_are_told, later_reachers_have_rows}
+use Rattle.temporal_games.specs.Patrol.{IsPatrol}
+use Rattle.temporal_games.proofs.PatrolRowLaws.{targets_are_told}
 use Rattle.plant_game.proofs.GameLaws.{refines, clear_at, lands}
 use Rattle.temporal_texts.specs.Patrols.{LandsWell, Goes, Patrols}
 use Rattle.temporal_texts.proofs.OnePatrolText.{one_patrol_text}
-use Rattle.game_core.proofs.Rows.{below_from_row}
-
--- the subtree for one of the cells
-pub tree_at : (g : Game) (End : ℕ → Type 0) (next : Trees) (cells : List ℕ) (s : ℕ) → LeadEachTo End g next cells → Contains cells s → (t : Tree) × LeadsTo End g t s × (depth_of t ≤ greatest_depth next)
-tree_at g End NoTrees cells s l (k, lt, e) = absurd (let none : length cells ≡ 0 = ap (λ (xs : List ℕ). length xs) l in omega (arith, none, lt))
-tree_at g End (AndTree t rest) [] s l has = absurd l
-tree_at g End (AndTree t rest) (c ∷ cells) s l (zero, lt, e) = (t, subst (LeadsTo End g t) e l.0, omega arith)
-tree_at g End (AndTree t rest) (c ∷ cells) s l (suc k, lt, e) =
-    let found = tree_at g End rest cells s l.1 (k, omega (arith, lt), e) in
-    let deep = found.2 in
-    (found.0, found.1, omega (arith, deep))
+use Rattle.temporal_promises.proofs.PatrolRows.{cell_below, reached_by, some_rank, leads_on}
 
 record Keeps (bytes : List ℕ) (p : Description) (g : Game) (rows : List (List (Option Row))) : Type 0 where
   table : IsPatrolText bytes p rows
   abstraction : IsGameOf p g
   refined : IsRefinement p g
   solution : IsPatrol g (IsInTarget p) (length p.targets) rows
-  next_below : (j : ℕ) → j < length p.targets → next_turn (length p.targets) j < length p.targets
 
 module _ {bytes : List ℕ} {p : Description} {g : Game} {rows : List (List (Option Row))} (k : Keeps bytes p g rows) where
   abbrev turns : ℕ
   turns = length p.targets
-
-  cell_below : (j c : ℕ) (row : Row) → j < turns → row_of (rows_for rows j) c ≡ Some row → c < g.cells
-  cell_below j c row lj is = omega (arith, below_from_row (rows_for rows j) c row is, k.solution.one_row_each j lj)
-
-  patrolled : (j c : ℕ) (row : Row) → j < turns → row_of (rows_for rows j) c ≡ Some row → IsReachedLaterBy (IsArrival g (IsInTarget p) turns j) g c row
-  patrolled j c row lj is = (subst (IsPatrolRow g (IsInTarget p) turns j c) is (k.solution.each j c lj (cell_below j c row lj is))).1
-
-  row_at : (j c : ℕ) → j < turns → c < g.cells → VisitsOn g (IsInTarget p) turns j c → (row : Row) × (row_of (rows_for rows j) c ≡ Some row)
-  row_at j c lj lt on = by_row (row_of (rows_for rows j) c) refl (k.solution.each j c lj lt)
-    where
-      by_row : (o : Option Row) → row_of (rows_for rows j) c ≡ o → IsPatrolRow g (IsInTarget p) turns j c o → (row : Row) × (row_of (rows_for rows j) c ≡ Some row)
-      by_row None e none = absurd (none on)
-      by_row (Some row) e is = (row, e)
 
   has_row : (j : ℕ) (x : List ℤ) (row : Row) → j < turns → IsInDomain (axes_of p) x → row_of (rows_for rows j) (cell_of (axes_of p) x) ≡ Some row → HasPatrolRow bytes j x row
   has_row j x row lj inside is = record { plant = p; rows = rows; table = k.table; turn = lj; inside = inside; is = is }
@@ -80,10 +55,10 @@ module _ {bytes : List ℕ} {p : Description} {g : Game} {rows : List (List (Opt
       by_row : IsInTarget p j (cell_of (axes_of p) y) → (o : Option Row) → row_of (rows_for rows (next_turn turns j)) (cell_of (axes_of p) y) ≡ o
           → ((row : Row) × IsArrivalIn bytes p j y row × (row_of (rows_for rows (next_turn turns j)) (cell_of (axes_of p) y) ≡ Some row)) ⊎ ((row : Row) → IsArrivalIn bytes p j y row → ⊥)
       by_row target None e = inr (λ row is. let f = (row_from (next_turn turns j) y row is.next).1 in cc)
-      by_row target (Some row) e = inl (row, record { target = target; next = has_row (next_turn turns j) y row (k.next_below j lj) inside e }, e)
+      by_row target (Some row) e = inl (row, record { target = target; next = has_row (next_turn turns j) y row (next_below turns j lj) inside e }, e)
 
   clear_of : (j : ℕ) (x : List ℤ) (row : Row) → j < turns → IsInDomain (axes_of p) x → row_of (rows_for rows j) (cell_of (axes_of p) x) ≡ Some row → IsClear p x
-  clear_of j x row lj inside is = clear_at p g k.abstraction k.refined x inside (cell_below j (cell_of (axes_of p) x) row lj is) (patrolled j (cell_of (axes_of p) x) row lj is).reached.1.0
+  clear_of j x row lj inside is = clear_at p g k.abstraction k.refined x inside (cell_below k.solution j lj (cell_of (axes_of p) x) row is) (reached_by k.solution j lj (cell_of (axes_of p) x) row is).reached.1.0
 
   goes : (ws : List (List ℤ)) (j : ℕ) (x : List ℤ) (row : Row) (n : ℕ) → j < turns → IsInDomain (axes_of p) x → row_of (rows_for rows j) (cell_of (axes_of p) x) ≡ Some row → row.rank ≤ n → AllByRecursion (IsNoise p.noises) ws → Goes p bytes j x n ws
   goes [] j x row n lj inside is le noises = (clear_of j x row lj inside is, (row, has_row j x row lj inside is, le))
@@ -98,38 +73,20 @@ module _ {bytes : List ℕ} {p : Description} {g : Game} {rows : List (List (Opt
       s : ℕ
       s = cell_of (axes_of p) y
 
-      by : IsReachedLaterBy (IsArrival g (IsInTarget p) turns j) g c row
-      by = patrolled j c row lj is
-
       landed : IsInDomain (axes_of p) y × Contains (successors_of g c row.input) s × (s < g.cells)
-      landed = lands p g k.abstraction k.refined x w row.input inside (cell_below j c row lj is) by.reached.1.1 noises.0
-
-      sub : (t : Tree) × LeadsTo (IsArrival g (IsInTarget p) turns j) g t s × (depth_of t ≤ greatest_depth by.reached.0)
-      sub = tree_at g (IsArrival g (IsInTarget p) turns j) by.reached.0 (successors_of g c row.input) s by.reached.1.2 landed.1
-
-      low : suc (depth_of sub.0) ≤ row.rank
-      low = let deep = by.reached.2 in let le' = sub.2 in omega (arith, deep, le')
-
-      -- a cell that is no arrival is on the way
-      on_the_way : ((r : Row) → IsArrivalIn bytes p j y r → ⊥) → (t : Tree) → LeadsTo (IsArrival g (IsInTarget p) turns j) g t s → suc (depth_of t) ≤ row.rank → (r : Row) × (row_of (rows_for rows j) s ≡ Some r) × (suc r.rank ≤ row.rank) × (1 ≤ r.rank)
-      on_the_way out Leaf l deep =
-          let there = row_at (next_turn turns j) s (k.next_below j lj) landed.2 l.1 in
-          absurd (out there.0 (record { target = l.0; next = has_row (next_turn turns j) y there.0 (k.next_below j lj) landed.0 there.1 }))
-      on_the_way out (Apply v next) l deep =
-          let there = later_reachers_have_rows g (IsInTarget p) turns rows k.abstraction.game k.solution j s v next lj landed.2 l in
-          let below = there.below in
-          let some' = (patrolled j s there.row lj there.is).reached.2 in
-          (there.row, there.is, omega (arith, below, deep), omega (arith, some'))
+      landed = lands p g k.abstraction k.refined x w row.input inside (cell_below k.solution j lj c row is) (reached_by k.solution j lj c row is).reached.1.1 noises.0
 
       well : ((i : ℕ) (r : Row) (m : ℕ) → i < turns → IsInDomain (axes_of p) y → row_of (rows_for rows i) s ≡ Some r → r.rank ≤ m → Goes p bytes i y m ws) → LandsWell p bytes j y n (λ i m. Goes p bytes i y m ws)
       well goes_on =
           elim (arrival j y lj landed.0 landed.2) [
-            | inl found ↦ inl (found.0, found.1, found.1.target.2 y (landed.0, refl), goes_on (next_turn turns j) found.0 found.0.rank (k.next_below j lj) landed.0 found.2 (omega arith))
-            | inr out ↦
-                let way = on_the_way out sub.0 sub.1 low in
-                let less = way.2 in
-                let some' = way.3 in
-                inr (out, omega (arith, less, some', le), goes_on j way.0 (n - 1) lj landed.0 way.1 (omega (arith, less, le)))
+            | inl found ↦ inl (found.0, found.1, found.1.target.2 y (landed.0, refl), goes_on (next_turn turns j) found.0 found.0.rank (next_below turns j lj) landed.0 found.2 (omega arith))
+            | inr out ↦ elim (leads_on k.solution j lj c row is k.abstraction.game s landed.2 landed.1) [
+              | inl lower ↦
+                  let less = lower.below in
+                  let some = some_rank k.solution j lj s lower.row lower.is in
+                  inr (out, omega (arith, less, some, le), goes_on j lower.row (n - 1) lj landed.0 lower.is (omega (arith, less, le)))
+              | inr there ↦ absurd (out there.1.0 (record { target = there.0; next = has_row (next_turn turns j) y there.1.0 (next_below turns j lj) landed.0 there.1.1 }))
+            ]
           ]
 
 -- and patrols the targets
@@ -140,7 +97,6 @@ patrol_text_patrols bytes p g rows table abstraction solution j x row ws has noi
       abstraction = abstraction;
       refined = refines p g table.limits.plant abstraction;
       solution = solution;
-      next_below = λ j lt. omega arith;
     } in
     let same = one_patrol_text bytes has.plant p has.rows rows has.table table in
     let lj : j < length p.targets = subst (λ (q : Description). j < length q.targets) same.0 has.turn in
