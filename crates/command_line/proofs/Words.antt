@@ -116,12 +116,6 @@ one_command arguments (Demo n w) (Patrol m) h k = absurd (not_three arguments (c
 one_command arguments (Patrol m) (Sim samples seed start) h k = absurd (not_sim arguments samples seed start (omega (arith, ap length h.0)) k)
 one_command arguments (Sim samples seed start) (Patrol m) h k = absurd (not_sim arguments samples seed start (omega (arith, ap length k.0)) h)
 
--- ---- numbers of workers and of demo plants
-
--- 0 is the number of no demo plant, and no number of workers
-pub not_zero : (word : List ℕ) → word ≡ decimal 0 → (n : ℕ) → 1 ≤ n → n ≤ 500 → word ≡ decimal n → ⊥
-not_zero word zero n some few is = let same : n ≡ 0 = decimal_injective n 0 (omega (arith, few)) (omega arith) (sym is ∙ zero) in omega (arith, same, some)
-
 -- ---- the commands with two arguments
 
 pub is_of_two : (name workers spelling : List ℕ) (n : ℕ) → name ≡ spelling → AreWorkers n → workers ≡ decimal n → IsOfTwo (name ∷ workers ∷ []) spelling n

@@ -1,10 +1,18 @@
 -- What the devices of a run show of its end.
 use Rattle.std.specs.Prelude.{◌≡◌, ◌≢◌, [], IsTrue}
 use Rattle.run_devices.specs.Devices.{next_count, Reading, Writing, GainsWhole, Reports}
-use Rattle.command_line.specs.declared.outcome.Failure.TheVariants.{Read, Write}
+use Rattle.run_devices.specs.declared.transfer.ReadFault.{ReadFault}
+use Rattle.run_devices.specs.declared.transfer.ReadFault.TheVariants as reads
+use Rattle.command_line.specs.declared.outcome.Failure.{Failure}
+use Rattle.command_line.specs.declared.outcome.Failure.TheVariants.{Read, Write, Memory}
 use Rattle.command_line.specs.declared.outcome.Outcome.{Outcome}
 use Rattle.command_line.specs.declared.outcome.Outcome.TheVariants.{Done, Failed}
 use Rattle.command_line.specs.Statuses.{line_of}
+
+-- the failure of a run whose source wasn't read
+abbrev pub failure_of : ReadFault → Failure
+failure_of reads.Device = Read
+failure_of reads.Memory = Memory
 
 -- A device is told to have failed where its count rose by one, and its count stands everywhere else; and nothing is written
 -- but an answer, or a part of one.

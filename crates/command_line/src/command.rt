@@ -1,14 +1,14 @@
 ghost use Rattle.std.specs.Prelude.{◌≡◌, ◌↔◌, ◌^◌, ◌<◌, ◌≤◌, ℕ, ℤ, List, Some, [], ◌∷◌, length, IfSome, IfNone, IsTrue};
-ghost use Rattle.std.specs.Fmt.{decimal, signed_decimal};
-ghost use Rattle.line_words.specs.Numbers.{IsLiteral};
-ghost use Rattle.command_line.specs.Command.{IsDemoNumber, as_words, IsOfCommand, AreOfNoCommand};
+ghost use Rattle.std.specs.Fmt.{decimal};
+ghost use Rattle.command_line.specs.Command.{as_words, IsOfCommand, AreOfNoCommand};
 ghost use Rattle.base.specs.Workers.{AreWorkers};
 ghost use Rattle.command_line.specs.inside.ArgumentSpelling.{Spell};
 ghost use Rattle.base.specs.declared.limits.TheConstants.{STATES_LIMIT};
 
 use crate::state_numbers::StateNumbers;
-use base::limits::{DEMO_LIMIT, NUMBER_LIMIT, SAMPLES_LIMIT, WORKERS_LIMIT};
+use base::limits::{DEMO_LIMIT, SAMPLES_LIMIT, WORKERS_LIMIT};
 use itoa::Buffer;
+use line_words::parse_number;
 
 /// What the command line requests.
 #[derive(Clone, Copy, PartialEq, Eq)]
@@ -89,7 +89,7 @@ fn parse_three(name: &str, number: &str, workers: &str) -> Option<Command>
     ensures found { IfSome result (IsOfCommand (name.now ∷ number.now ∷ workers.now ∷ [])) }
     ensures none { IfNone result (AreOfNoCommand (name.now ∷ number.now ∷ workers.now ∷ [])) }
 {
-    let number = parse_demo_number(number)?;
+    let number = parse_between(number, 1, DEMO_LIMIT)? as u32;
     let workers = parse_workers(workers)?;
     if is_named(name, "demo") {
         Some(Command::Demo { number, workers })
@@ -104,8 +104,8 @@ fn parse_more(name: &str, samples: &str, seed: &str, numbers: &[&str]) -> Option
     ensures found { IfSome result (IsOfCommand (name.now ∷ samples.now ∷ seed.now ∷ as_words numbers.now)) }
     ensures none { IfNone result (AreOfNoCommand (name.now ∷ samples.now ∷ seed.now ∷ as_words numbers.now)) }
 {
-    let samples = parse_number(samples, SAMPLES_LIMIT)? as u32;
-    let seed = parse_number(seed, u64::MAX)?;
+    let samples = parse_between(samples, 0, SAMPLES_LIMIT)? as u32;
+    let seed = parse_between(seed, 0, u64::MAX)?;
     let start = parse_start(numbers)?;
     if is_named(name, "sim") {
         Some(Command::Sim {
@@ -123,21 +123,7 @@ pub fn parse_workers(word: &str) -> Option<u32>
     ensures found { IfSome result (λ n. AreWorkers n × (word.now ≡ decimal n)) }
     ensures none { IfNone result ((n : ℕ) → AreWorkers n → word.now ≡ decimal n → ⊥) }
 {
-    match parse_number(word, WORKERS_LIMIT)? {
-        0 => None,
-        workers => Some(workers as u32),
-    }
-}
-
-/// The number of a demo plant that an argument spells.
-fn parse_demo_number(word: &str) -> Option<u32>
-    ensures found { IfSome result (λ n. IsDemoNumber n × (word.now ≡ decimal n)) }
-    ensures none { IfNone result ((n : ℕ) → IsDemoNumber n → word.now ≡ decimal n → ⊥) }
-{
-    match parse_number(word, DEMO_LIMIT)? {
-        0 => None,
-        number => Some(number as u32),
-    }
+    Some(parse_between(word, 1, WORKERS_LIMIT)? as u32)
 }
 
 /// The start whose numbers the arguments spell.
@@ -148,29 +134,18 @@ fn parse_start(arguments: &[&str]) -> Option<StateNumbers>
 {
     let mut start = StateNumbers::empty();
     for word in arguments {
-        start.push(parse_state_number(word)?);
+        start.push(parse_number(word.as_bytes())?.into());
     }
     Some(start)
 }
 
-/// The number up to a bound that an argument spells.
-fn parse_number(word: &str, most: u64) -> Option<u64>
-    ensures found { IfSome result (λ n. (n ≤ most) × (word.now ≡ decimal n)) }
-    ensures none { IfNone result ((n : ℕ) → n ≤ most → word.now ≡ decimal n → ⊥) }
+/// The number within bounds that an argument spells.
+fn parse_between(word: &str, least: u64, most: u64) -> Option<u64>
+    ensures found { IfSome result (λ n. (least ≤ n) × (n ≤ most) × (word.now ≡ decimal n)) }
+    ensures none { IfNone result ((n : ℕ) → least ≤ n → n ≤ most → word.now ≡ decimal n → ⊥) }
 {
     match parsed(word) {
-        Some(n) if n <= most && is_spelling(n, word) => Some(n),
-        _ => None,
-    }
-}
-
-/// The number of a state that an argument spells.
-fn parse_state_number(word: &str) -> Option<i128>
-    ensures found { IfSome result (λ n. IsLiteral n × (word.now ≡ signed_decimal n)) }
-    ensures none { IfNone result ((n : ℤ) → IsLiteral n → word.now ≡ signed_decimal n → ⊥) }
-{
-    match parsed_state(word) {
-        Some(n) if n.unsigned_abs() < NUMBER_LIMIT && is_state_spelling(n, word) => Some(n.into()),
+        Some(n) if least <= n && n <= most && is_spelling(n, word) => Some(n),
         _ => None,
     }
 }
@@ -182,21 +157,8 @@ fn parsed(word: &str) -> Option<u64>
     word.parse::<u64>().ok()
 }
 
-/// The number with a sign that an argument spells as it is printed. Of other arguments nothing is said.
-fn parsed_state(word: &str) -> Option<i64>
-    ensures { (n : ℤ) → IsLiteral n → word.now ≡ signed_decimal n → result ≡ Some n }
-{
-    word.parse::<i64>().ok()
-}
-
 fn is_spelling(number: u64, word: &str) -> bool
     ensures { IsTrue result ↔ (word.now ≡ decimal number) }
-{
-    Buffer::new().format(number) == word
-}
-
-fn is_state_spelling(number: i64, word: &str) -> bool
-    ensures { IsTrue result ↔ (word.now ≡ signed_decimal number) }
 {
     Buffer::new().format(number) == word
 }

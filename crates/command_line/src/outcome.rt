@@ -6,12 +6,13 @@ ghost use Rattle.std.specs.Prelude.{◌≡◌, ◌++◌, codes};
 ghost use Rattle.run_devices.specs.Devices.{writing, Reports};
 ghost use Rattle.command_line.specs.declared.outcome.Refusal.TheVariants.{Overflow};
 ghost use Rattle.command_line.specs.declared.outcome.Outcome.TheVariants.{Refused, Failed};
+ghost use Rattle.command_line.specs.Ends.{failure_of};
 ghost use Rattle.command_line.specs.Statuses.{status_of, line_of};
 
 use crate::limits::limit_line;
 use itoa::Buffer;
 use plant_record::LimitKind;
-use run_devices::{Sink, write_pieces};
+use run_devices::{ReadFault, Sink, write_pieces};
 
 /// Why there is no answer to a text.
 #[derive(Clone, Copy, PartialEq, Eq)]
@@ -87,6 +88,17 @@ impl Refusal {
             Refusal::TooManyTables => report_pieces(err, &[b"limit: tables\n"]),
             Refusal::Invalid { cell } => report_number(err, b"invalid: cell ", u64::from(cell)),
             Refusal::NoRow => report_pieces(err, &[b"no row\n"]),
+        }
+    }
+}
+
+impl From<ReadFault> for Failure {
+    ghost from_gives = { λ fault failure. failure ≡ failure_of fault };
+
+    fn from(fault: ReadFault) -> Failure {
+        match fault {
+            ReadFault::Device => Failure::Read,
+            ReadFault::Memory => Failure::Memory,
         }
     }
 }

@@ -19,7 +19,8 @@ use Rattle.command_line.specs.declared.outcome.Failure.TheVariants.{Read, Write,
 use Rattle.command_line.specs.declared.outcome.Outcome.{Outcome}
 use Rattle.command_line.specs.declared.outcome.Outcome.TheVariants.{Done, Usage, Refused, Failed}
 use Rattle.command_line.specs.Statuses.{status_of}
-use Rattle.live_run.specs.LiveCauses.{of_script, of_read}
+use Rattle.live_run.specs.LiveCauses.{of_script}
+use Rattle.command_line.specs.Ends.{failure_of}
 use Rattle.live_run.specs.LiveRuns.{most_read, IsAnswered, IsCutOff, Ends, IsLiveEnd, IsCompleteAnswer}
 use Rattle.live_run.specs.inside.Answering.{IsUnanswered}
 use Rattle.live_run.specs.declared.live_stop.LiveStop.{LiveStop}
@@ -75,7 +76,7 @@ ends_without_memory source out within stood untouched = record {
 }
 
 -- nothing was read, or not all
-ends_unread : (fault : ReadFault) (source : Reading) (out : Writing) → IsUnread fault source → IsUntouched out → IsLiveEnd (of_read fault) source out
+ends_unread : (fault : ReadFault) (source : Reading) (out : Writing) → IsUnread fault source → IsUntouched out → IsLiveEnd (Failed (failure_of fault)) source out
 ends_unread reads.Device source out h untouched = record {
   ends = tt;
   answered = λ e. absurd (let clash : Failed Read ≡ Done = e in cc);

@@ -1,10 +1,8 @@
 -- How a run ends by the fault of a layer below.
 use Rattle.live_script.specs.declared.script_fault.ScriptFault.{ScriptFault}
 use Rattle.live_script.specs.declared.script_fault.ScriptFault.TheVariants as scripts
-use Rattle.run_devices.specs.declared.transfer.ReadFault.{ReadFault}
-use Rattle.run_devices.specs.declared.transfer.ReadFault.TheVariants as reads
 use Rattle.command_line.specs.declared.outcome.Refusal.TheVariants.{Malformed, Limit, ScriptTooLong, TooManyTables}
-use Rattle.command_line.specs.declared.outcome.Failure.TheVariants.{Read, Memory}
+use Rattle.command_line.specs.declared.outcome.Failure.TheVariants.{Memory}
 use Rattle.command_line.specs.declared.outcome.Outcome.{Outcome}
 use Rattle.command_line.specs.declared.outcome.Outcome.TheVariants.{Refused, Failed}
 
@@ -15,8 +13,3 @@ of_script (scripts.Limit what) = Refused (Limit what)
 of_script scripts.ScriptTooLong = Refused ScriptTooLong
 of_script scripts.TooManyTables = Refused TooManyTables
 of_script scripts.Memory = Failed Memory
-
--- the end of a run whose source has this fault
-abbrev pub of_read : ReadFault → Outcome
-of_read reads.Device = Failed Read
-of_read reads.Memory = Failed Memory

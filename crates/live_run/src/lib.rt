@@ -12,4 +12,5 @@ mod live_top;
 mod readers;
 mod session;
 
+pub use live_arguments::is_live;
 pub use live_top::run_live;

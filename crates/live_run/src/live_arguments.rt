@@ -18,7 +18,8 @@ pub(crate) fn parse_readers(arguments: &[&str]) -> Option<u32>
     }
 }
 
-fn is_live(word: &str) -> bool
+/// Whether a word is the command's name.
+pub fn is_live(word: &str) -> bool
     ensures { IsTrue result ↔ (word.now ≡ codes "live") }
 {
     word == "live"

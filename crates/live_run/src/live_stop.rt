@@ -1,6 +1,6 @@
 ghost use Rattle.std.specs.Prelude.{◌≡◌};
 ghost use Rattle.live_run.specs.declared.live_stop.LiveStop.TheVariants.{Unread, Unanswered};
-ghost use Rattle.live_run.specs.LiveCauses.{of_script, of_read};
+ghost use Rattle.live_run.specs.LiveCauses.{of_script};
 ghost use Rattle.live_run.specs.inside.LiveWorking.{end_of};
 
 use command_line::{Failure, Outcome, Refusal};
@@ -38,18 +38,9 @@ impl LiveStop {
         ensures { result ≡ end_of self }
     {
         match self {
-            LiveStop::Unread(fault) => unread(fault),
+            LiveStop::Unread(fault) => Outcome::Failed(fault.into()),
             LiveStop::Unanswered(fault) => unanswered(fault),
         }
-    }
-}
-
-fn unread(fault: ReadFault) -> Outcome
-    ensures { result ≡ of_read fault }
-{
-    match fault {
-        ReadFault::Device => Outcome::Failed(Failure::Read),
-        ReadFault::Memory => Outcome::Failed(Failure::Memory),
     }
 }
 

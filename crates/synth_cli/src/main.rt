@@ -4,12 +4,12 @@
 //! status.
 #![tactic(auto)]
 
-ghost use Rattle.std.specs.Prelude.{◌≡◌, ◌↔◌, codes, IsTrue};
+ghost use Rattle.std.specs.Prelude.{◌↔◌, IsTrue};
 ghost use Rattle.run_devices.specs.Devices.{reading, writing};
 ghost use Rattle.command_line.specs.Command.{as_words};
 ghost use Rattle.synth_cli.specs.Program.{BeginWithLive, DoesAsAsked};
 
-use live_run::run_live;
+use live_run::{is_live, run_live};
 use run_devices::{Sink, Source, StdErrSink, StdSink, StdSource};
 use std::alloc::{AllocError, Global};
 use std::env;
@@ -68,12 +68,6 @@ fn asks_for_live(arguments: &[&str]) -> bool
     ensures { IsTrue result ↔ BeginWithLive (as_words arguments.now) }
 {
     arguments.len() > 0 && is_live(arguments[0])
-}
-
-fn is_live(word: &str) -> bool
-    ensures { IsTrue result ↔ (word.now ≡ codes "live") }
-{
-    word == "live"
 }
 
 /// The arguments after the program's name, or the status with which the program ends without them.

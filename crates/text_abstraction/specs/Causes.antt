@@ -9,12 +9,12 @@ use Rattle.successor_box.specs.declared.slope_fault.SlopeFault.TheVariants as sl
 use Rattle.plant_game.specs.declared.build_fault.BuildFault.{BuildFault}
 use Rattle.plant_game.specs.declared.build_fault.BuildFault.TheVariants as builds
 use Rattle.run_devices.specs.declared.transfer.ReadFault.{ReadFault}
-use Rattle.run_devices.specs.declared.transfer.ReadFault.TheVariants as reads
 use Rattle.command_line.specs.declared.outcome.Failure.TheVariants.{Read, Write, Memory}
 use Rattle.command_line.specs.declared.outcome.Refusal.{Refusal}
 use Rattle.command_line.specs.declared.outcome.Refusal.TheVariants.{Malformed, Overflow, Limit, NoRow}
 use Rattle.command_line.specs.declared.outcome.Outcome.{Outcome}
 use Rattle.command_line.specs.declared.outcome.Outcome.TheVariants as ends
+use Rattle.command_line.specs.Ends.{failure_of}
 use Rattle.text_abstraction.specs.declared.stop.Stop.{Stop}
 use Rattle.text_abstraction.specs.declared.stop.Stop.TheVariants.{Refused, Failed}
 
@@ -50,8 +50,7 @@ of_build builds.Memory = without_memory
 
 -- of the source
 abbrev pub of_read : ReadFault → Stop
-of_read reads.Device = Failed Read
-of_read reads.Memory = without_memory
+of_read fault = Failed (failure_of fault)
 
 -- how a run ends without an answer
 abbrev pub outcome_of : Stop → Outcome

@@ -84,10 +84,7 @@ impl From<ReadFault> for Stop {
     ghost from_gives = { λ fault stop. stop ≡ of_read fault };
 
     fn from(fault: ReadFault) -> Stop {
-        match fault {
-            ReadFault::Device => Stop::Failed(Failure::Read),
-            ReadFault::Memory => Stop::Failed(Failure::Memory),
-        }
+        Stop::Failed(fault.into())
     }
 }
 

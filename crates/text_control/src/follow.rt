@@ -19,7 +19,7 @@ pub enum Follow {
 }
 
 impl Follow {
-    /// The number that other languages are told.
+    /// The number that a C caller is told.
     pub fn number(self) -> i32
         ensures { result ≡ follow_number self }
     {

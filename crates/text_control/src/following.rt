@@ -1,14 +1,17 @@
 //! Whether a next state is one to which the plant's equations may lead.
 
-ghost use Rattle.std.specs.Prelude.{◌≡◌, ℕ, ◌<◌, ◌↔◌, length, IsTrue, MatchOption};
+ghost use Rattle.std.specs.Prelude.{◌≡◌, ◌≢◌, ℕ, ◌<◌, ◌↔◌, length, IsTrue, MatchOption};
 ghost use Rattle.grid_quantiser.specs.Axes.{cells_of};
 ghost use Rattle.plant_record.specs.Description.{axes_of, vector_of, vectors_of};
+ghost use Rattle.plant_record.specs.Limits.{IsWithinLimits};
+ghost use Rattle.plant_record.specs.ValueIndices.{value_at, value_count};
 ghost use Rattle.successor_box.specs.Deviations.{HasNoOverflow, deviations_of};
 ghost use Rattle.text_control.specs.Followed.{IsSized, AreVector, IsFollow};
 ghost use Rattle.text_control.specs.inside.Slopes.{LiesInBox};
 
 use crate::follow::Follow;
 use crate::packed_text::PackedText;
+use base::limits::INPUTS_LIMIT;
 use plant_record::Plant;
 use successor_box::{Slopes, successors};
 
@@ -45,28 +48,28 @@ fn is_sized(plant: &Plant, state: &[i64], input: &[i64], next: &[i64]) -> bool
 
 /// The first input vector with these values.
 fn vector_at(plant: &Plant, input: &[i64]) -> Option<u32>
-    requires { length input.now ≡ length plant.now.inputs }
+    requires limits { IsWithinLimits plant.now }
+    requires sizes { length input.now ≡ length plant.now.inputs }
     ensures { MatchOption result (AreVector plant.now input.now → ⊥) (λ u. (u < vectors_of plant.now.inputs) × (input.now ≡ vector_of plant.now.inputs u)) }
 {
-    for vector in 0..plant.vectors() {
-        if has_values(plant, vector, input) {
-            return Some(vector);
+    let mut indices = [0; INPUTS_LIMIT];
+    for variable in 0..input.len() {
+        indices[variable] = index_of(plant, variable as u32, input[variable])?;
+    }
+    Some(plant.input_number(&indices))
+}
+
+/// The first index of a value among those of an input variable.
+fn index_of(plant: &Plant, variable: u32, value: i64) -> Option<u32>
+    requires { variable < length plant.now.inputs }
+    ensures { MatchOption result ((k : ℕ) → k < value_count plant.now.inputs variable → value_at plant.now.inputs variable k ≢ value) (λ k. (k < value_count plant.now.inputs variable) × (value_at plant.now.inputs variable k ≡ value)) }
+{
+    for index in 0..plant.input_values(variable) {
+        if plant.value_at(variable, index) == i128::from(value) {
+            return Some(index);
         }
     }
     None
-}
-
-fn has_values(plant: &Plant, vector: u32, input: &[i64]) -> bool
-    requires vector { vector < vectors_of plant.now.inputs }
-    requires sizes { length input.now ≡ length plant.now.inputs }
-    ensures { IsTrue result ↔ (input.now ≡ vector_of plant.now.inputs vector) }
-{
-    for variable in 0..plant.input_variables() {
-        if i128::from(input[variable as usize]) != plant.input_value(vector, variable) {
-            return false;
-        }
-    }
-    true
 }
 
 /// Whether a state lies in the box of a cell under an input vector.

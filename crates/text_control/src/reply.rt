@@ -10,7 +10,7 @@ pub enum Reply {
     Apply,
     /// The state has come to the targets: nothing has to be applied.
     Arrived,
-    /// The table promises nothing at the state.
+    /// The text promises nothing at the state.
     NoRow,
     /// These aren't as many numbers as there are states and inputs.
     WrongSizes,

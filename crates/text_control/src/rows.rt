@@ -20,8 +20,5 @@ pub fn rank_at(text: &PackedText, state: &[i64]) -> Option<u32>
     requires { length state.now ≡ length text.now.plant.states }
     ensures { MatchOption result (IsUnranked text.now state.now) (IsRank text.now state.now) }
 {
-    match row_at(text, state) {
-        Some(row) => Some(row.rank),
-        None => None,
-    }
+    Some(row_at(text, state)?.rank)
 }

@@ -5,13 +5,14 @@ use Rattle.run_devices.specs.Transfers.{ReadUpTo}
 use Rattle.command_line.specs.declared.outcome.Failure.TheVariants.{Read, Write, Memory}
 use Rattle.command_line.specs.declared.outcome.Outcome.{Outcome}
 use Rattle.command_line.specs.declared.outcome.Outcome.TheVariants.{Done, Usage, Refused, Failed}
+use Rattle.command_line.specs.Ends.{failure_of}
 use Rattle.run_devices.specs.declared.transfer.ReadFault.{ReadFault}
 use Rattle.run_devices.specs.declared.transfer.ReadFault.TheVariants as reads
 use Rattle.live_script.specs.declared.script_fault.ScriptFault.{ScriptFault}
 use Rattle.live_script.specs.LiveText.{IsLiveText}
 use Rattle.live_run.specs.declared.live_stop.LiveStop.{LiveStop}
 use Rattle.live_run.specs.declared.live_stop.LiveStop.TheVariants.{Unread, Unanswered}
-use Rattle.live_run.specs.LiveCauses.{of_script, of_read}
+use Rattle.live_run.specs.LiveCauses.{of_script}
 use Rattle.live_run.specs.LiveRuns.{most_read}
 use Rattle.live_run.specs.inside.Answering.{IsUnanswered}
 
@@ -47,7 +48,7 @@ IsStopped (Unanswered fault) source = HasNoAnswers fault source
 
 -- how a run ends that has no answers
 abbrev pub end_of : LiveStop → Outcome
-end_of (Unread fault) = of_read fault
+end_of (Unread fault) = Failed (failure_of fault)
 end_of (Unanswered fault) = of_script fault
 
 -- how the writing of the answers ends

@@ -1,24 +1,18 @@
 //! From the bytes of a plant's text to the text of a patrol of its targets in turn.
 
-ghost use Rattle.std.specs.Prelude.{◌≡◌, ◌<◌, ◌≤◌, IfOk, IfErr, OnOk};
+ghost use Rattle.std.specs.Prelude.{IfOk, IfErr};
 ghost use Rattle.command_line.specs.declared.command.Command.{Command};
-ghost use Rattle.command_line.specs.declared.outcome.Refusal.TheVariants.{TooManyTurns};
 ghost use Rattle.base.specs.Workers.{AreWorkers};
-ghost use Rattle.text_abstraction.specs.declared.stop.Stop.TheVariants.{Refused};
-ghost use Rattle.command_outcomes.specs.IsOutcomeFor.{turns_of};
 ghost use Rattle.command_outcomes.specs.Stages.{IsStagedRefusal};
 ghost use Rattle.text_abstraction.specs.Causes.{IsStopFor};
 ghost use Rattle.synth_run.specs.inside.Making.{IsMade};
-ghost use Rattle.base.specs.declared.limits.TheConstants.{TURNS_LIMIT};
 
 use crate::work::Work;
 use abstraction_table::add_sources;
-use base::limits::TURNS_LIMIT;
 use command_line::Refusal;
 use command_texts::Text;
 use controller_table::{RowsText, TextKind};
 use frontier_pool::Gate;
-use plant_record::Plant;
 use std::alloc::Global;
 use std::thread::Threads;
 use text_abstraction::{Stop, forward_of_text};
@@ -36,27 +30,11 @@ pub fn patrol<R: Threads + Sync, G: Gate>(
     ensures refused { IfErr result (IsStopFor (IsStagedRefusal (Command.Patrol workers) bytes.now)) }
 {
     let (plant, forward) = forward_of_text(rt, alloc, bytes)?;
-    limit_turns(turns_of(&plant))?;
+    if !TextKind::Patrol.has_few_turns(&plant) {
+        return Err(Stop::Refused(Refusal::TooManyTurns));
+    }
     let game = add_sources(rt, alloc, forward)?;
     let rows = temporal_games::patrol(rt, alloc, &game, &plant, workers, gate)?;
     let text = RowsText::new(TextKind::Patrol, plant, rows);
     Ok(Work::of_text(Text::Rows(text)))
-}
-
-/// Refuses more pairs of a turn and a cell than the limit.
-fn limit_turns(turns: u64) -> Result<(), Stop>
-    ensures few { OnOk result (turns ≤ TURNS_LIMIT) }
-    ensures many { IfErr result (λ stop. (stop ≡ Refused TooManyTurns) × (TURNS_LIMIT < turns)) }
-{
-    if turns > TURNS_LIMIT {
-        return Err(Stop::Refused(Refusal::TooManyTurns));
-    }
-    Ok(())
-}
-
-/// How many pairs of a turn and a cell there are.
-fn turns_of(plant: &Plant) -> u64
-    ensures { result ≡ turns_of plant.now }
-{
-    u64::from(plant.grid().cells()) * u64::from(plant.targets())
 }

@@ -1,5 +1,7 @@
 use Rattle.text_control.proofs.ByText.{none_ranked}
 use Rattle.text_control.proofs.rows.rank_at.Goals as goal
 
-pub returns-in-None : goal.returns-in-None
-returns-in-None c = (c.in-None.ensures, λ bytes tells. none_ranked c.args.text.now c.args.state.now bytes tells c.in-None.ensures)
+pub returns-in_err-row_at : goal.returns-in_err-row_at
+returns-in_err-row_at c =
+    rw c.from_residual.ensures
+    (c.in_err-row_at.ensures, λ bytes tells. none_ranked c.args.text.now c.args.state.now bytes tells c.in_err-row_at.ensures)

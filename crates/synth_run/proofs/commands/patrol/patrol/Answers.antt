@@ -1,4 +1,5 @@
 use Rattle.std.proofs.Common.{inr, ◌*◌, ◌^◌, ◌<◌, ◌≤◌, ℕ, length, refl, sym, subst, arith}
+use Rattle.std.proofs.lemmas.Bool.{iff_false}
 use Rattle.plant_game.specs.Abstraction.{IsGameOf}
 use Rattle.abstraction_table.specs.Table.{game_of}
 use Rattle.text_abstraction.specs.declared.stop.Stop.{Stop}
@@ -14,13 +15,13 @@ use Rattle.synth_run.proofs.commands.patrol.patrol.Goals as goal
 pub patrol-requires-clause-size : goal.patrol-requires-clause-size
 patrol-requires-clause-size g c = λ κs within.
     let p = c.in_ok-plant.plant in
-    let few : turns_of p ≤ 4194304 = omega (arith, c.turns_of.ensures, c.in_ok-limit_turns.ensures.few) in
+    let few : turns_of p ≤ 4194304 = c.has_few_turns.ensures.0 c.if-not-has_few_turns.false in
     subst (λ (n : ℕ). n * length p.targets ≤ 4194304) (sym (subst (IsGameOf p) (sym c.in_ok-game.ensures.game) c.in_ok-plant.ensures.game).cells) few
 
 pub new-text-requires : goal.new-text-requires
 new-text-requires g c =
     let p = c.in_ok-plant.plant in
-    let few : turns_of p ≤ 4194304 = omega (arith, c.turns_of.ensures, c.in_ok-limit_turns.ensures.few) in
+    let few : turns_of p ≤ 4194304 = c.has_few_turns.ensures.0 c.if-not-has_few_turns.false in
     let fits = patrol_rows_fit p (game_of c.in_ok-game.game) c.in_ok-rows.rows (subst (IsGameOf p) (sym c.in_ok-game.ensures.game) c.in_ok-plant.ensures.game) c.in_ok-rows.ensures in
     patrol_held p c.in_ok-rows.rows c.in_ok-plant.ensures.accepted.limits few fits
 
@@ -28,7 +29,7 @@ pub returns-clause-made : goal.returns-clause-made
 returns-clause-made g c =
     let p = c.in_ok-plant.plant in
     let accepted = c.in_ok-plant.ensures.accepted in
-    let few : turns_of p ≤ 2 ^ 22 = omega (arith, c.turns_of.ensures, c.in_ok-limit_turns.ensures.few) in
+    let few : turns_of p ≤ 2 ^ 22 = c.has_few_turns.ensures.0 c.if-not-has_few_turns.false in
     rw (c.of_text.ensures, c.new-text.ensures)
     (record {
       can_be_written = refl;
@@ -36,13 +37,12 @@ returns-clause-made g c =
       leaves = refl;
     })
 
-pub returns-in_err-limit_turns-clause-refused : goal.returns-in_err-limit_turns-clause-refused
-returns-in_err-limit_turns-clause-refused g c =
+pub returns-then-not-has_few_turns-clause-refused : goal.returns-then-not-has_few_turns-clause-refused
+returns-then-not-has_few_turns-clause-refused g c =
     let p = c.in_ok-plant.plant in
-    let refused = c.in_err-limit_turns.ensures.many in
-    let many : 2 ^ 22 < turns_of p = omega (arith, c.turns_of.ensures, refused.1) in
-    passed_on c.from_residual-in_err-limit_turns.result c.in_err-limit_turns.field-0.0 _ c.from_residual-in_err-limit_turns.ensures.1
-    (subst (λ (stop : Stop). IsStopFor (IsTextRefusal IsPatrolRefusal c.args.bytes.now) stop) (sym refused.0) (inr (p, c.in_ok-plant.ensures.accepted, inr (refl, c.in_ok-plant.ensures.solvable, many))))
+    let not_few = iff_false c.has_few_turns.ensures c.if-not-has_few_turns.true in
+    let many : 2 ^ 22 < turns_of p = omega (arith, not_few) in
+    inr (p, c.in_ok-plant.ensures.accepted, inr (refl, c.in_ok-plant.ensures.solvable, many))
 
 pub returns-in_err-plant-clause-refused : goal.returns-in_err-plant-clause-refused
 returns-in_err-plant-clause-refused g c =
