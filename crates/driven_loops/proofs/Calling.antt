@@ -25,7 +25,7 @@ opened bytes (Some t) line is = (t, refl, is.2)
 
 ranked : (t : TextModel) (x : List ℤ) (k : ℕ) → IsRanked (Some t) x k (pos 1) → IsRank t x k
 ranked t x k told = elim told [
-  | inl one ↦ one.1
+  | inl one ↦ one.2
   | inr other ↦ elim other [
     | inl none ↦ let number = none.0 in absurd (cc)
     | inr wrong ↦ let number = wrong.0 in absurd (cc)

@@ -65,8 +65,8 @@ HasSizes (Some t) states inputs status = (status ≡ pos 0) × (states ≡ lengt
 abbrev pub IsRanked : Option TextModel → List ℤ → ℕ → ℤ → Type 0
 IsRanked None x rank status = (status ≡ negsuc 2) × (rank ≡ 0)
 IsRanked (Some t) x rank status =
-    ((status ≡ pos 1) × IsRank t x rank)
-    ⊎ ((status ≡ negsuc 0) × (rank ≡ 0) × IsUnranked t x)
+    ((status ≡ pos 1) × (length x ≡ length t.plant.states) × IsRank t x rank)
+    ⊎ ((status ≡ negsuc 0) × (rank ≡ 0) × (length x ≡ length t.plant.states) × IsUnranked t x)
     ⊎ ((status ≡ negsuc 1) × (rank ≡ 0) × (length x ≡ length t.plant.states → ⊥))
 
 -- whether the next state lies in its box, where these values are applied at the state
