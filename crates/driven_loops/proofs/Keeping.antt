@@ -1,7 +1,6 @@
 -- A followed loop by the table of a plant that is to be kept stays in cells with rows.
 use Rattle.std.proofs.Common.{◌≡◌, ℕ, List, refl, sym, subst}
 use Rattle.std.specs.Prelude.{ℤ}
-use Rattle.game_core.specs.declared.game.Row.{Row}
 use Rattle.plant_record.specs.declared.aims.GoalKind.{GoalKind}
 use Rattle.plant_record.specs.declared.aims.GoalKind.TheVariants.{Keep}
 use Rattle.plant_record.specs.Description.{Description}
@@ -43,15 +42,13 @@ module _ (p : Description) (t : TextModel) (goal : p.goal ≡ Keep) (h : HoldsTa
     leads = λ c row is applies d lt among. let next = leads_on h.solution c row is d lt among in (next.0, next.1, tt);
   }
 
-  applies : (row : Row) → Applies p.goal row row.input
-  applies row = subst (λ (g : GoalKind). Applies g row row.input) (sym goal) refl
-
   keeps : KeepsLoops p m
   keeps = (
     refl,
     λ x y k samples rank loop.
         let end = led {After = AnyRank} kept_rows (λ r. tt) (λ n r i j one rest. tt) x y k samples rank loop in
-        (clear_at kept_rows y end.row end.has, row_answers m y end.row end.has (applies end.row), (end.row.rank, has_rank m y end.row end.has)),
+        let applies : Applies p.goal end.row end.row.input = subst (λ (g : GoalKind). Applies g end.row end.row.input) (sym goal) refl in
+        (clear_at kept_rows y end.row end.has, row_answers m y end.row end.has applies, (end.row.rank, has_rank m y end.row end.has)),
   )
 
 pub followed_tables_keep : FollowedTablesKeep
