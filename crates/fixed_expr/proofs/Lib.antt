@@ -5,3 +5,4 @@ pub mod ShiftedValues
 pub mod Pieces
 pub mod PointsPassed
 pub mod Laws
+pub mod EachNode

@@ -1,5 +1,4 @@
 pub mod Division
-pub mod Fitting
 pub mod Distances
 pub mod Slopes
 pub mod CurveDistances

@@ -6,8 +6,9 @@ use Rattle.std.proofs.lemmas.Int.{ints, clamps}
 use Rattle.fixed_expr.specs.Expression.{Expression, NumExpr, VarExpr, NegExpr, AddExpr, SubExpr, MulExpr, DivExpr, MinExpr, MaxExpr, AbsExpr, LutExpr}
 use Rattle.fixed_expr.specs.Value.{IsWellFormed}
 use Rattle.interval_eval.specs.declared.interval.Interval.{Interval}
-use Rattle.interval_eval.specs.Span.{IsInterval, IsIn, EndsFit, SpanStaysInRange, neg_span, add_span, sub_span, mul_span, div_span, min_span, max_span, abs_span, span_of}
+use Rattle.interval_eval.specs.Span.{IsInterval, IsIn, EndsFit, SpanFits, SpanStaysInRange, neg_span, add_span, sub_span, mul_span, div_span, min_span, max_span, abs_span, span_of}
 use Rattle.interval_eval.specs.NestedAreas.{IsPartOf, ArePartsOf}
+use Rattle.fixed_expr.proofs.EachNode.{follows}
 use Rattle.fixed_expr.proofs.Laws.{floors_in_order}
 use Rattle.interval_eval.proofs.Holding.{in_product, in_absolute, spans_ordered}
 use Rattle.interval_eval.proofs.Lookups.{part_lookup}
@@ -112,14 +113,4 @@ module _ (area wider : List Interval) (each : All IsInterval area) (parts : AreP
       (between w.lo w.hi s.lo ends.0 ends.1 inside.0.0 inside.0.1, between w.lo w.hi s.hi ends.0 ends.1 inside.1.0 inside.1.1)
 
   pub stays : (e : Expression) → IsWellFormed e (length wider) → SpanStaysInRange e wider → SpanStaysInRange e area
-  stays (NumExpr k) formed h = fits (NumExpr k) formed h
-  stays (VarExpr i) formed h = fits (VarExpr i) formed h
-  stays (NegExpr a) formed h = (stays a formed h.0, fits (NegExpr a) formed h.1)
-  stays (AddExpr a b) formed h = (stays a formed.0 h.0, stays b formed.1 h.1, fits (AddExpr a b) formed h.2)
-  stays (SubExpr a b) formed h = (stays a formed.0 h.0, stays b formed.1 h.1, fits (SubExpr a b) formed h.2)
-  stays (MulExpr a b) formed h = (stays a formed.0 h.0, stays b formed.1 h.1, fits (MulExpr a b) formed h.2)
-  stays (DivExpr a k) formed h = (stays a formed.0 h.0, fits (DivExpr a k) formed h.1)
-  stays (MinExpr a b) formed h = (stays a formed.0 h.0, stays b formed.1 h.1, fits (MinExpr a b) formed h.2)
-  stays (MaxExpr a b) formed h = (stays a formed.0 h.0, stays b formed.1 h.1, fits (MaxExpr a b) formed h.2)
-  stays (AbsExpr a) formed h = (stays a formed h.0, fits (AbsExpr a) formed h.1)
-  stays (LutExpr a points) formed h = (stays a formed.0 h.0, fits (LutExpr a points) formed h.1)
+  stays = follows SpanFits SpanFits wider area (length wider) fits

@@ -5,7 +5,7 @@ use Rattle.std.specs.Int.{int_min, int_max}
 use Rattle.fixed_expr.specs.Range.{IsInRange}
 use Rattle.fixed_expr.specs.DivExpr.{floor_div}
 use Rattle.fixed_expr.specs.Curves.{curve_value}
-use Rattle.fixed_expr.specs.Expression.{Expression, NumExpr, VarExpr, NegExpr, AddExpr, SubExpr, MulExpr, DivExpr, MinExpr, MaxExpr, AbsExpr, LutExpr}
+use Rattle.fixed_expr.specs.Expression.{Expression, AllNodes, NumExpr, VarExpr, NegExpr, AddExpr, SubExpr, MulExpr, DivExpr, MinExpr, MaxExpr, AbsExpr, LutExpr}
 use Rattle.interval_eval.specs.declared.interval.Interval.{Interval}
 
 -- the low end is at most the high end
@@ -95,16 +95,10 @@ span_of (MaxExpr a b) area = max_span (span_of a area) (span_of b area)
 span_of (AbsExpr a) area = abs_span (span_of a area)
 span_of (LutExpr a points) area = lut_span points (span_of a area)
 
+-- the ends of an expression's span lie in the range
+abbrev pub SpanFits : Expression → List Interval → Type 0
+SpanFits e area = EndsFit (span_of e area)
+
 -- the ends of every node's span lie in the range
 abbrev pub SpanStaysInRange : Expression → List Interval → Type 0
-SpanStaysInRange (NumExpr k) area = EndsFit (span_of (NumExpr k) area)
-SpanStaysInRange (VarExpr i) area = EndsFit (span_of (VarExpr i) area)
-SpanStaysInRange (NegExpr a) area = SpanStaysInRange a area × EndsFit (span_of (NegExpr a) area)
-SpanStaysInRange (AddExpr a b) area = SpanStaysInRange a area × SpanStaysInRange b area × EndsFit (span_of (AddExpr a b) area)
-SpanStaysInRange (SubExpr a b) area = SpanStaysInRange a area × SpanStaysInRange b area × EndsFit (span_of (SubExpr a b) area)
-SpanStaysInRange (MulExpr a b) area = SpanStaysInRange a area × SpanStaysInRange b area × EndsFit (span_of (MulExpr a b) area)
-SpanStaysInRange (DivExpr a k) area = SpanStaysInRange a area × EndsFit (span_of (DivExpr a k) area)
-SpanStaysInRange (MinExpr a b) area = SpanStaysInRange a area × SpanStaysInRange b area × EndsFit (span_of (MinExpr a b) area)
-SpanStaysInRange (MaxExpr a b) area = SpanStaysInRange a area × SpanStaysInRange b area × EndsFit (span_of (MaxExpr a b) area)
-SpanStaysInRange (AbsExpr a) area = SpanStaysInRange a area × EndsFit (span_of (AbsExpr a) area)
-SpanStaysInRange (LutExpr a points) area = SpanStaysInRange a area × EndsFit (span_of (LutExpr a points) area)
+SpanStaysInRange e area = AllNodes SpanFits e area

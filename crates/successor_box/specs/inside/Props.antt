@@ -5,17 +5,15 @@ use Rattle.std.specs.Coded.{×_prop, Unit-prop, le_prop}
 use Rattle.std.proofs.Props.{props}
 use Rattle.fixed_expr.specs.Curves.{CurvePoint, RiseFrom, Rise, IsCurve}
 use Rattle.fixed_expr.specs.Expression.{Expression, NumExpr, VarExpr, NegExpr, AddExpr, SubExpr, MulExpr, DivExpr, MinExpr, MaxExpr, AbsExpr, LutExpr}
+use Rattle.fixed_expr.proofs.EachNode.{three_prop, AllNodes-prop}
 use Rattle.interval_eval.specs.declared.interval.Interval.{Interval}
-use Rattle.interval_eval.specs.Span.{EndsFit, SpanStaysInRange, span_of}
-use Rattle.growth_bound.specs.Deviation.{DeviationStaysInRange}
+use Rattle.interval_eval.specs.Span.{EndsFit, SpanFits, SpanStaysInRange, span_of}
+use Rattle.growth_bound.specs.Deviation.{DeviationFits, DeviationStaysInRange}
 use Rattle.plant_record.specs.Description.{Description}
 use Rattle.plant_record.specs.Equations.{HasLiterals, HasNoLut}
 use Rattle.plant_record.specs.Limits.{IsWithinLimits}
 use Rattle.plant_record.specs.StateBoxes.{AreEnds}
 use Rattle.successor_box.specs.Deviations.{HasNoOverflow}
-
-three_prop : {A B C : Type 0} → IsProp A → IsProp B → IsProp C → IsProp (A × B × C)
-three_prop a b c = λ p q i. (a p.0 q.0 i, b p.1 q.1 i, c p.2 q.2 i)
 
 at_least_prop : (k : ℤ) → IsProp (pos 1 ≤ℤ k)
 at_least_prop k = Prim.hlevel props
@@ -70,30 +68,10 @@ EndsFit-prop : (i : Interval) → IsProp (EndsFit i)
 EndsFit-prop i = Prim.hlevel props
 
 SpanStaysInRange-prop : (e : Expression) (area : List Interval) → IsProp (SpanStaysInRange e area)
-SpanStaysInRange-prop (NumExpr k) area = EndsFit-prop (span_of (NumExpr k) area)
-SpanStaysInRange-prop (VarExpr i) area = EndsFit-prop (span_of (VarExpr i) area)
-SpanStaysInRange-prop (NegExpr a) area = ×_prop (SpanStaysInRange-prop a area) (EndsFit-prop (span_of (NegExpr a) area))
-SpanStaysInRange-prop (AddExpr a b) area = three_prop (SpanStaysInRange-prop a area) (SpanStaysInRange-prop b area) (EndsFit-prop (span_of (AddExpr a b) area))
-SpanStaysInRange-prop (SubExpr a b) area = three_prop (SpanStaysInRange-prop a area) (SpanStaysInRange-prop b area) (EndsFit-prop (span_of (SubExpr a b) area))
-SpanStaysInRange-prop (MulExpr a b) area = three_prop (SpanStaysInRange-prop a area) (SpanStaysInRange-prop b area) (EndsFit-prop (span_of (MulExpr a b) area))
-SpanStaysInRange-prop (DivExpr a k) area = ×_prop (SpanStaysInRange-prop a area) (EndsFit-prop (span_of (DivExpr a k) area))
-SpanStaysInRange-prop (MinExpr a b) area = three_prop (SpanStaysInRange-prop a area) (SpanStaysInRange-prop b area) (EndsFit-prop (span_of (MinExpr a b) area))
-SpanStaysInRange-prop (MaxExpr a b) area = three_prop (SpanStaysInRange-prop a area) (SpanStaysInRange-prop b area) (EndsFit-prop (span_of (MaxExpr a b) area))
-SpanStaysInRange-prop (AbsExpr a) area = ×_prop (SpanStaysInRange-prop a area) (EndsFit-prop (span_of (AbsExpr a) area))
-SpanStaysInRange-prop (LutExpr a points) area = ×_prop (SpanStaysInRange-prop a area) (EndsFit-prop (span_of (LutExpr a points) area))
+SpanStaysInRange-prop e area = AllNodes-prop SpanFits area (λ node. EndsFit-prop (span_of node area)) e
 
 DeviationStaysInRange-prop : (e : Expression) (area : List Interval) (radii : List ℤ) → IsProp (DeviationStaysInRange e area radii)
-DeviationStaysInRange-prop (NumExpr k) area radii = le_prop
-DeviationStaysInRange-prop (VarExpr i) area radii = le_prop
-DeviationStaysInRange-prop (NegExpr a) area radii = ×_prop (DeviationStaysInRange-prop a area radii) le_prop
-DeviationStaysInRange-prop (AddExpr a b) area radii = three_prop (DeviationStaysInRange-prop a area radii) (DeviationStaysInRange-prop b area radii) le_prop
-DeviationStaysInRange-prop (SubExpr a b) area radii = three_prop (DeviationStaysInRange-prop a area radii) (DeviationStaysInRange-prop b area radii) le_prop
-DeviationStaysInRange-prop (MulExpr a b) area radii = three_prop (DeviationStaysInRange-prop a area radii) (DeviationStaysInRange-prop b area radii) le_prop
-DeviationStaysInRange-prop (DivExpr a k) area radii = ×_prop (DeviationStaysInRange-prop a area radii) le_prop
-DeviationStaysInRange-prop (MinExpr a b) area radii = three_prop (DeviationStaysInRange-prop a area radii) (DeviationStaysInRange-prop b area radii) le_prop
-DeviationStaysInRange-prop (MaxExpr a b) area radii = three_prop (DeviationStaysInRange-prop a area radii) (DeviationStaysInRange-prop b area radii) le_prop
-DeviationStaysInRange-prop (AbsExpr a) area radii = ×_prop (DeviationStaysInRange-prop a area radii) le_prop
-DeviationStaysInRange-prop (LutExpr a points) area radii = ×_prop (DeviationStaysInRange-prop a area radii) le_prop
+DeviationStaysInRange-prop e area radii = AllNodes-prop DeviationFits (area, radii) (λ node. le_prop) e
 
 pub HasNoOverflow-prop : (p : Description) → IsProp (HasNoOverflow p)
 HasNoOverflow-prop p = Prim.hlevel (props, SpanStaysInRange-prop, DeviationStaysInRange-prop)

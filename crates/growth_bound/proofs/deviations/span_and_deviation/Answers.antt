@@ -4,15 +4,15 @@ use Rattle.std.specs.Int.{w128}
 use Rattle.std.proofs.lemmas.Int.{to_z_pos}
 use Rattle.fixed_expr.specs.Expression.{Expression, expression_of}
 use Rattle.interval_eval.specs.declared.interval.Interval.{Interval}
-use Rattle.growth_bound.specs.Deviation.{deviation_of, DeviationStaysInRange}
+use Rattle.growth_bound.specs.Deviation.{deviation_of, DeviationFits, DeviationStaysInRange}
 use Rattle.growth_bound.specs.inside.Bounds.{bounds_of}
 use Rattle.growth_bound.specs.declared.bounds.Bounds.{Bounds}
-use Rattle.growth_bound.proofs.Fitting.{whole_fits}
+use Rattle.fixed_expr.proofs.EachNode.{of_whole}
 use Rattle.growth_bound.proofs.deviations.span_and_deviation.Goals as goal
 
 fits : (e : Expression) (area : List Interval) (radii : List ℤ) (b : Bounds) → DeviationStaysInRange e area radii → b ≡ bounds_of e area radii → b.deviation < 2 ^ 127
 fits e area radii b stays is =
-    let whole : deviation_of e area radii < 2 ^ 127 = whole_fits e area radii stays in
+    let whole : deviation_of e area radii < 2 ^ 127 = of_whole DeviationFits (area, radii) e stays in
     let same : b.deviation ≡ deviation_of e area radii = ap (λ (f : Bounds). f.deviation) is in
     omega (arith, same, whole)
 
