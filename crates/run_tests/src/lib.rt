@@ -12,6 +12,8 @@ mod loops;
 #[cfg(test)]
 mod meeting;
 #[cfg(test)]
+mod plants;
+#[cfg(test)]
 mod reading;
 #[cfg(test)]
 mod texts;
