@@ -16,8 +16,6 @@ mod plants;
 #[cfg(test)]
 mod reading;
 #[cfg(test)]
-mod texts;
-#[cfg(test)]
 mod trial;
 #[cfg(test)]
 mod workers;

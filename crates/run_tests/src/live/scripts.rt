@@ -1,4 +1,4 @@
-//! Texts of which there is one, and the laws that say so.
+//! Live scripts, and the laws that each is one list of commands or refused.
 
 use crate::live::tables::REACH;
 use controller_table::laws::no_text_is_neither;
