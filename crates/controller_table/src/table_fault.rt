@@ -1,4 +1,3 @@
-use base::NoMemory;
 use plant_record::LimitKind;
 
 /// Why no table was read.

@@ -1,6 +1,7 @@
 //! The top call on devices that fail.
 
-use crate::trial::{CLEAN, Devices, PLANT, TABLE, run_on};
+use crate::plants::{PLANT, TABLE};
+use crate::trial::{CLEAN, Devices, run_on};
 use std::alloc::Global;
 use std::test::Fail;
 use std::thread::Threads;

@@ -12,9 +12,9 @@ mod loops;
 #[cfg(test)]
 mod meeting;
 #[cfg(test)]
-mod reading;
+mod plants;
 #[cfg(test)]
-mod texts;
+mod reading;
 #[cfg(test)]
 mod trial;
 #[cfg(test)]

@@ -2,5 +2,6 @@
 
 mod answers;
 mod refusals;
+mod scripts;
 pub mod tables;
 mod threads;

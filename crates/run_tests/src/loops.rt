@@ -1,6 +1,7 @@
 //! Loops of the answers of texts that are written and read again, and the laws that say where they come.
 
-use crate::trial::{CLEAN, PLANT, run_on};
+use crate::plants::{DOCKS, LINE, PLANT};
+use crate::trial::{CLEAN, run_on};
 use driven_loops::followed::{
     calls_are_followed, followed_patrol_texts_go_on, followed_stay_texts_settle,
     followed_tables_end, followed_tables_keep, indices_tell, loops_are_followed, no_false_alarms,
@@ -14,14 +15,6 @@ use std::test::Fail;
 use std::thread::Threads;
 use synth_run::Open;
 use text_control::{Follow, PackedText, Reply, Visit, control, follows, read_text, visit};
-
-/// The plant of the trials, which may also stand still.
-const STAY: &[u8] =
-    b"plant 1\nstate x 0 14 3\ninput u -3 0 3\nnext x = x + u\ntarget 12 14\ngoal reach\nend\n";
-
-/// The plant of the trials, with a target at either end.
-const PATROL: &[u8] =
-    b"plant 1\nstate x 0 14 3\ninput u -3 3\nnext x = x + u\ntarget 0 2\ntarget 12 14\ngoal reach\nend\n";
 
 /// The plant of the trials, to be kept within its range.
 const KEEP: &[u8] = b"plant 1\nstate x 0 14 3\ninput u -3 3\nnext x = x + u\ngoal keep\nend\n";
@@ -143,7 +136,7 @@ fn a_written_table_keeps_its_loop_in_the_range(rt: HostRuntime) -> Result<(), Fa
 
 #[test]
 fn a_written_stay_text_settles_its_loop(rt: HostRuntime) -> Result<(), Fail> {
-    let text = written(&rt, rt.alloc(), "stay", STAY)?;
+    let text = written(&rt, rt.alloc(), "stay", LINE)?;
     assert!(rt; settles(&text, 4));
     assert!(rt; settles(&text, 5));
     assert!(rt; settles(&text, SAMPLES));
@@ -153,7 +146,7 @@ fn a_written_stay_text_settles_its_loop(rt: HostRuntime) -> Result<(), Fail> {
 /// From 0 to 12 it is four samples, back to 0 four, and so on: the first turn, to the target at 0, ends at its second visit.
 #[test]
 fn a_written_patrol_text_begins_turn_after_turn(rt: HostRuntime) -> Result<(), Fail> {
-    let mut text = written(&rt, rt.alloc(), "patrol", PATROL)?;
+    let mut text = written(&rt, rt.alloc(), "patrol", DOCKS)?;
     assert!(rt; turns_of(&mut text) == 5);
     Ok(())
 }

@@ -1,5 +1,6 @@
 //! Stay texts and patrol texts that are read.
 
+use crate::plants::{DOCKS_TEXT, LINE_TEXT};
 use controller_table::TableFault;
 use game_core::Row;
 use std::alloc::Global;
@@ -11,17 +12,9 @@ use temporal_texts::laws::{
 };
 use temporal_texts::{PatrolFault, read_patrol, read_stay};
 
-/// The plant of the trials, which may also stand still.
-const STAY: &[u8] =
-    b"stay 1\nplant 1\nstate x 0 14 3\ninput u -3 0 3\nnext x = x + u\ntarget 12 14\ngoal reach\nend\nrows 5\n0 0 4 2\n1 1 3 2\n2 2 2 2\n3 3 1 2\n4 4 0 1\nend\n";
-
 /// A rank as great as the number of cells.
 const FAR_STAY: &[u8] =
     b"stay 1\nplant 1\nstate x 0 14 3\ninput u -3 0 3\nnext x = x + u\ntarget 12 14\ngoal reach\nend\nrows 1\n0 0 5 2\nend\n";
-
-/// The plant of the trials, with a target at either end.
-const PATROL: &[u8] =
-    b"patrol 1\nplant 1\nstate x 0 14 3\ninput u -3 3\nnext x = x + u\ntarget 0 2\ntarget 12 14\ngoal reach\nend\nturn 0 rows 5\n0 0 2 1\n1 1 1 0\n2 2 2 0\n3 3 3 0\n4 4 4 0\nturn 1 rows 5\n0 0 4 1\n1 1 3 1\n2 2 2 1\n3 3 1 1\n4 4 2 0\nend\n";
 
 /// The second turn has the number of the first.
 const SAME_TURN: &[u8] =
@@ -37,7 +30,7 @@ fn has_stay_rows(alloc: Global) -> bool {
     stay_text_or_refused();
     no_stay_text_is_neither();
     stay_trajectories_settle();
-    let Ok(stay) = read_stay(alloc, STAY) else {
+    let Ok(stay) = read_stay(alloc, LINE_TEXT) else {
         return false;
     };
     let rows = stay.answer();
@@ -56,7 +49,7 @@ fn has_patrol_rows(alloc: Global) -> bool {
     patrol_text_or_refused();
     no_patrol_text_is_neither();
     patrol_trajectories_go_on();
-    let Ok(patrol) = read_patrol(alloc, PATROL) else {
+    let Ok(patrol) = read_patrol(alloc, DOCKS_TEXT) else {
         return false;
     };
     if patrol.turns() != 2 {

@@ -5,14 +5,6 @@ use std::test::Fail;
 use std::thread::Threads;
 use synth_run::{Gate, MemorySink, MemorySource, run};
 
-/// Positions 0 to 14 in cells of three; inputs of -3 and 3; the target is 12 to 14.
-pub const PLANT: &[u8] =
-    b"plant 1\nstate x 0 14 3\ninput u -3 3\nnext x = x + u\ntarget 12 14\ngoal reach\nend\n";
-
-/// From each cell the greater input leads to the next one: no two cells have the same row.
-pub const TABLE: &[u8] =
-    b"table 2\nplant 1\nstate x 0 14 3\ninput u -3 3\nnext x = x + u\ntarget 12 14\ngoal reach\nend\nrows 5\n0 0 4 1\n1 1 3 1\n2 2 2 1\n3 3 1 1\n4 4 0 -\nend\n";
-
 /// Which calls fail, by their numbers from 1, for how many bytes there is room, and how many are taken at once.
 #[derive(Clone, Copy)]
 pub struct Devices<'a> {

@@ -1,11 +1,15 @@
 //! The top call by several workers.
 
 use crate::meeting::{MANY, Rendezvous};
-use crate::trial::{CLEAN, PLANT, TABLE, run_on};
+use crate::plants::{DOCKS, DOCKS_TEXT, LINE, LINE_TEXT, PLANT, TABLE};
+use crate::trial::{CLEAN, run_on};
 use std::alloc::Global;
 use std::test::Fail;
 use std::thread::Threads;
 use synth_run::Open;
+use synth_run::laws::some_game_per_plant;
+use temporal_promises::laws::{patrol_solutions_patrol, stay_solutions_settle};
+use temporal_texts::laws::{one_patrol_text, one_stay_text};
 
 /// Two goals, 9 to 11 and 12 to 14, so that round 0 has two items.
 const CORRIDOR: &[u8] =
@@ -23,13 +27,6 @@ const ENDS: &[u8] =
 const ENDS_TABLE: &[u8] =
     b"table 2\nplant 1\nstate x 0 14 3\ninput u 0\nnext x = x + u\nobstacle 0 2\nobstacle 12 14\ngoal keep\nend\nrows 1\n1 3 - 0\nend\n";
 
-/// The goal is cell 4, which input 1 keeps; input 2 leads each other cell to the next one.
-const LINE: &[u8] =
-    b"plant 1\nstate x 0 14 3\ninput u -3 0 3\nnext x = x + u\ntarget 12 14\ngoal reach\nend\n";
-
-const LINE_TEXT: &[u8] =
-    b"stay 1\nplant 1\nstate x 0 14 3\ninput u -3 0 3\nnext x = x + u\ntarget 12 14\ngoal reach\nend\nrows 5\n0 0 4 2\n1 1 3 2\n2 2 2 2\n3 3 1 2\n4 4 0 1\nend\n";
-
 /// The cells 0 and 1 are no goals, the items of the first round. Cell 2 can't go left, cells 3 and 4 can.
 const ROOM: &[u8] =
     b"plant 1\nstate x 0 14 3\ninput u -3 0 3\nnext x = x + u\ntarget 6 14\ngoal reach\nend\n";
@@ -43,13 +40,6 @@ const HOME: &[u8] =
 
 const HOME_TEXT: &[u8] =
     b"stay 1\nplant 1\nstate x 0 14 3\ninput u 0\nnext x = x + u\ntarget 0 14\ngoal reach\nend\nrows 1\n0 4 0 0\nend\n";
-
-/// Each input leads a cell to its neighbour, so that a target that was reached is left before it is reached again.
-const DOCKS: &[u8] =
-    b"plant 1\nstate x 0 14 3\ninput u -3 3\nnext x = x + u\ntarget 0 2\ntarget 12 14\ngoal reach\nend\n";
-
-const DOCKS_TEXT: &[u8] =
-    b"patrol 1\nplant 1\nstate x 0 14 3\ninput u -3 3\nnext x = x + u\ntarget 0 2\ntarget 12 14\ngoal reach\nend\nturn 0 rows 5\n0 0 2 1\n1 1 1 0\n2 2 2 0\n3 3 3 0\n4 4 4 0\nturn 1 rows 5\n0 0 4 1\n1 1 3 1\n2 2 2 1\n3 3 1 1\n4 4 2 0\nend\n";
 
 /// Two cells lie in each target, the items of a first round.
 const ROUND: &[u8] =
@@ -176,6 +166,7 @@ fn do_write<R: Threads + Sync>(
     text: &[u8],
     table: &[u8],
 ) -> Result<bool, Fail> {
+    some_game_per_plant();
     let mut good = true;
     for workers in ["1", "7"] {
         let tried = run_on(rt, alloc, &[word, workers], text, &CLEAN, &Open)?;
@@ -186,12 +177,16 @@ fn do_write<R: Threads + Sync>(
 
 #[test]
 fn stay_text_ends_where_the_plant_can_stay(rt: HostRuntime) -> Result<(), Fail> {
+    one_stay_text();
+    stay_solutions_settle();
     assert!(rt; do_write(&rt, rt.alloc(), "stay", LINE, LINE_TEXT)?);
     Ok(())
 }
 
 #[test]
 fn patrol_text_has_a_turn_for_each_target(rt: HostRuntime) -> Result<(), Fail> {
+    one_patrol_text();
+    patrol_solutions_patrol();
     assert!(rt; do_write(&rt, rt.alloc(), "patrol", DOCKS, DOCKS_TEXT)?);
     Ok(())
 }

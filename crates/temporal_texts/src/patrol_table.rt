@@ -1,15 +1,10 @@
-ghost use Rattle.std.specs.Prelude.{◌≡◌, ◌<◌, length, IfSome};
-ghost use Rattle.grid_quantiser.specs.Axes.{cells_of};
-ghost use Rattle.game_core.specs.Solution.{row_of};
-ghost use Rattle.plant_record.specs.Description.{axes_of};
+ghost use Rattle.std.specs.Prelude.{◌≡◌, length};
 ghost use Rattle.plant_record.specs.Limits.{IsWithinLimits};
 ghost use Rattle.controller_table.specs.declared.text_kind.TextKind.TheVariants.{Patrol};
-ghost use Rattle.temporal_texts.specs.PatrolText.{IsPatrolRowOf, PatrolRowsFit};
-ghost use Rattle.turn_rows.specs.Rows.{rows_for};
+ghost use Rattle.temporal_texts.specs.PatrolText.{PatrolRowsFit};
 ghost use Rattle.controller_table.specs.TextKinds.{HasFewTurns};
 
 use controller_table::RowsText;
-use game_core::Row;
 use plant_record::Plant;
 use std::marker::Model;
 use turn_rows::PatrolRows;
@@ -69,15 +64,5 @@ impl PatrolTable {
         ensures { result ≡ length self.now.plant.targets }
     {
         self.rows.turns()
-    }
-
-    /// None where the cell has no row for the turn.
-    pub fn row(&self, turn: u32, cell: u32) -> Option<Row>
-        requires turn { turn < length self.now.plant.targets }
-        requires cell { cell < cells_of (axes_of self.now.plant) }
-        ensures row { result ≡ row_of (rows_for self.now.rows turn) cell }
-        ensures fit { IfSome result (IsPatrolRowOf self.now.plant) }
-    {
-        self.rows.row(turn, cell)
     }
 }

@@ -1,13 +1,10 @@
-ghost use Rattle.std.specs.Prelude.{◌≡◌, ◌<◌, [], ◌∷◌, IfSome};
-ghost use Rattle.grid_quantiser.specs.Axes.{cells_of};
-ghost use Rattle.game_core.specs.Solution.{row_of};
-ghost use Rattle.plant_record.specs.Description.{axes_of};
+ghost use Rattle.std.specs.Prelude.{◌≡◌, [], ◌∷◌};
 ghost use Rattle.plant_record.specs.Limits.{IsWithinLimits};
 ghost use Rattle.controller_table.specs.declared.text_kind.TextKind.TheVariants.{Stay};
-ghost use Rattle.temporal_texts.specs.StayText.{IsStayRowOf, StayRowsFit};
+ghost use Rattle.temporal_texts.specs.StayText.{StayRowsFit};
 
 use controller_table::RowsText;
-use game_core::{Answer, Row};
+use game_core::Answer;
 use plant_record::Plant;
 use std::marker::Model;
 
@@ -61,14 +58,5 @@ impl StayTable {
         ensures fit { StayRowsFit self.now.plant result.now }
     {
         &self.answer
-    }
-
-    /// None where the cell has no row.
-    pub fn row(&self, cell: u32) -> Option<Row>
-        requires { cell < cells_of (axes_of self.now.plant) }
-        ensures row { result ≡ row_of self.now.rows cell }
-        ensures fit { IfSome result (IsStayRowOf self.now.plant) }
-    {
-        self.answer.row(cell)
     }
 }

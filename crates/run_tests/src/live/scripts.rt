@@ -1,7 +1,6 @@
-//! Texts of which there is one, and the laws that say so.
+//! Live scripts, and the laws that each is one list of commands or refused.
 
 use crate::live::tables::REACH;
-use crate::trial::{CLEAN, PLANT, run_on};
 use controller_table::laws::no_text_is_neither;
 use live_script::laws::{
     no_script_is_neither, one_live_text, one_script, one_script_refusal, script_or_refused,
@@ -9,35 +8,6 @@ use live_script::laws::{
 use live_script::{Script, ScriptCommand};
 use std::alloc::Global;
 use std::test::Fail;
-use std::thread::Threads;
-use synth_run::Open;
-use synth_run::laws::some_game_per_plant;
-use temporal_promises::laws::{patrol_solutions_patrol, stay_solutions_settle};
-use temporal_texts::laws::{one_patrol_text, one_stay_text};
-
-/// Whether a word writes the same for a plant by one worker and by two.
-fn is_one_text<R: Threads + Sync>(rt: &R, alloc: Global, word: &str) -> Result<bool, Fail> {
-    some_game_per_plant();
-    let first = run_on(rt, alloc, &[word, "1"], PLANT, &CLEAN, &Open)?;
-    let second = run_on(rt, alloc, &[word, "2"], PLANT, &CLEAN, &Open)?;
-    Ok(first.gave(0, second.out.got(), b""))
-}
-
-#[test]
-fn a_plant_has_one_stay_text(rt: HostRuntime) -> Result<(), Fail> {
-    one_stay_text();
-    stay_solutions_settle();
-    assert!(rt; is_one_text(&rt, rt.alloc(), "stay")?);
-    Ok(())
-}
-
-#[test]
-fn a_plant_has_one_patrol_text(rt: HostRuntime) -> Result<(), Fail> {
-    one_patrol_text();
-    patrol_solutions_patrol();
-    assert!(rt; is_one_text(&rt, rt.alloc(), "patrol")?);
-    Ok(())
-}
 
 /// A script of one table and one question.
 fn script_of(alloc: Global, table: &[u8]) -> Result<Vec<u8>, Fail> {
