@@ -2,10 +2,7 @@ use Rattle.std.proofs.Common.{inr, ◌*◌, ◌^◌, ◌<◌, ◌≤◌, ℕ, le
 use Rattle.std.proofs.lemmas.Bool.{iff_false}
 use Rattle.plant_game.specs.Abstraction.{IsGameOf}
 use Rattle.abstraction_table.specs.Table.{game_of}
-use Rattle.text_abstraction.specs.declared.stop.Stop.{Stop}
 use Rattle.command_outcomes.specs.IsOutcomeFor.{turns_of}
-use Rattle.command_outcomes.specs.Stages.{IsPatrolRefusal, IsTextRefusal}
-use Rattle.text_abstraction.specs.Causes.{IsStopFor}
 use Rattle.temporal_texts.proofs.TextLaws.{patrol_held}
 use Rattle.temporal_promises.proofs.FittingPatrolRows.{patrol_rows_fit}
 use Rattle.synth_run.proofs.Tables.{patrol_table, patrol_stop}
