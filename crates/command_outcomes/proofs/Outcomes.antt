@@ -21,13 +21,14 @@ use Rattle.controller_table.specs.declared.table_fault.TableFault.{TableFault}
 use Rattle.controller_table.specs.declared.table_fault.TableFault.TheVariants as tables
 use Rattle.controller_table.specs.Tables.{IsTable}
 use Rattle.controller_table.specs.TableRefusals.{IsTableRefusedFor}
+use Rattle.controller_table.specs.TextKinds.{HasFewTurns}
 use Rattle.game_core.specs.Judging.{IsFirstFailure}
 use Rattle.command_line.specs.declared.command.Command.{Command}
 use Rattle.command_line.specs.declared.command.Command.TheVariants.{Synth, Check, Upgrade, Sim, Demo, Stay, Patrol}
 use Rattle.command_line.specs.declared.outcome.Refusal.{Refusal}
 use Rattle.command_line.specs.declared.outcome.Refusal.TheVariants.{Malformed, Overflow, Limit, TooManyTurns, Invalid, NoRow}
 use Rattle.command_line.specs.declared.outcome.Outcome.TheVariants.{Done, Usage, Refused, Failed}
-use Rattle.command_outcomes.specs.IsOutcomeFor.{IsAccepted, IsSolvable, HasEdges, turns_of, IsPatrollable, IsRightFor, IsFirstWrong, IsAnswerable, IsRefusalFor}
+use Rattle.command_outcomes.specs.IsOutcomeFor.{IsAccepted, IsSolvable, HasEdges, IsPatrollable, IsRightFor, IsFirstWrong, IsAnswerable, IsRefusalFor}
 use Rattle.command_outcomes.specs.Stages.{SpellPlantWith, IsReadRefusal, IsRefused, IsOverflow, HasManyEdges, IsPlantRefusal, IsPatrolRefusal, IsTextRefusal, AreRight, IsRowsRefusal, IsStartRefusal, AreTableWith, IsRefusedTable, IsTableRefusal, IsStagedRefusal}
 use Rattle.command_outcomes.specs.Traces.{HasRowFor, HasNoRowFor}
 use Rattle.command_outcomes.specs.OutcomeLaws.{OneOutcomePerText}
@@ -141,13 +142,10 @@ plant_exact p plant =
     (λ solvable r f. few_or_many p solvable.0 f.1.0 plant solvable.1 f.1.1 solvable.2 f.1.2))
     (λ solvable. (solvable.1.fits, solvable)) (λ r f. f)
 
-few_or_many_turns : (p : Description) → turns_of p ≤ 2 ^ 22 → 2 ^ 22 < turns_of p → ⊥
-few_or_many_turns p few many = omega (arith, few, many)
-
 patrol_exact : (p : Description) → IsPlant p → IsExact (IsPatrollable p) (IsPatrolRefusal p)
 patrol_exact p plant =
-    one_more (IsSolvable p) (turns_of p ≤ 2 ^ 22) (IsPlantRefusal p) (λ r. (r ≡ TooManyTurns) × IsSolvable p × (2 ^ 22 < turns_of p)) (plant_exact p plant) (λ r f. f.1) (λ r s f g. f.0 ∙ sym g.0)
-    (λ few r f. few_or_many_turns p few f.2)
+    one_more (IsSolvable p) (HasFewTurns p) (IsPlantRefusal p) (λ r. (r ≡ TooManyTurns) × IsSolvable p × (HasFewTurns p → ⊥)) (plant_exact p plant) (λ r f. f.1) (λ r s f g. f.0 ∙ sym g.0)
+    (λ few r f. f.2 few)
 
 -- ---- rows
 

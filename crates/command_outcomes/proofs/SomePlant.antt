@@ -17,10 +17,12 @@ use Rattle.plant_text.proofs.lemmas.LinesLead.{spelled_is_plant}
 use Rattle.successor_box.specs.Deviations.{HasNoOverflow, HasNoOverflowAt, IsFirstOverflow}
 use Rattle.plant_game.specs.Abstraction.{AreEdges}
 use Rattle.plant_game.proofs.EdgeCounts.{games_count_their_edges}
+use Rattle.controller_table.specs.declared.text_kind.TextKind.TheVariants.{Patrol}
+use Rattle.controller_table.proofs.EachKind.{few_or_many}
 use Rattle.controller_table.proofs.FrontEnds.{whole, LimitsEnd, is_within, has_many_vectors, has_many_cells, has_many_pairs, limits_end}
 use Rattle.command_line.specs.declared.outcome.Refusal.{Refusal}
 use Rattle.command_line.specs.declared.outcome.Refusal.TheVariants.{Malformed, Overflow, Limit, TooManyTurns}
-use Rattle.command_outcomes.specs.IsOutcomeFor.{IsAccepted, IsSolvable, HasEdges, turns_of, IsPatrollable}
+use Rattle.command_outcomes.specs.IsOutcomeFor.{IsAccepted, IsSolvable, HasEdges, IsPatrollable}
 use Rattle.command_outcomes.specs.Stages.{IsRefused, IsPlantRefusal, IsPatrolRefusal}
 use Rattle.command_outcomes.proofs.Undeniable.{first_without}
 use Rattle.command_outcomes.proofs.SomeGame.{some_game}
@@ -81,9 +83,9 @@ plant_decided p (has_many_edges many) = inr (Limit Edges, inr (refl, many))
 -- what it demands of a patrol
 pub patrol_decided : (p : Description) → PlantEnd p → IsDecided (IsPatrollable p) (IsPatrolRefusal p)
 patrol_decided p (is_solvable s) =
-    elim (cases_lt (2 ^ 22) (turns_of p)) [
-      | inl many ↦ inr (TooManyTurns, inr (refl, s, many))
-      | inr few ↦ inl (s, few)
+    elim (few_or_many Patrol p) [
+      | inl few ↦ inl (s, few)
+      | inr many ↦ inr (TooManyTurns, inr (refl, s, many))
     ]
 patrol_decided p (overflows i u first) = inr (Overflow i u, inl (inl (i, u, refl, first)))
 patrol_decided p (has_many_edges many) = inr (Limit Edges, inl (inr (refl, many)))

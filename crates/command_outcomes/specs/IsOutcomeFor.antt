@@ -1,13 +1,12 @@
 -- What a text demands: to be refused for the first reason that applies, or to be answered.
-use Rattle.std.specs.Prelude.{◌≡◌, ◌⊎◌, ℕ, ◌*◌, ◌<◌, ◌≤◌, List, length, Option, Some}
+use Rattle.std.specs.Prelude.{◌≡◌, ◌⊎◌, ℕ, ◌<◌, ◌≤◌, List, Option, Some}
 use Rattle.plant_record.specs.declared.limit_kind.LimitKind.{LimitKind}
 use Rattle.plant_record.specs.declared.limit_kind.LimitKind.TheVariants.{Edges}
 use Rattle.plant_text.specs.declared.plant_fault.PlantFault.{PlantFault}
 use Rattle.plant_text.specs.declared.plant_fault.PlantFault.TheVariants as plants
 use Rattle.plant_record.specs.declared.aims.GoalKind.{GoalKind}
 use Rattle.plant_record.specs.declared.aims.GoalKind.TheVariants.{Reach, Keep}
-use Rattle.grid_quantiser.specs.Axes.{cells_of}
-use Rattle.plant_record.specs.Description.{Description, axes_of}
+use Rattle.plant_record.specs.Description.{Description}
 use Rattle.plant_record.specs.Limits.{IsWithinLimits}
 use Rattle.plant_text.specs.Grammar.{Spells}
 use Rattle.plant_text.specs.PlantRefusals.{IsShort, IsRefusedFor}
@@ -22,6 +21,7 @@ use Rattle.controller_table.specs.declared.table_fault.TableFault.{TableFault}
 use Rattle.controller_table.specs.declared.table_fault.TableFault.TheVariants as tables
 use Rattle.controller_table.specs.Tables.{IsTable}
 use Rattle.controller_table.specs.TableRefusals.{IsTableRefusedFor}
+use Rattle.controller_table.specs.TextKinds.{HasFewTurns}
 use Rattle.table_check.specs.Verdicts.{HasItsKeepRow}
 use Rattle.command_line.specs.declared.command.Command.{Command}
 use Rattle.command_line.specs.declared.command.Command.TheVariants.{Synth, Check, Upgrade, Sim, Demo, Stay, Patrol}
@@ -30,7 +30,7 @@ use Rattle.command_line.specs.declared.outcome.Refusal.TheVariants.{Malformed, O
 use Rattle.command_line.specs.declared.outcome.Outcome.{Outcome}
 use Rattle.command_line.specs.declared.outcome.Outcome.TheVariants.{Done, Refused}
 use Rattle.command_outcomes.specs.Traces.{HasRowFor, HasNoRowFor}
-use Rattle.base.specs.declared.limits.TheConstants.{EDGES_LIMIT, TURNS_LIMIT}
+use Rattle.base.specs.declared.limits.TheConstants.{EDGES_LIMIT}
 
 -- ---- a plant within the limits on input vectors, cells and pairs
 
@@ -43,13 +43,9 @@ pub record HasEdges (p : Description) (edges : ℕ) : Type 0 where
 abbrev pub IsSolvable : Description → Type 0
 IsSolvable p = (edges : ℕ) × HasEdges p edges × (edges ≤ EDGES_LIMIT)
 
--- how many pairs of a turn and a cell a patrol of a plant's targets has
-abbrev pub turns_of : Description → ℕ
-turns_of p = cells_of (axes_of p) * length p.targets
-
--- nothing refuses the plant, and these pairs aren't too many
+-- nothing refuses the plant, and its patrol has few enough turns
 abbrev pub IsPatrollable : Description → Type 0
-IsPatrollable p = IsSolvable p × (turns_of p ≤ TURNS_LIMIT)
+IsPatrollable p = IsSolvable p × HasFewTurns p
 
 -- The bytes spell a plant within the limits on a text, on input vectors, on cells and on pairs.
 pub record IsAccepted (bytes : List ℕ) (p : Description) : Type 0 where
@@ -113,7 +109,7 @@ abbrev pub IsRefusalFor : Command → List ℕ → Refusal → Type 0
 IsRefusalFor command bytes (Malformed line) = AreUnreadable command bytes (plants.Malformed line) (tables.Malformed line)
 IsRefusalFor command bytes (Limit what) = AreUnreadable command bytes (plants.Limit what) (tables.Limit what) ⊎ HasTooManyEdges command bytes what
 IsRefusalFor command bytes (Overflow equation input) = (p : Description) × Hold command bytes p × IsFirstOverflow p equation input
-IsRefusalFor (Patrol workers) bytes TooManyTurns = (p : Description) × IsAccepted bytes p × IsSolvable p × (TURNS_LIMIT < turns_of p)
+IsRefusalFor (Patrol workers) bytes TooManyTurns = (p : Description) × IsAccepted bytes p × IsSolvable p × (HasFewTurns p → ⊥)
 IsRefusalFor Check bytes (Invalid cell) = (p : Description) × (rows : List (Option Row)) × IsTable bytes p rows × IsSolvable p × IsFirstWrong p rows cell
 IsRefusalFor (Sim samples seed start) bytes NoRow = (p : Description) × (rows : List (Option Row)) × IsTable bytes p rows × HasNoOverflow p × HasNoRowFor p rows start
 IsRefusalFor command bytes refusal = ⊥

@@ -12,13 +12,14 @@ use Rattle.plant_game.specs.PlantSolution.{IsSolutionOf}
 use Rattle.controller_table.specs.declared.table_fault.TableFault.TheVariants as tables
 use Rattle.controller_table.specs.Tables.{IsTable}
 use Rattle.controller_table.specs.TableRefusals.{IsTableRefusedFor}
+use Rattle.controller_table.specs.TextKinds.{HasFewTurns}
 use Rattle.command_line.specs.declared.command.Command.{Command}
 use Rattle.command_line.specs.declared.command.Command.TheVariants.{Synth, Check, Upgrade, Sim, Demo, Stay, Patrol}
 use Rattle.command_line.specs.declared.outcome.Refusal.{Refusal}
 use Rattle.command_line.specs.declared.outcome.Refusal.TheVariants.{Malformed, Overflow, Limit, TooManyTurns, Invalid, NoRow}
 use Rattle.command_outcomes.specs.Traces.{HasNoRowFor}
-use Rattle.command_outcomes.specs.IsOutcomeFor.{HasEdges, IsSolvable, turns_of, IsAccepted, IsFirstWrong}
-use Rattle.base.specs.declared.limits.TheConstants.{EDGES_LIMIT, TURNS_LIMIT}
+use Rattle.command_outcomes.specs.IsOutcomeFor.{HasEdges, IsSolvable, IsAccepted, IsFirstWrong}
+use Rattle.base.specs.declared.limits.TheConstants.{EDGES_LIMIT}
 
 -- ---- a plant within the limits on input vectors, cells and pairs
 
@@ -34,9 +35,9 @@ HasManyEdges p refusal = (refusal ≡ Limit Edges) × ((edges : ℕ) × HasEdges
 abbrev pub IsPlantRefusal : Description → Refusal → Type 0
 IsPlantRefusal p refusal = IsOverflow p refusal ⊎ HasManyEdges p refusal
 
--- why a plant is refused a patrol: for what refuses it in any case, else for too many of these pairs
+-- why a plant is refused a patrol: for what refuses it in any case, else for too many turns
 abbrev pub IsPatrolRefusal : Description → Refusal → Type 0
-IsPatrolRefusal p refusal = IsPlantRefusal p refusal ⊎ ((refusal ≡ TooManyTurns) × IsSolvable p × (TURNS_LIMIT < turns_of p))
+IsPatrolRefusal p refusal = IsPlantRefusal p refusal ⊎ ((refusal ≡ TooManyTurns) × IsSolvable p × (HasFewTurns p → ⊥))
 
 -- ---- the text of a plant
 

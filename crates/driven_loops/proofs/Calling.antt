@@ -4,8 +4,8 @@ use Rattle.std.specs.Prelude.{ℤ, pos}
 use Rattle.plant_record.specs.Description.{Description}
 use Rattle.text_control.specs.declared.follow.Follow.{Follow}
 use Rattle.text_control.specs.declared.follow.Follow.TheVariants.{Inside, Outside, NoInput, WrongSizes, Overflow}
-use Rattle.text_control.specs.declared.text_fault.TextFault.{TextFault}
-use Rattle.text_control.specs.declared.text_fault.TextFault.TheVariants.{Malformed, Limit, Memory}
+use Rattle.text_control.specs.declared.control_fault.ControlFault.{ControlFault}
+use Rattle.text_control.specs.declared.control_fault.ControlFault.TheVariants.{Malformed, Limit, Memory}
 use Rattle.text_control.specs.Texts.{TextModel, IsReadFrom}
 use Rattle.text_control.specs.Control.{IsRank}
 use Rattle.text_control.specs.Loops.{Answers}
@@ -14,7 +14,7 @@ use Rattle.text_control.specs.Calls.{fault_number, IsOpened, IsRanked, IsFollowe
 use Rattle.driven_loops.specs.Followed.{IsFollowedLoop, IsFollowedPatrolLoop}
 use Rattle.driven_loops.specs.CalledLoops.{IsCalledSample, IsCalledLoop, IsCalledPatrolLoop, CallsAreFollowed}
 
-no_fault : (fault : TextFault) → pos 0 ≡ fault_number fault → ⊥
+no_fault : (fault : ControlFault) → pos 0 ≡ fault_number fault → ⊥
 no_fault (Malformed line) number = absurd (cc)
 no_fault Limit number = absurd (cc)
 no_fault Memory number = absurd (cc)

@@ -5,7 +5,7 @@ use Rattle.controller_table.specs.TableText.{written_version}
 use Rattle.controller_table.specs.Tables.{TableModel}
 use Rattle.temporal_texts.specs.StayText.{StayModel}
 use Rattle.temporal_texts.specs.PatrolText.{PatrolModel}
-use Rattle.text_control.specs.declared.text_fault.TextFault.{TextFault}
+use Rattle.text_control.specs.declared.control_fault.ControlFault.{ControlFault}
 use Rattle.text_control.specs.Texts.{TextModel, of_table, of_stay, of_patrol, IsReadFrom, IsTextRefusedFor}
 use Rattle.text_control.specs.Laws.{HasFewEnoughTurns}
 use Rattle.text_control.proofs.TextRefusals.{read_texts_tell, text_or_refused}
@@ -14,7 +14,7 @@ use Rattle.synth_run.specs.RunClauses.{IsAnswered}
 use Rattle.driven_loops.specs.Laws.{AnswersAreWritten, WrittenTextsAreRead}
 
 -- what was read isn't refused
-both : (text : List ℕ) (t : TextModel) → IsReadFrom text t → HasFewEnoughTurns t → ((m : TextModel) × IsReadFrom text m) × ((f : TextFault) → IsTextRefusedFor text f → ⊥)
+both : (text : List ℕ) (t : TextModel) → IsReadFrom text t → HasFewEnoughTurns t → ((m : TextModel) × IsReadFrom text m) × ((f : ControlFault) → IsTextRefusedFor text f → ⊥)
 both text t read few = ((t, read), λ f refused. text_or_refused text t f (read_texts_tell text t read) few refused)
 
 pub written_texts_are_read : WrittenTextsAreRead

@@ -14,12 +14,12 @@ use std::thread::Threads;
 
 /// The memory in which the game of a goal is solved.
 #[derive(Drop)]
-pub enum Scratch {
+pub enum GoalScratch {
     Reach(reach_avoid::Scratch),
     Keep(safety_game::Scratch),
 }
 
-impl Scratch {
+impl GoalScratch {
     /// Makes the board, for 1 to 64 workers.
     ///
     /// Make it before the source lists are filled, so that they and the list of the board's numbers, whose memory is returned by
@@ -30,7 +30,7 @@ impl Scratch {
         goal: GoalKind,
         forward: &ForwardAbstraction,
         workers: u32,
-    ) -> Result<Scratch, NoMemory>
+    ) -> Result<GoalScratch, NoMemory>
         requires { AreWorkers workers }
         ensures goal { IfOk result (λ scratch. goal_of scratch ≡ goal) }
         ensures board { IfOk result (IsScratchFor (forward_game forward.now)) }
@@ -38,11 +38,11 @@ impl Scratch {
         match goal {
             GoalKind::Reach => {
                 let scratch = reach_avoid::Scratch::new(rt, alloc, forward, workers)?;
-                Ok(Scratch::Reach(scratch))
+                Ok(GoalScratch::Reach(scratch))
             }
             GoalKind::Keep => {
                 let scratch = safety_game::Scratch::new(rt, alloc, forward, workers)?;
-                Ok(Scratch::Keep(scratch))
+                Ok(GoalScratch::Keep(scratch))
             }
         }
     }
@@ -61,8 +61,8 @@ impl Scratch {
         ensures { IsSolvedGame (goal_of self) (game_of game.now) result }
     {
         match self {
-            Scratch::Reach(scratch) => reach_avoid::solve_in(rt, alloc, game, scratch, gate),
-            Scratch::Keep(scratch) => safety_game::keep_in(rt, alloc, game, scratch, gate),
+            GoalScratch::Reach(scratch) => reach_avoid::solve_in(rt, alloc, game, scratch, gate),
+            GoalScratch::Keep(scratch) => safety_game::keep_in(rt, alloc, game, scratch, gate),
         }
     }
 }

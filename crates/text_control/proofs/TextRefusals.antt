@@ -14,7 +14,7 @@ use Rattle.controller_table.proofs.TableTexts.{as_text}
 use Rattle.temporal_texts.proofs.OneStayText.{stay_as_text}
 use Rattle.temporal_texts.proofs.OnePatrolText.{patrol_as_text}
 use Rattle.temporal_texts.proofs.TextLaws as texts
-use Rattle.text_control.specs.declared.text_fault.TextFault.{TextFault}
+use Rattle.text_control.specs.declared.control_fault.ControlFault.{ControlFault}
 use Rattle.text_control.specs.Texts.{TextModel, TellsAs, Tells, HasFirstLine, IsTextRefusedFor, fault_of_table, fault_of_patrol}
 use Rattle.text_control.specs.Laws.{ReadTextsTell, OneTextRefusal, TextOrRefused, NoBytesAreNeither}
 use Rattle.text_control.proofs.TextsRead.{no_stay, no_patrol, not_both}
@@ -41,7 +41,7 @@ one_text_refusal bytes f g (inr (inr h)) (inl k) = absurd (h.0 k.0)
 one_text_refusal bytes f g (inr (inr h)) (inr (inl k)) = absurd (h.1 k.0)
 one_text_refusal bytes f g (inr (inr h)) (inr (inr k)) = h.2.1 ∙ ap fault_of_table (tables.one_refusal bytes h.2.0 k.2.0 h.2.2 k.2.2) ∙ sym k.2.1
 
-refused_as : (kind : TextKind) (bytes : List ℕ) (t : TextModel) (f : TextFault) → TellsAs kind bytes t → (kind ≡ Patrol → HasFewTurns t.plant) → IsTextRefusedFor bytes f → ⊥
+refused_as : (kind : TextKind) (bytes : List ℕ) (t : TextModel) (f : ControlFault) → TellsAs kind bytes t → (kind ≡ Patrol → HasFewTurns t.plant) → IsTextRefusedFor bytes f → ⊥
 refused_as (Table v) bytes t f tells few (inl h) = no_stay tells.version bytes (begins (Table tells.version) bytes t.plant _ (as_text bytes t.plant _ tells)) h.0
 refused_as (Table v) bytes t f tells few (inr (inl h)) = no_patrol tells.version bytes (begins (Table tells.version) bytes t.plant _ (as_text bytes t.plant _ tells)) h.0
 refused_as (Table v) bytes t f tells few (inr (inr h)) = tables.table_or_refused bytes t.plant _ h.2.0 tells h.2.2

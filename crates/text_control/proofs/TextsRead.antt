@@ -7,7 +7,7 @@ use Rattle.plant_record.specs.Description.{Description}
 use Rattle.row_runs.specs.declared.run.TableVersion.{TableVersion}
 use Rattle.controller_table.specs.declared.table_fault.TableFault.{TableFault}
 use Rattle.controller_table.specs.declared.table_fault.TableFault.TheVariants as tables
-use Rattle.controller_table.specs.declared.text_fault.TextFault.{TextFault as RowsFault}
+use Rattle.controller_table.specs.declared.text_fault.TextFault.{TextFault}
 use Rattle.controller_table.specs.declared.text_fault.TextFault.TheVariants as rows
 use Rattle.controller_table.specs.declared.text_kind.TextKind.{TextKind}
 use Rattle.controller_table.specs.declared.text_kind.TextKind.TheVariants.{Table, Stay, Patrol}
@@ -21,7 +21,7 @@ use Rattle.controller_table.proofs.TableTexts.{only_turn, as_text, as_table}
 use Rattle.controller_table.proofs.TextsRead.{refused_among}
 use Rattle.temporal_texts.proofs.OneStayText.{stay_as_text, text_as_stay}
 use Rattle.temporal_texts.proofs.OnePatrolText.{patrol_as_text, text_as_patrol}
-use Rattle.text_control.specs.declared.text_fault.TextFault.TheVariants.{Malformed, Limit}
+use Rattle.text_control.specs.declared.control_fault.ControlFault.TheVariants.{Malformed, Limit}
 use Rattle.text_control.specs.Texts.{TextModel, IsReadFrom, HasFirstLine, IsTextRefusedFor, fault_of_table, fault_of_patrol}
 
 -- ---- what is read
@@ -52,7 +52,7 @@ text_read bytes t (inr (inr h)) = subst (λ (m : TextModel). IsTextOf m.kind byt
 -- ---- why bytes are refused
 
 -- a reason other than the number of turns is one of a table
-without_turns : (Refuses : RowsFault → Type 0) (fault : RowsFault) → (Refuses rows.Turns → ⊥) → (fault ≡ rows.Memory → ⊥) → Refuses fault → (f : TableFault) × (fault_of_patrol fault ≡ fault_of_table f) × Refuses (text_fault f)
+without_turns : (Refuses : TextFault → Type 0) (fault : TextFault) → (Refuses rows.Turns → ⊥) → (fault ≡ rows.Memory → ⊥) → Refuses fault → (f : TableFault) × (fault_of_patrol fault ≡ fault_of_table f) × Refuses (text_fault f)
 without_turns Refuses (rows.Malformed line) few some refused = (tables.Malformed line, refl, refused)
 without_turns Refuses (rows.Limit what) few some refused = (tables.Limit what, refl, refused)
 without_turns Refuses rows.Turns few some refused = absurd (few refused)
@@ -72,7 +72,7 @@ pub not_both : (bytes : List ℕ) → HasFirstLine (first_line Stay) bytes → H
 not_both bytes h m = let e = one_beginning Stay Patrol bytes h m in cc
 
 module _ (bytes : List ℕ) where
-  pub refused_after : (kind : TextKind) (rest : List ℕ) (fault : RowsFault) → bytes ≡ first_line kind ++ rest → length bytes ≤ most_bytes kind → (fault ≡ rows.Memory → ⊥) → IsRefusedAfter kind rest fault → IsTextRefusedFor bytes (fault_of_patrol fault)
+  pub refused_after : (kind : TextKind) (rest : List ℕ) (fault : TextFault) → bytes ≡ first_line kind ++ rest → length bytes ≤ most_bytes kind → (fault ≡ rows.Memory → ⊥) → IsRefusedAfter kind rest fault → IsTextRefusedFor bytes (fault_of_patrol fault)
   refused_after (Table version) rest fault begun short some refused = inr (inr (
     no_stay version bytes (rest, begun),
     no_patrol version bytes (rest, begun),

@@ -1,7 +1,7 @@
 -- What a caller in C is told by the text that is held for it, if any.
 use Rattle.std.specs.Prelude.{◌≡◌, ◌≢◌, ◌⊎◌, ℕ, ◌<◌, ◌≤◌, ℤ, pos, negsuc, List, length, Option, Some, None, true, false}
-use Rattle.text_control.specs.declared.text_fault.TextFault.{TextFault}
-use Rattle.text_control.specs.declared.text_fault.TextFault.TheVariants as faults
+use Rattle.text_control.specs.declared.control_fault.ControlFault.{ControlFault}
+use Rattle.text_control.specs.declared.control_fault.ControlFault.TheVariants as faults
 use Rattle.text_control.specs.Texts.{TextModel, IsReadFrom, IsTextRefusedFor}
 use Rattle.text_control.specs.Control.{EncodesReply, IsRank, IsUnranked}
 use Rattle.text_control.specs.Each.{IsReplyEach}
@@ -9,20 +9,20 @@ use Rattle.text_control.specs.Visits.{with_turn, EncodesVisit}
 use Rattle.text_control.specs.Followed.{EncodesFollow}
 
 -- the status for a fault of a text
-abbrev pub fault_number : TextFault → ℤ
+abbrev pub fault_number : ControlFault → ℤ
 fault_number (faults.Malformed line) = pos 1
 fault_number faults.Limit = pos 2
 fault_number faults.Memory = pos 3
 
 -- the line that a fault names, 0 where it names none
-abbrev pub fault_line : TextFault → ℕ
+abbrev pub fault_line : ControlFault → ℕ
 fault_line (faults.Malformed line) = line
 fault_line faults.Limit = 0
 fault_line faults.Memory = 0
 
 -- Why no text is open.
 pub record IsRefusal (bytes : List ℕ) (status : ℤ) (line : ℕ) : Type 0 where
-  pub fault : TextFault
+  pub fault : ControlFault
   pub number : status ≡ fault_number fault
   pub line_is : line ≡ fault_line fault
   pub refused : fault ≢ faults.Memory → IsTextRefusedFor bytes fault

@@ -9,7 +9,7 @@ use Rattle.controller_table.specs.declared.table_fault.TableFault.{TableFault}
 use Rattle.controller_table.specs.declared.table_fault.TableFault.TheVariants as tables
 use Rattle.controller_table.specs.Tables.{TableModel, IsTable, IsTableIn}
 use Rattle.controller_table.specs.TableRefusals.{IsTableRefusedFor}
-use Rattle.controller_table.specs.declared.text_fault.TextFault.{TextFault as PatrolFault}
+use Rattle.controller_table.specs.declared.text_fault.TextFault.{TextFault}
 use Rattle.controller_table.specs.declared.text_fault.TextFault.TheVariants as patrols
 use Rattle.controller_table.specs.TextKinds.{stay_line}
 use Rattle.temporal_texts.specs.StayText.{StayModel, IsStayText}
@@ -20,8 +20,8 @@ use Rattle.turn_rows.specs.Rows.{rows_for}
 use Rattle.temporal_texts.specs.PatrolRefusals.{IsPatrolRefusedFor}
 use Rattle.controller_table.specs.declared.text_kind.TextKind.{TextKind}
 use Rattle.controller_table.specs.declared.text_kind.TextKind.TheVariants.{Table, Stay, Patrol}
-use Rattle.text_control.specs.declared.text_fault.TextFault.{TextFault}
-use Rattle.text_control.specs.declared.text_fault.TextFault.TheVariants.{Malformed, Limit, Memory}
+use Rattle.text_control.specs.declared.control_fault.ControlFault.{ControlFault}
+use Rattle.text_control.specs.declared.control_fault.ControlFault.TheVariants.{Malformed, Limit, Memory}
 
 -- What a text says, for each turn one optional row for each cell; and the turn that is due. A patrol has a turn for each target,
 -- another text has one.
@@ -71,13 +71,13 @@ IsReadFrom bytes t =
     ⊎ ((patrol : PatrolModel) × (t ≡ of_patrol patrol) × IsPatrolText bytes patrol.plant patrol.rows)
 
 -- a table's fault, or a stay text's
-abbrev pub fault_of_table : TableFault → TextFault
+abbrev pub fault_of_table : TableFault → ControlFault
 fault_of_table (tables.Malformed line) = Malformed line
 fault_of_table (tables.Limit what) = Limit
 fault_of_table tables.Memory = Memory
 
 -- a patrol text's fault
-abbrev pub fault_of_patrol : PatrolFault → TextFault
+abbrev pub fault_of_patrol : TextFault → ControlFault
 fault_of_patrol (patrols.Malformed line) = Malformed line
 fault_of_patrol (patrols.Limit what) = Limit
 fault_of_patrol patrols.Turns = Limit
@@ -89,8 +89,8 @@ HasFirstLine line bytes = (rest : List ℕ) × (bytes ≡ line ++ rest)
 
 -- why bytes are none of the three texts: the reason why they aren't the one that they begin as, which is a table where they
 -- begin as no other
-abbrev pub IsTextRefusedFor : List ℕ → TextFault → Type 0
+abbrev pub IsTextRefusedFor : List ℕ → ControlFault → Type 0
 IsTextRefusedFor bytes fault =
     (HasFirstLine stay_line bytes × ((f : TableFault) × (fault ≡ fault_of_table f) × IsStayRefusedFor bytes f))
-    ⊎ (HasFirstLine patrol_line bytes × ((f : PatrolFault) × (fault ≡ fault_of_patrol f) × IsPatrolRefusedFor bytes f))
+    ⊎ (HasFirstLine patrol_line bytes × ((f : TextFault) × (fault ≡ fault_of_patrol f) × IsPatrolRefusedFor bytes f))
     ⊎ ((HasFirstLine stay_line bytes → ⊥) × (HasFirstLine patrol_line bytes → ⊥) × ((f : TableFault) × (fault ≡ fault_of_table f) × IsTableRefusedFor bytes f))

@@ -9,6 +9,7 @@
 
 mod at_state;
 mod at_states;
+mod control_fault;
 mod follow;
 mod following;
 pub mod laws;
@@ -20,13 +21,13 @@ mod row_words;
 mod rows;
 pub mod statuses;
 mod stretches;
-mod text_fault;
 mod turns;
 mod visits;
 mod word_positions;
 
 pub use at_state::control;
 pub use at_states::control_each;
+pub use control_fault::ControlFault;
 pub use controller_table::TextKind;
 pub use follow::Follow;
 pub use following::follows;
@@ -34,6 +35,5 @@ pub use packed_text::PackedText;
 pub use reading::read_text;
 pub use reply::Reply;
 pub use rows::{rank_at, row_at};
-pub use text_fault::TextFault;
 pub use turns::{begin_turn, visit};
 pub use visits::Visit;

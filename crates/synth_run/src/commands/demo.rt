@@ -15,7 +15,7 @@ use abstraction_table::{ForwardAbstraction, add_sources};
 use command_texts::Text;
 use demo_plants::{demo_line, demo_plant};
 use frontier_pool::Gate;
-use goal_solver::Scratch;
+use goal_solver::GoalScratch;
 use plant_record::GoalKind;
 use std::alloc::Global;
 use std::thread::Threads;
@@ -36,7 +36,7 @@ pub fn demo<R: Threads + Sync, G: Gate>(
     ensures memory { IfErr result (λ stop. stop ≡ without_memory) }
 {
     let forward = demo_forward(rt, alloc, number)?;
-    let scratch = Scratch::new(rt, alloc, GoalKind::Reach, &forward, workers)?;
+    let scratch = GoalScratch::new(rt, alloc, GoalKind::Reach, &forward, workers)?;
     let game = add_sources(rt, alloc, forward)?;
     let solved = scratch.solve(rt, alloc, &game, gate);
     let line = demo_line(alloc, number, &game, &solved.answer)?;

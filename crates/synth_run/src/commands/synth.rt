@@ -12,7 +12,7 @@ use abstraction_table::add_sources;
 use command_texts::Text;
 use controller_table::{RowsText, TableVersion, TextKind};
 use frontier_pool::Gate;
-use goal_solver::Scratch;
+use goal_solver::GoalScratch;
 use std::alloc::Global;
 use std::thread::Threads;
 use text_abstraction::{Stop, forward_of_text};
@@ -30,7 +30,7 @@ pub fn synth<R: Threads + Sync, G: Gate>(
     ensures refused { IfErr result (IsStopFor (IsStagedRefusal (Command.Synth workers) bytes.now)) }
 {
     let (plant, forward) = forward_of_text(rt, alloc, bytes)?;
-    let scratch = Scratch::new(rt, alloc, plant.goal(), &forward, workers)?;
+    let scratch = GoalScratch::new(rt, alloc, plant.goal(), &forward, workers)?;
     let game = add_sources(rt, alloc, forward)?;
     let solved = scratch.solve(rt, alloc, &game, gate);
     let kind = TextKind::Table(TableVersion::Second);

@@ -2,7 +2,7 @@ use Rattle.std.proofs.Common.{◌≡◌, ◌≤◌, ℕ, List, length, sym, ap, 
 use Rattle.base.proofs.Results.{passed_on}
 use Rattle.controller_table.specs.declared.text_kind.TextKind.{TextKind}
 use Rattle.controller_table.specs.KindTexts.{IsTextOf}
-use Rattle.text_control.specs.declared.text_fault.TextFault.TheVariants.{Memory}
+use Rattle.text_control.specs.declared.control_fault.ControlFault.TheVariants.{Memory}
 use Rattle.text_control.specs.Texts.{IsTextRefusedFor, fault_of_patrol}
 use Rattle.text_control.proofs.TextsRead.{read_from, refused_after, too_long, none_too_long, none_begins}
 use Rattle.text_control.proofs.reading.read_text.Goals as goal

@@ -1,8 +1,8 @@
-use controller_table::TextFault as RowsFault;
+use controller_table::TextFault;
 
 /// Why no text was read.
 #[derive(Clone, Copy, Debug, PartialEq, Eq)]
-pub enum TextFault {
+pub enum ControlFault {
     /// The first line that doesn't fit after those before it, counted from 1.
     Malformed { line: u32 },
     /// The text or its plant exceeds a limit.
@@ -11,28 +11,28 @@ pub enum TextFault {
     Memory,
 }
 
-impl From<RowsFault> for TextFault {
+impl From<TextFault> for ControlFault {
     ghost use Rattle.std.specs.Prelude.{◌≡◌};
     ghost use Rattle.text_control.specs.Texts.{fault_of_patrol};
 
     ghost from_gives = { λ fault e. e ≡ fault_of_patrol fault };
 
-    fn from(fault: RowsFault) -> TextFault {
+    fn from(fault: TextFault) -> ControlFault {
         match fault {
-            RowsFault::Malformed { line } => TextFault::Malformed { line },
-            RowsFault::Limit { .. } | RowsFault::Turns => TextFault::Limit,
-            RowsFault::Memory => TextFault::Memory,
+            TextFault::Malformed { line } => ControlFault::Malformed { line },
+            TextFault::Limit { .. } | TextFault::Turns => ControlFault::Limit,
+            TextFault::Memory => ControlFault::Memory,
         }
     }
 }
 
-impl From<base::NoMemory> for TextFault {
+impl From<base::NoMemory> for ControlFault {
     ghost use Rattle.std.specs.Prelude.{◌≡◌};
-    ghost use Rattle.text_control.specs.declared.text_fault.TextFault.TheVariants.{Memory};
+    ghost use Rattle.text_control.specs.declared.control_fault.ControlFault.TheVariants.{Memory};
 
     ghost from_gives = { λ fault e. e ≡ Memory };
 
-    fn from(_none: base::NoMemory) -> TextFault {
-        TextFault::Memory
+    fn from(_none: base::NoMemory) -> ControlFault {
+        ControlFault::Memory
     }
 }
