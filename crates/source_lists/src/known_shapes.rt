@@ -5,8 +5,8 @@ ghost use Rattle.grid_quantiser.specs.Axes.{cells_of, AreAxes};
 ghost use Rattle.successor_box.specs.SuccessorBoxes.{cells_in};
 ghost use Rattle.source_lists.specs.Fans.{ShapeIsCounted};
 ghost use Rattle.source_lists.specs.inside.FanCounts.{KeepsFans};
-ghost use Rattle.source_lists.specs.KnownShapes.{Knows, KnowsBoxes, edges_known, shapes_known};
-ghost use Rattle.source_lists.specs.inside.ListedSegments.{HasRangeFor};
+ghost use Rattle.source_lists.specs.KnownShapes.{Knows, KnowsBoxes, StayKnown, edges_known, shapes_known};
+ghost use Rattle.source_lists.specs.inside.ListedSegments.{HasRangeFor, KeepsSegments};
 ghost use Rattle.plant_game.specs.BoxGame.{IsBox, edges_of};
 ghost use Rattle.base.specs.declared.limits.TheConstants.{CELLS_LIMIT};
 
@@ -43,7 +43,7 @@ impl KnownShapes {
         Ok(KnownShapes { fans, shapes })
     }
 
-    /// Takes in boxes that come next.
+    /// Takes in boxes that come next. After an error nothing is said of the shapes.
     pub fn add(&mut self, grid: &Grid, boxes: &[PairBox]) -> Result<(), AllocError>
         requires grid { AreAxes grid.now }
         requires limit { cells_of grid.now ≤ CELLS_LIMIT }
@@ -53,6 +53,7 @@ impl KnownShapes {
         ensures edges { IfOk result (λ _. edges_known self.new ≡ edges_known self.old + edges_of grid.now boxes.now) }
         ensures known { IfOk result (λ _. Knows grid.now (edges_known self.new) self.new) }
         ensures listed { OnOk result (KnowsBoxes grid.now self.new boxes.now) }
+        ensures kept { OnOk result (StayKnown grid.now self.old self.new) }
     {
         let mut edges = self.fans.edges;
         for b in boxes {
@@ -87,6 +88,7 @@ impl KnownShapes {
         requires fits { edges + length (cells_in grid.now b) < 2 ^ 64 }
         ensures known { IfOk result (λ cells. Knows grid.now (edges + cells) self.new) }
         ensures kept { IfOk result (λ _. KeepsFans grid.now self.old.fans.counts.items self.new.fans.counts.items) }
+        ensures segments { IfOk result (λ _. KeepsSegments grid.now self.old.shapes self.new.shapes) }
         ensures counted { IfOk result (λ _. ShapeIsCounted grid.now self.new.fans.counts.items b) }
         ensures cells { IfOk result (λ cells. cells ≡ length (cells_in grid.now b)) }
     {
@@ -112,6 +114,7 @@ impl KnownShapes {
         requires fits { edges + length (cells_in grid.now (Some b)) < 2 ^ 64 }
         ensures known { IfOk result (λ cells. Knows grid.now (edges + cells) self.new) }
         ensures kept { IfOk result (λ _. KeepsFans grid.now self.old.fans.counts.items self.new.fans.counts.items) }
+        ensures segments { IfOk result (λ _. KeepsSegments grid.now self.old.shapes self.new.shapes) }
         ensures counted { IfOk result (λ _. ShapeIsCounted grid.now self.new.fans.counts.items (Some b)) }
         ensures cells { IfOk result (λ cells. cells ≡ length (cells_in grid.now (Some b))) }
     {
