@@ -39,6 +39,12 @@ as_many axes b moved = ap length moved.cells ∙ length-map (cells_between axes 
 pub is_moved : (axes : List Axis) (o : Option CellBox) (b : CellBox) → o ≡ Some b → AreAxes axes → IsBox axes o → IsShiftedShape axes b.first b.last
 is_moved axes o b is grid ordered = boxes_are_shifted_shapes axes b.first b.last grid (subst (IsBox axes) is ordered)
 
+-- the count that is known for a box is how many cells it has
+pub known_cells : (axes : List Axis) (fans : List ℕ) (o : Option CellBox) (b : CellBox) (cells : ℕ) → o ≡ Some b → AreAxes axes → IsBox axes o → AreShapes axes fans → 1 ≤ cells → cells ≡ get_or fans (b.last - b.first) 0 → cells ≡ length (cells_in axes o)
+known_cells axes fans o b cells is grid ordered shapes some count =
+    let counted = shapes (b.last - b.first) (omega (arith, count, some)) in
+    rw is (count ∙ counted.cells ∙ sym (as_many axes b (is_moved axes o b is grid ordered)))
+
 -- ---- counts of 0 after the others
 
 zeros_sum : (more : List ℕ) → All (λ n. n ≡ 0) more → sum more ≡ 0

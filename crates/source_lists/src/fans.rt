@@ -1,5 +1,5 @@
 //! How many cells boxes have.
-ghost use Rattle.std.specs.Prelude.{◌≡◌, ◌+◌, ◌-◌, ◌*◌, ◌^◌, max, ◌<◌, ◌≤◌, length, sum, Some, IfOk, IfSome};
+ghost use Rattle.std.specs.Prelude.{◌≡◌, ◌+◌, ◌-◌, ◌*◌, ◌^◌, max, ◌<◌, ◌≤◌, length, slice_index, sum, Some, IfOk, IfSome};
 ghost use Rattle.std.specs.List.{All};
 ghost use Rattle.grid_quantiser.specs.Axes.{cells_of, AreAxes};
 ghost use Rattle.successor_box.specs.SuccessorBoxes.{cells_in};
@@ -52,6 +52,19 @@ impl Fans {
         }
     }
 
+    /// How many cells a box has, where those of its shape are counted.
+    #[inline]
+    pub(crate) fn known(&self, b: CellBox) -> Option<u32>
+        requires ordered { b.first ≤ b.last }
+        ensures some { IfSome result (λ cells. 1 ≤ cells) }
+        ensures count { IfSome result (λ cells. cells ≡ slice_index self.now.counts.items (b.last - b.first)) }
+    {
+        match self.counts.get((b.last - b.first) as usize) {
+            Some(cells) if *cells > 0 => Some(*cells),
+            _ => None,
+        }
+    }
+
     /// Makes the count of a distance, 0 if it is new. Those up to the greatest distance of a box are kept, and no memory
     /// past them is touched.
     fn make_count_for(&mut self, distance: usize) -> Result<(), AllocError>
@@ -81,13 +94,10 @@ impl Fans {
         let Some(b) = b else {
             return Ok(0);
         };
-        let distance = (b.last - b.first) as usize;
-        if let Some(known) = self.counts.get(distance) {
-            if *known > 0 {
-                return Ok(*known);
-            }
+        match self.known(b) {
+            Some(cells) => Ok(cells),
+            None => self.count_shape(grid, b),
         }
-        self.count_shape(grid, b)
     }
 
     /// Counts the cells of the shape of a box.

@@ -95,13 +95,10 @@ impl KnownShapes {
         let Some(b) = b else {
             return Ok(0);
         };
-        let distance = (b.last - b.first) as usize;
-        if let Some(known) = self.fans.counts.get(distance) {
-            if *known > 0 {
-                return Ok(*known);
-            }
+        match self.fans.known(b) {
+            Some(cells) => Ok(cells),
+            None => self.add_shape(grid, b, edges),
         }
-        self.add_shape(grid, b, edges)
     }
 
     /// Counts the cells of a box whose shape is new, and lists its segments.
