@@ -1,5 +1,5 @@
 //! How many cells boxes have.
-ghost use Rattle.std.specs.Prelude.{◌≡◌, ◌+◌, ◌-◌, ◌*◌, ◌^◌, max, ◌<◌, ◌≤◌, length, slice_index, sum, Some, IfOk, IfSome};
+ghost use Rattle.std.specs.Prelude.{◌≡◌, ◌+◌, ◌-◌, ◌*◌, ◌^◌, max, ◌<◌, ◌≤◌, [], length, slice_index, sum, Some, IfOk, IfSome};
 ghost use Rattle.std.specs.List.{All};
 ghost use Rattle.grid_quantiser.specs.Axes.{cells_of, AreAxes};
 ghost use Rattle.successor_box.specs.SuccessorBoxes.{cells_in};
@@ -32,6 +32,17 @@ pub struct Fans {
 }
 
 impl Fans {
+    /// Before the first box is counted, with memory for the shapes of a grid of so many cells.
+    pub(crate) fn none(alloc: Global, cells: u32) -> Result<Fans, AllocError>
+        ensures counts { IfOk result (λ fans. fans.counts.items ≡ []) }
+        ensures edges { IfOk result (λ fans. fans.edges ≡ 0) }
+    {
+        Ok(Fans {
+            counts: Vec::with_capacity(alloc, cells as usize)?,
+            edges: 0,
+        })
+    }
+
     /// How many cells all boxes have.
     pub fn edges(&self) -> u64
         ensures { result ≡ edges_counted self.now }
@@ -162,10 +173,7 @@ pub fn count_fans<R: Threads + Sync>(
     { count_part(alloc, grid, part) };
     let size = boxes.len().div_ceil(parts);
     let counted = map_chunks(rt, alloc, boxes, size, &count)?;
-    let mut fans = Fans {
-        counts: Vec::with_capacity(alloc, grid.cells() as usize)?,
-        edges: 0,
-    };
+    let mut fans = Fans::none(alloc, grid.cells())?;
     for part in &counted {
         match part {
             Ok(part) => fans.merge(part)?,
@@ -197,10 +205,7 @@ fn count_part(alloc: Global, grid: &Grid, boxes: &[PairBox]) -> Result<Fans, All
     ensures fans { IfOk result (λ fans. AreFansOf grid.now boxes.now fans.counts.items) }
     ensures edges { IfOk result (λ fans. fans.edges ≡ edges_of grid.now boxes.now) }
 {
-    let mut fans = Fans {
-        counts: Vec::with_capacity(alloc, grid.cells() as usize)?,
-        edges: 0,
-    };
+    let mut fans = Fans::none(alloc, grid.cells())?;
     let mut edges: u64 = 0;
     for b in boxes {
         let cells = fans.count(grid, b.get())?;

@@ -31,13 +31,9 @@ impl KnownShapes {
         ensures edges { IfOk result (λ known. edges_known known ≡ 0) }
         ensures known { IfOk result (Knows grid.now 0) }
     {
-        let cells = grid.cells() as usize;
-        let fans = Fans {
-            counts: Vec::with_capacity(alloc, cells)?,
-            edges: 0,
-        };
+        let fans = Fans::none(alloc, grid.cells())?;
         let shapes = Shapes {
-            ranges: Vec::with_capacity(alloc, cells)?,
+            ranges: Vec::with_capacity(alloc, grid.cells() as usize)?,
             segments: Vec::new(alloc),
         };
         Ok(KnownShapes { fans, shapes })
