@@ -12,9 +12,9 @@ use Rattle.source_lists.specs.declared.shapes.SegmentRange.{SegmentRange}
 use Rattle.source_lists.specs.declared.shapes.Shapes.{Shapes}
 use Rattle.source_lists.specs.declared.known_shapes.KnownShapes.{KnownShapes}
 use Rattle.source_lists.specs.Fans.{IsCounted, ShapeIsCounted}
-use Rattle.source_lists.specs.inside.FanCounts.{KeepsFans, AreSameBut}
+use Rattle.source_lists.specs.inside.FanCounts.{GoesOnIn, KeepsFans, AreSameBut}
 use Rattle.source_lists.specs.KnownShapes.{AreKnown, Knows, edges_known}
-use Rattle.source_lists.specs.inside.ListedSegments.{HasRangeFor, KeepsSegments}
+use Rattle.source_lists.specs.inside.ListedSegments.{KeepsSegments}
 use Rattle.source_lists.specs.Shapes.{cells_from, range_at, segments_at, HasSegmentsAt, HasSegmentsOf, EachBoxHasSegments, EachShapeHasSegments}
 use Rattle.plant_game.specs.BoxGame.{IsBox, edges_of}
 use Rattle.source_lists.proofs.BelowBoxes.{boxes_are_shifted_shapes}
@@ -37,16 +37,16 @@ module _ (axes : List Axis) (edges later : ℕ) (fans after : List ℕ) (s : Sha
   }
 
 -- ranges that stand after the others change none of them
-pub range_kept : (axes : List Axis) (distance : ℕ) (before after : Shapes) → HasRangeFor distance before.ranges.items after.ranges.items → after.segments.items ≡ before.segments.items → KeepsSegments axes before after
-range_kept axes distance before after range same = λ k h.
+pub range_kept : (axes : List Axis) (before after : Shapes) (empty : SegmentRange) → GoesOnIn empty before.ranges.items after.ranges.items → after.segments.items ≡ before.segments.items → KeepsSegments axes before after
+range_kept axes before after empty range same = λ k h.
     let none : SegmentRange = record { from = 0; to = 0 } in
-    let at : range_at after k ≡ range_at before k = ap (λ (rs : List SegmentRange). get_or rs k none) range.same ∙ get_or_append_left before.ranges.items range.more none k h.listed.within in
+    let at : range_at after k ≡ range_at before k = ap (λ (rs : List SegmentRange). get_or rs k none) range.1 ∙ get_or_append_left before.ranges.items range.0 none k h.listed.within in
     let segments : segments_at after k ≡ segments_at before k =
     ap (λ (r : SegmentRange). take (r.to - r.from) (drop r.from after.segments.items)) at ∙ ap (λ (rs : List Segment). take ((range_at before k).to - (range_at before k).from) (drop (range_at before k).from rs)) same
     in
     record {
       listed = record {
-        within = omega (arith, h.listed.within, ap length range.same, length-append before.ranges.items range.more);
+        within = omega (arith, h.listed.within, ap length range.1, length-append before.ranges.items range.0);
         ordered_ends = rw at h.listed.ordered_ends;
         inside = rw at (omega (arith, h.listed.inside, ap length same));
       };

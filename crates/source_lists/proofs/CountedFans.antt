@@ -13,7 +13,7 @@ use Rattle.grid_quantiser.specs.CellBoxes.{IsCellBox, cells_between}
 use Rattle.grid_quantiser.specs.Laws.{IsShiftedShape}
 use Rattle.grid_quantiser.proofs.Suffixes.{some_cells}
 use Rattle.successor_box.specs.SuccessorBoxes.{cells_in}
-use Rattle.source_lists.specs.inside.FanCounts.{GoesOnInZeros, KeepsFans}
+use Rattle.source_lists.specs.inside.FanCounts.{GoesOnIn, KeepsFans}
 use Rattle.source_lists.specs.Fans.{IsCounted, AreShapes, FanIsKnown, AreFansOf}
 use Rattle.plant_game.specs.BoxGame.{IsBox, edges_of}
 use Rattle.base.proofs.Counts.{sum_zeros}
@@ -50,7 +50,7 @@ known_cells axes fans o b cells is grid ordered shapes some count =
 zeros_sum : (more : List ℕ) → All (λ n. n ≡ 0) more → sum more ≡ 0
 zeros_sum more none = sum_zeros (λ n. n) more none
 
-module _ (before after : List ℕ) (on : GoesOnInZeros before after) where
+module _ (before after : List ℕ) (on : GoesOnIn 0 before after) where
   pub same_count : (k : ℕ) → get_or after k 0 ≡ get_or before k 0
   same_count k =
       ap (λ (ns : List ℕ). get_or ns k 0) on.1
@@ -68,7 +68,7 @@ module _ (before after : List ℕ) (on : GoesOnInZeros before after) where
   pub same_sum : sum after ≡ sum before
   same_sum = omega (arith, ap sum on.1, sum_by-append (λ n. n) before on.0, zeros_sum on.0 on.2)
 
-module _ (axes : List Axis) (before after : List ℕ) (on : GoesOnInZeros before after) where
+module _ (axes : List Axis) (before after : List ℕ) (on : GoesOnIn 0 before after) where
   counted_too : (k : ℕ) → IsCounted axes before k → IsCounted axes after k
   counted_too k h = record { shape = h.shape; some = omega (arith, same_count before after on k, h.some); cells = same_count before after on k ∙ h.cells }
 

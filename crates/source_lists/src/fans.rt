@@ -76,18 +76,6 @@ impl Fans {
         }
     }
 
-    /// Makes the count of a distance, 0 if it is new. Those up to the greatest distance of a box are kept, and no memory
-    /// past them is touched.
-    fn make_count_for(&mut self, distance: usize) -> Result<(), AllocError>
-        requires { distance < CELLS_LIMIT }
-        ensures { IfOk result (λ _. Reaches distance self.old.counts.items self.new.counts.items) }
-    {
-        if distance >= self.counts.len() {
-            self.counts.resize(distance + 1, 0)?;
-        }
-        Ok(())
-    }
-
     /// Counts the cells of a box, where those of its shape aren't counted yet.
     #[inline]
     fn count(&mut self, grid: &Grid, b: Option<CellBox>) -> Result<u32, AllocError>
@@ -127,7 +115,7 @@ impl Fans {
         ensures few { IfOk result (λ cells. sum self.new.counts.items ≤ sum self.old.counts.items + cells) }
     {
         let distance = (b.last - b.first) as usize;
-        self.make_count_for(distance)?;
+        make_room(&mut self.counts, distance, 0)?;
         let cells = grid.box_count(b) as u32;
         self.counts[distance] = cells;
         Ok(cells)
@@ -213,6 +201,22 @@ fn count_part(alloc: Global, grid: &Grid, boxes: &[PairBox]) -> Result<Fans, All
     }
     fans.edges = edges;
     Ok(fans)
+}
+
+/// Makes the item of a distance, an empty one if it is new. Those up to the greatest distance of a box are kept, and no
+/// memory past them is touched.
+pub(crate) fn make_room<T: Copy>(
+    items: &mut Vec<T>,
+    distance: usize,
+    empty: T,
+) -> Result<(), AllocError>
+    requires { distance < CELLS_LIMIT }
+    ensures { IfOk result (λ _. Reaches empty distance items.old.items items.new.items) }
+{
+    if distance >= items.len() {
+        items.resize(distance + 1, empty)?;
+    }
+    Ok(())
 }
 
 /// Where there is no count, there is the one that was found, if there is one.

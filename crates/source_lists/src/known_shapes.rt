@@ -6,12 +6,12 @@ ghost use Rattle.successor_box.specs.SuccessorBoxes.{cells_in};
 ghost use Rattle.source_lists.specs.Fans.{ShapeIsCounted};
 ghost use Rattle.source_lists.specs.inside.FanCounts.{KeepsFans};
 ghost use Rattle.source_lists.specs.KnownShapes.{Knows, KnowsBoxes, StayKnown, edges_known, shapes_known};
-ghost use Rattle.source_lists.specs.inside.ListedSegments.{HasRangeFor, KeepsSegments};
+ghost use Rattle.source_lists.specs.inside.ListedSegments.{KeepsSegments};
 ghost use Rattle.plant_game.specs.BoxGame.{IsBox, edges_of};
 ghost use Rattle.base.specs.declared.limits.TheConstants.{CELLS_LIMIT};
 
-use crate::fans::Fans;
-use crate::shapes::{NO_SEGMENTS, SegmentRange, Shapes};
+use crate::fans::{Fans, make_room};
+use crate::shapes::{NO_SEGMENTS, Shapes};
 use base::limits::EDGES_LIMIT;
 use grid_quantiser::{CellBox, Grid};
 use pair_box::PairBox;
@@ -116,19 +116,8 @@ impl KnownShapes {
         if edges + u64::from(cells) > EDGES_LIMIT {
             return Ok(cells);
         }
-        make_range_for(&mut self.shapes.ranges, distance as usize)?;
+        make_room(&mut self.shapes.ranges, distance as usize, NO_SEGMENTS)?;
         self.shapes.push_shape(grid, distance)?;
         Ok(cells)
     }
-}
-
-/// Makes the range of a distance, an empty one if it is new.
-fn make_range_for(ranges: &mut Vec<SegmentRange>, distance: usize) -> Result<(), AllocError>
-    requires { distance < CELLS_LIMIT }
-    ensures { IfOk result (λ _. HasRangeFor distance ranges.old.items ranges.new.items) }
-{
-    if distance >= ranges.len() {
-        ranges.resize(distance + 1, NO_SEGMENTS)?;
-    }
-    Ok(())
 }

@@ -15,8 +15,8 @@ push_shape-requires-clause-few c =
 pub returns-clause-segments : goal.returns-clause-segments
 returns-clause-segments c =
     let before = c.args.self.now.shapes in
-    let reached : Shapes = record { ranges = c.make_range_for.new.ranges; segments = before.segments } in
-    λ k has. c.in_ok-push_shape.ensures.kept k (range_kept c.args.grid.now (c.args.b.last - c.args.b.first) before reached c.in_ok-make_range_for.ensures refl k has)
+    let reached : Shapes = record { ranges = c.make_room.new.items; segments = before.segments } in
+    λ k has. c.in_ok-push_shape.ensures.kept k (range_kept c.args.grid.now before reached _ c.in_ok-make_room.ensures.same refl k has)
 
 pub returns-clause-known : goal.returns-clause-known
 returns-clause-known c =
