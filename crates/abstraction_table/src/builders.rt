@@ -49,15 +49,14 @@ pub fn add_sources<R: Threads + Sync>(
     ensures boxes { IfOk result (λ a. boxes_of a ≡ boxes_forward forward) }
 {
     let boxed = forward.boxed;
-    let found = build_sources(
+    let sources = build_sources(
         rt,
         alloc,
         &boxed.grid,
         boxed.boxes.as_slice(),
         &boxed.fans,
         &forward.shapes,
-    );
-    let sources = found?;
+    )?;
     Ok(Abstraction { boxed, sources })
 }
 

@@ -13,7 +13,7 @@ use Rattle.grid_quantiser.specs.CellBoxes.{IsCellBox, cells_between}
 use Rattle.grid_quantiser.specs.Laws.{IsShiftedShape}
 use Rattle.grid_quantiser.proofs.Suffixes.{some_cells}
 use Rattle.successor_box.specs.SuccessorBoxes.{cells_in}
-use Rattle.source_lists.specs.inside.FanCounts.{GoesOnInZeros, KeepsFans}
+use Rattle.source_lists.specs.inside.FanCounts.{GoesOnIn, KeepsFans}
 use Rattle.source_lists.specs.Fans.{IsCounted, AreShapes, FanIsKnown, AreFansOf}
 use Rattle.plant_game.specs.BoxGame.{IsBox, edges_of}
 use Rattle.base.proofs.Counts.{sum_zeros}
@@ -39,12 +39,18 @@ as_many axes b moved = ap length moved.cells ∙ length-map (cells_between axes 
 pub is_moved : (axes : List Axis) (o : Option CellBox) (b : CellBox) → o ≡ Some b → AreAxes axes → IsBox axes o → IsShiftedShape axes b.first b.last
 is_moved axes o b is grid ordered = boxes_are_shifted_shapes axes b.first b.last grid (subst (IsBox axes) is ordered)
 
+-- the count that is known for a box is how many cells it has
+pub known_cells : (axes : List Axis) (fans : List ℕ) (o : Option CellBox) (b : CellBox) (cells : ℕ) → o ≡ Some b → AreAxes axes → IsBox axes o → AreShapes axes fans → 1 ≤ cells → cells ≡ get_or fans (b.last - b.first) 0 → cells ≡ length (cells_in axes o)
+known_cells axes fans o b cells is grid ordered shapes some count =
+    let counted = shapes (b.last - b.first) (omega (arith, count, some)) in
+    rw is (count ∙ counted.cells ∙ sym (as_many axes b (is_moved axes o b is grid ordered)))
+
 -- ---- counts of 0 after the others
 
 zeros_sum : (more : List ℕ) → All (λ n. n ≡ 0) more → sum more ≡ 0
 zeros_sum more none = sum_zeros (λ n. n) more none
 
-module _ (before after : List ℕ) (on : GoesOnInZeros before after) where
+module _ (before after : List ℕ) (on : GoesOnIn 0 before after) where
   pub same_count : (k : ℕ) → get_or after k 0 ≡ get_or before k 0
   same_count k =
       ap (λ (ns : List ℕ). get_or ns k 0) on.1
@@ -62,7 +68,7 @@ module _ (before after : List ℕ) (on : GoesOnInZeros before after) where
   pub same_sum : sum after ≡ sum before
   same_sum = omega (arith, ap sum on.1, sum_by-append (λ n. n) before on.0, zeros_sum on.0 on.2)
 
-module _ (axes : List Axis) (before after : List ℕ) (on : GoesOnInZeros before after) where
+module _ (axes : List Axis) (before after : List ℕ) (on : GoesOnIn 0 before after) where
   counted_too : (k : ℕ) → IsCounted axes before k → IsCounted axes after k
   counted_too k h = record { shape = h.shape; some = omega (arith, same_count before after on k, h.some); cells = same_count before after on k ∙ h.cells }
 

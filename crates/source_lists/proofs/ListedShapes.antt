@@ -35,6 +35,12 @@ moved_cells first (r ∷ segments) =
     ∙ ap (λ xs. xs ++ map (λ c. first + c) (cells_from 0 segments)) (map-add-range first (0 + r.start) r.len ∙ ap (λ s. range_with_len s r.len) (let e : first + (0 + r.start) ≡ first + r.start = omega arith in e))
     ∙ ap (λ xs. range_with_len (first + r.start) r.len ++ xs) (moved_cells first segments)
 
+moved_back : (first : ℕ) (cells : List ℕ) → map (λ c. c - first) (map (λ c. first + c) cells) ≡ cells
+moved_back first [] = refl
+moved_back first (c ∷ cells) =
+    let back : first + c - first ≡ c = omega arith in
+    λ i. back i ∷ moved_back first cells i
+
 -- the segments of the shape of a box are its own
 pub box_segments : (axes : List Axis) (s : Shapes) (b : CellBox) → IsShiftedShape axes b.first b.last → HasSegmentsAt axes s (b.last - b.first) → HasSegmentsOf axes s b
 box_segments axes s b moved h = record {
@@ -43,6 +49,18 @@ box_segments axes s b moved h = record {
   some = h.some;
   cells = moved.cells ∙ ap (map (λ c. b.first + c)) h.cells ∙ moved_cells b.first (segments_at s (b.last - b.first));
 }
+
+-- and the other way round
+pub shape_segments : (axes : List Axis) (s : Shapes) (b : CellBox) → IsShiftedShape axes b.first b.last → HasSegmentsOf axes s b → HasSegmentsAt axes s (b.last - b.first)
+shape_segments axes s b moved h =
+    let segments = segments_at s (b.last - b.first) in
+    record {
+      listed = h.listed;
+      some = h.some;
+      cells = sym (moved_back b.first (cells_between axes 0 (b.last - b.first)))
+          ∙ ap (map (λ c. c - b.first)) (sym moved.cells ∙ h.cells ∙ sym (moved_cells b.first segments))
+          ∙ moved_back b.first (cells_from 0 segments);
+    }
 
 -- ---- one more shape
 

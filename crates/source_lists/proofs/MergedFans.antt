@@ -11,7 +11,7 @@ use Rattle.grid_quantiser.specs.declared.axis.Axis.{Axis}
 use Rattle.grid_quantiser.specs.declared.boxes.CellBox.{CellBox}
 use Rattle.grid_quantiser.specs.Axes.{cells_of, AreAxes}
 use Rattle.successor_box.specs.SuccessorBoxes.{cells_in}
-use Rattle.source_lists.specs.inside.FanCounts.{GoesOnInZeros, known_count, AreMerged, CountBoxes}
+use Rattle.source_lists.specs.inside.FanCounts.{GoesOnIn, known_count, AreMerged, CountBoxes}
 use Rattle.source_lists.specs.Fans.{IsCounted, AreShapes, HasFan, FanIsKnown, AreFansOf}
 use Rattle.plant_game.specs.BoxGame.{IsBox, edges_of}
 use Rattle.source_lists.proofs.CountedFans.{same_count, same_sum, counted_within}
@@ -86,7 +86,7 @@ filled_all before other after n whole h = record {
 -- ---- room for the counts of other boxes
 
 -- counts of 0 stand after those before
-resized : (before : List ℕ) (n : ℕ) → length before ≤ n → GoesOnInZeros before (take n before ++ replicate (n - length before) 0)
+resized : (before : List ℕ) (n : ℕ) → length before ≤ n → GoesOnIn 0 before (take n before ++ replicate (n - length before) 0)
 resized before n le = (
   replicate (n - length before) 0,
   ap (λ (ns : List ℕ). ns ++ replicate (n - length before) 0) (take_all n before le),
@@ -102,7 +102,7 @@ pub merged_in_room : (before other now after : List ℕ) (n : ℕ) → n ≡ max
     AreMerged now other after → AreMerged before other after
 merged_in_room before other now after n most room long h =
     let le : length before ≤ n = omega (arith, most) in
-    let on = subst (GoesOnInZeros before) (sym room) (resized before n le) in
+    let on = subst (GoesOnIn 0 before) (sym room) (resized before n le) in
     record {
       few = omega (arith, h.few, long, most);
       each = λ d. h.each d ∙ ap (λ (k : ℕ). known_count k (get_or other d 0)) (same_count before now on d);

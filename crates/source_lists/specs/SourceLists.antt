@@ -54,7 +54,3 @@ HasRowFor s c = HasRow s.size s.groups.items s.bands.items c
 -- the row of a cell
 abbrev pub row_for : Sources → ℕ → List ℕ
 row_for s c = row_at (band_of s.size s.groups.items s.bands.items c) (slot_in_band s.size s.groups.items c)
-
--- how many bands there are
-abbrev pub bands_in : Sources → ℕ
-bands_in s = length s.bands.items

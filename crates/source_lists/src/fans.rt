@@ -1,5 +1,5 @@
 //! How many cells boxes have.
-ghost use Rattle.std.specs.Prelude.{◌≡◌, ◌+◌, ◌-◌, ◌*◌, ◌^◌, max, ◌<◌, ◌≤◌, length, sum, Some, IfOk, IfSome};
+ghost use Rattle.std.specs.Prelude.{◌≡◌, ◌+◌, ◌-◌, ◌*◌, ◌^◌, max, ◌<◌, ◌≤◌, [], length, slice_index, sum, Some, IfOk, IfSome};
 ghost use Rattle.std.specs.List.{All};
 ghost use Rattle.grid_quantiser.specs.Axes.{cells_of, AreAxes};
 ghost use Rattle.successor_box.specs.SuccessorBoxes.{cells_in};
@@ -32,6 +32,17 @@ pub struct Fans {
 }
 
 impl Fans {
+    /// Before the first box is counted, with memory for the shapes of a grid of so many cells.
+    pub(crate) fn none(alloc: Global, cells: u32) -> Result<Fans, AllocError>
+        ensures counts { IfOk result (λ fans. fans.counts.items ≡ []) }
+        ensures edges { IfOk result (λ fans. fans.edges ≡ 0) }
+    {
+        Ok(Fans {
+            counts: Vec::with_capacity(alloc, cells as usize)?,
+            edges: 0,
+        })
+    }
+
     /// How many cells all boxes have.
     pub fn edges(&self) -> u64
         ensures { result ≡ edges_counted self.now }
@@ -52,16 +63,17 @@ impl Fans {
         }
     }
 
-    /// Makes the count of a distance, 0 if it is new. Those up to the greatest distance of a box are kept, and no memory
-    /// past them is touched.
-    fn make_count_for(&mut self, distance: usize) -> Result<(), AllocError>
-        requires { distance < CELLS_LIMIT }
-        ensures { IfOk result (λ _. Reaches distance self.old.counts.items self.new.counts.items) }
+    /// How many cells a box has, where those of its shape are counted.
+    #[inline]
+    pub(crate) fn known(&self, b: CellBox) -> Option<u32>
+        requires ordered { b.first ≤ b.last }
+        ensures some { IfSome result (λ cells. 1 ≤ cells) }
+        ensures count { IfSome result (λ cells. cells ≡ slice_index self.now.counts.items (b.last - b.first)) }
     {
-        if distance >= self.counts.len() {
-            self.counts.resize(distance + 1, 0)?;
+        match self.counts.get((b.last - b.first) as usize) {
+            Some(cells) if *cells > 0 => Some(*cells),
+            _ => None,
         }
-        Ok(())
     }
 
     /// Counts the cells of a box, where those of its shape aren't counted yet.
@@ -81,13 +93,10 @@ impl Fans {
         let Some(b) = b else {
             return Ok(0);
         };
-        let distance = (b.last - b.first) as usize;
-        if let Some(known) = self.counts.get(distance) {
-            if *known > 0 {
-                return Ok(*known);
-            }
+        match self.known(b) {
+            Some(cells) => Ok(cells),
+            None => self.count_shape(grid, b),
         }
-        self.count_shape(grid, b)
     }
 
     /// Counts the cells of the shape of a box.
@@ -106,7 +115,7 @@ impl Fans {
         ensures few { IfOk result (λ cells. sum self.new.counts.items ≤ sum self.old.counts.items + cells) }
     {
         let distance = (b.last - b.first) as usize;
-        self.make_count_for(distance)?;
+        make_room(&mut self.counts, distance, 0)?;
         let cells = grid.box_count(b) as u32;
         self.counts[distance] = cells;
         Ok(cells)
@@ -152,10 +161,7 @@ pub fn count_fans<R: Threads + Sync>(
     { count_part(alloc, grid, part) };
     let size = boxes.len().div_ceil(parts);
     let counted = map_chunks(rt, alloc, boxes, size, &count)?;
-    let mut fans = Fans {
-        counts: Vec::with_capacity(alloc, grid.cells() as usize)?,
-        edges: 0,
-    };
+    let mut fans = Fans::none(alloc, grid.cells())?;
     for part in &counted {
         match part {
             Ok(part) => fans.merge(part)?,
@@ -187,10 +193,7 @@ fn count_part(alloc: Global, grid: &Grid, boxes: &[PairBox]) -> Result<Fans, All
     ensures fans { IfOk result (λ fans. AreFansOf grid.now boxes.now fans.counts.items) }
     ensures edges { IfOk result (λ fans. fans.edges ≡ edges_of grid.now boxes.now) }
 {
-    let mut fans = Fans {
-        counts: Vec::with_capacity(alloc, grid.cells() as usize)?,
-        edges: 0,
-    };
+    let mut fans = Fans::none(alloc, grid.cells())?;
     let mut edges: u64 = 0;
     for b in boxes {
         let cells = fans.count(grid, b.get())?;
@@ -198,6 +201,22 @@ fn count_part(alloc: Global, grid: &Grid, boxes: &[PairBox]) -> Result<Fans, All
     }
     fans.edges = edges;
     Ok(fans)
+}
+
+/// Makes the item of a distance, an empty one if it is new. Those up to the greatest distance of a box are kept, and no
+/// memory past them is touched.
+pub(crate) fn make_room<T: Copy>(
+    items: &mut Vec<T>,
+    distance: usize,
+    empty: T,
+) -> Result<(), AllocError>
+    requires { distance < CELLS_LIMIT }
+    ensures { IfOk result (λ _. Reaches empty distance items.old.items items.new.items) }
+{
+    if distance >= items.len() {
+        items.resize(distance + 1, empty)?;
+    }
+    Ok(())
 }
 
 /// Where there is no count, there is the one that was found, if there is one.

@@ -5,13 +5,13 @@ ghost use Rattle.grid_quantiser.specs.Axes.{cells_of, AreAxes};
 ghost use Rattle.successor_box.specs.SuccessorBoxes.{cells_in};
 ghost use Rattle.source_lists.specs.Fans.{ShapeIsCounted};
 ghost use Rattle.source_lists.specs.inside.FanCounts.{KeepsFans};
-ghost use Rattle.source_lists.specs.KnownShapes.{Knows, KnowsBoxes, edges_known, shapes_known};
-ghost use Rattle.source_lists.specs.inside.ListedSegments.{HasRangeFor};
+ghost use Rattle.source_lists.specs.KnownShapes.{Knows, KnowsBoxes, StayKnown, edges_known, shapes_known};
+ghost use Rattle.source_lists.specs.inside.ListedSegments.{KeepsSegments};
 ghost use Rattle.plant_game.specs.BoxGame.{IsBox, edges_of};
 ghost use Rattle.base.specs.declared.limits.TheConstants.{CELLS_LIMIT};
 
-use crate::fans::Fans;
-use crate::shapes::{NO_SEGMENTS, SegmentRange, Shapes};
+use crate::fans::{Fans, make_room};
+use crate::shapes::{NO_SEGMENTS, Shapes};
 use base::limits::EDGES_LIMIT;
 use grid_quantiser::{CellBox, Grid};
 use pair_box::PairBox;
@@ -31,19 +31,15 @@ impl KnownShapes {
         ensures edges { IfOk result (λ known. edges_known known ≡ 0) }
         ensures known { IfOk result (Knows grid.now 0) }
     {
-        let cells = grid.cells() as usize;
-        let fans = Fans {
-            counts: Vec::with_capacity(alloc, cells)?,
-            edges: 0,
-        };
+        let fans = Fans::none(alloc, grid.cells())?;
         let shapes = Shapes {
-            ranges: Vec::with_capacity(alloc, cells)?,
+            ranges: Vec::with_capacity(alloc, grid.cells() as usize)?,
             segments: Vec::new(alloc),
         };
         Ok(KnownShapes { fans, shapes })
     }
 
-    /// Takes in boxes that come next.
+    /// Takes in boxes that come next. After an error nothing is said of the shapes.
     pub fn add(&mut self, grid: &Grid, boxes: &[PairBox]) -> Result<(), AllocError>
         requires grid { AreAxes grid.now }
         requires limit { cells_of grid.now ≤ CELLS_LIMIT }
@@ -53,6 +49,7 @@ impl KnownShapes {
         ensures edges { IfOk result (λ _. edges_known self.new ≡ edges_known self.old + edges_of grid.now boxes.now) }
         ensures known { IfOk result (λ _. Knows grid.now (edges_known self.new) self.new) }
         ensures listed { OnOk result (KnowsBoxes grid.now self.new boxes.now) }
+        ensures kept { OnOk result (StayKnown grid.now self.old self.new) }
     {
         let mut edges = self.fans.edges;
         for b in boxes {
@@ -87,19 +84,17 @@ impl KnownShapes {
         requires fits { edges + length (cells_in grid.now b) < 2 ^ 64 }
         ensures known { IfOk result (λ cells. Knows grid.now (edges + cells) self.new) }
         ensures kept { IfOk result (λ _. KeepsFans grid.now self.old.fans.counts.items self.new.fans.counts.items) }
+        ensures segments { IfOk result (λ _. KeepsSegments grid.now self.old.shapes self.new.shapes) }
         ensures counted { IfOk result (λ _. ShapeIsCounted grid.now self.new.fans.counts.items b) }
         ensures cells { IfOk result (λ cells. cells ≡ length (cells_in grid.now b)) }
     {
         let Some(b) = b else {
             return Ok(0);
         };
-        let distance = (b.last - b.first) as usize;
-        if let Some(known) = self.fans.counts.get(distance) {
-            if *known > 0 {
-                return Ok(*known);
-            }
+        match self.fans.known(b) {
+            Some(cells) => Ok(cells),
+            None => self.add_shape(grid, b, edges),
         }
-        self.add_shape(grid, b, edges)
     }
 
     /// Counts the cells of a box whose shape is new, and lists its segments.
@@ -112,6 +107,7 @@ impl KnownShapes {
         requires fits { edges + length (cells_in grid.now (Some b)) < 2 ^ 64 }
         ensures known { IfOk result (λ cells. Knows grid.now (edges + cells) self.new) }
         ensures kept { IfOk result (λ _. KeepsFans grid.now self.old.fans.counts.items self.new.fans.counts.items) }
+        ensures segments { IfOk result (λ _. KeepsSegments grid.now self.old.shapes self.new.shapes) }
         ensures counted { IfOk result (λ _. ShapeIsCounted grid.now self.new.fans.counts.items (Some b)) }
         ensures cells { IfOk result (λ cells. cells ≡ length (cells_in grid.now (Some b))) }
     {
@@ -120,19 +116,8 @@ impl KnownShapes {
         if edges + u64::from(cells) > EDGES_LIMIT {
             return Ok(cells);
         }
-        make_range_for(&mut self.shapes.ranges, distance as usize)?;
+        make_room(&mut self.shapes.ranges, distance as usize, NO_SEGMENTS)?;
         self.shapes.push_shape(grid, distance)?;
         Ok(cells)
     }
-}
-
-/// Makes the range of a distance, an empty one if it is new.
-fn make_range_for(ranges: &mut Vec<SegmentRange>, distance: usize) -> Result<(), AllocError>
-    requires { distance < CELLS_LIMIT }
-    ensures { IfOk result (λ _. HasRangeFor distance ranges.old.items ranges.new.items) }
-{
-    if distance >= ranges.len() {
-        ranges.resize(distance + 1, NO_SEGMENTS)?;
-    }
-    Ok(())
 }

@@ -8,7 +8,7 @@ ghost use Rattle.source_lists.specs.inside.CellRanges.{AreRangesOf};
 ghost use Rattle.source_lists.specs.Fans.{counts_of, AreFansOf};
 ghost use Rattle.source_lists.specs.Shapes.{EachBoxHasSegments};
 ghost use Rattle.plant_game.specs.BoxGame.{IsBox, edges_of};
-ghost use Rattle.source_lists.specs.SourceLists.{AreSourcesOf, HasRowFor, row_for, bands_in};
+ghost use Rattle.source_lists.specs.SourceLists.{AreSourcesOf, HasRowFor, row_for};
 ghost use Rattle.source_lists.specs.inside.BandRows.{HasBandRows, HoldBands};
 ghost use Rattle.base.specs.declared.limits.TheConstants.{CELLS_LIMIT, EDGES_LIMIT, PAIRS_LIMIT};
 
@@ -58,8 +58,7 @@ pub fn build_sources<R: Threads + Sync>(
     requires segments { EachBoxHasSegments grid.now shapes.now boxes.now }
     requires pairs { length boxes.now ≤ PAIRS_LIMIT }
     requires edges { edges_of grid.now boxes.now ≤ EDGES_LIMIT }
-    ensures each { IfOk result (AreSourcesOf grid.now boxes.now) }
-    ensures few { IfOk result (λ s. bands_in s ≤ BANDS_LIMIT) }
+    ensures { IfOk result (AreSourcesOf grid.now boxes.now) }
 {
     let cuts = build_cuts(rt, alloc, grid.cells(), boxes, fans)?;
     let groups = cuts.groups(alloc, grid.cells())?;

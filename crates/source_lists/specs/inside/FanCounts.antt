@@ -6,15 +6,15 @@ use Rattle.grid_quantiser.specs.declared.boxes.CellBox.{CellBox}
 use Rattle.plant_game.specs.BoxGame.{edges_of}
 use Rattle.source_lists.specs.Fans.{IsCounted, AreShapes, AreFansOf}
 
--- counts of 0 stand after those before
-abbrev pub GoesOnInZeros : List ℕ → List ℕ → Type 0
-GoesOnInZeros before after = (more : List ℕ) × (after ≡ before ++ more) × All (λ n. n ≡ 0) more
+-- one and the same item stands after those before
+abbrev pub GoesOnIn : {A : Type 0} → A → List A → List A → Type 0
+GoesOnIn empty before after = (more : List _) × (after ≡ before ++ more) × All (λ item. item ≡ empty) more
 
--- Counts of 0 stand after those before, as far as a distance.
-pub record Reaches (distance : ℕ) (before after : List ℕ) : Type 0 where
-  pub within : distance < length after
-  pub few : length after ≤ max (length before) (distance + 1)
-  pub same : GoesOnInZeros before after
+-- An empty item stands after those before, as far as an index.
+pub record Reaches {A : Type 0} (empty : A) (index : ℕ) (before after : List A) : Type 0 where
+  pub within : index < length after
+  pub few : length after ≤ max (length before) (index + 1)
+  pub same : GoesOnIn empty before after
 
 -- Each shape that was counted still is, and each count but 0 is that of a shape.
 pub record KeepsFans (axes : List Axis) (before after : List ℕ) : Type 0 where

@@ -1,9 +1,8 @@
 -- How segments are listed, shape by shape.
-use Rattle.std.specs.Prelude.{◌≡◌, ℕ, ◌<◌, ◌≤◌, List, ◌++◌, length}
+use Rattle.std.specs.Prelude.{◌≡◌, ℕ, ◌≤◌, List, ◌++◌, length}
 use Rattle.std.specs.List.{All}
 use Rattle.grid_quantiser.specs.declared.axis.Axis.{Axis}
 use Rattle.source_lists.specs.declared.shapes.Segment.{Segment}
-use Rattle.source_lists.specs.declared.shapes.SegmentRange.{SegmentRange}
 use Rattle.source_lists.specs.declared.shapes.Shapes.{Shapes}
 use Rattle.source_lists.specs.Shapes.{cells_from, HasSegmentsAt}
 
@@ -18,9 +17,3 @@ pub record ListsSegments (before after : List Segment) (cells : List ℕ) : Type
   pub some : All (λ (r : Segment). 1 ≤ r.len) more
   pub parts : cells ≡ cells_from 0 more
   pub few : length more ≤ length cells
-
--- Ranges stand after those before, as far as a distance.
-pub record HasRangeFor (distance : ℕ) (before after : List SegmentRange) : Type 0 where
-  pub within : distance < length after
-  pub more : List SegmentRange
-  pub same : after ≡ before ++ more

@@ -14,7 +14,7 @@ overflow_add-edges c =
     let boxes = c.args.boxes.now in
     let box = kept_box boxes c.loop-b.b-index c.get.result c.b-item.result c.get.ensures c.b-item.is c.loop-b-test.true in
     let count = rw box at c.in_ok-cells.ensures.cells in
-    omega (arith, c.from.ensures, count, c.loop-b.invariant.edges_so_far, sum_by_more_le (λ b. length (cells_in axes b)) boxes c.loop-b.b-index None c.loop-b-test.true, edges_fit axes boxes c.requires.grid c.requires.ordered c.cells.ensures.limit c.requires.limit)
+    omega (arith, c.from-edges.ensures, count, c.loop-b.invariant.edges_so_far, sum_by_more_le (λ b. length (cells_in axes b)) boxes c.loop-b.b-index None c.loop-b-test.true, edges_fit axes boxes c.requires.grid c.requires.ordered c.cells.ensures.limit c.requires.limit)
 
 pub loop-b-preserved : goal.loop-b-preserved
 loop-b-preserved c =
@@ -24,7 +24,7 @@ loop-b-preserved c =
     let box = kept_box boxes c.loop-b.b-index c.get.result c.b-item.result c.get.ensures c.b-item.is c.loop-b-test.true in
     let here = subst (λ (o : Option CellBox). IfSome o (λ (b : CellBox). IsCounted axes c.count.new.self.counts.items (b.last - b.first))) box counted.counted in
     let cells = counted.cells ∙ ap (λ (o : Option CellBox). length (cells_in axes o)) box in
-    rw c.from.ensures
+    rw c.from-edges.ensures
     (fans_more axes boxes c.loop-b.b-index c.loop-b.fans.counts.items c.count.new.self.counts.items c.loop-b.edges c.in_ok-cells.cells c.loop-b-test.true c.loop-b.invariant counted.distances counted.kept here cells counted.few)
 
 pub returns-clause-fans : goal.returns-clause-fans

@@ -1,15 +1,9 @@
-use Rattle.std.proofs.Common.{◌≡◌, ℕ, ◌-◌, ◌∙◌, List, get_or, sym, ap, arith}
-use Rattle.source_lists.proofs.CountedFans.{as_many, is_moved}
+use Rattle.source_lists.proofs.CountedFans.{is_moved, known_cells}
 use Rattle.source_lists.proofs.fans.Fans.count.Goals as goal
 
-pub overflow_sub-distance : goal.overflow_sub-distance
-overflow_sub-distance c = (is_moved c.args.grid.now c.args.b c.in-Some.b c.in-Some.is c.requires.grid c.requires.ordered).ordered
+pub known-requires : goal.known-requires
+known-requires c = record { ordered = (is_moved c.args.grid.now c.args.b c.in-Some.b c.in-Some.is c.requires.grid c.requires.ordered).ordered }
 
-pub returns-then-known-gt0-clause-cells : goal.returns-then-known-gt0-clause-cells
-returns-then-known-gt0-clause-cells c =
-    let b = c.in-Some.b in
-    let counts = c.args.self.now.counts.items in
-    let read : c.in-Some-get.known.now ≡ get_or counts (b.last - b.first) 0 = c.in-Some-get.ensures.lookup.3.1 0 ∙ ap (λ (ns : List ℕ). get_or ns (b.last - b.first) 0) c.deref.ensures.value in
-    let counted = c.requires.shapes (b.last - b.first) (omega (arith, read, c.if-known-gt0.true)) in
-    let moved = is_moved c.args.grid.now c.args.b b c.in-Some.is c.requires.grid c.requires.ordered in
-    rw c.in-Some.is (read ∙ counted.cells ∙ sym (as_many c.args.grid.now b moved))
+pub returns-in-Some-known-clause-cells : goal.returns-in-Some-known-clause-cells
+returns-in-Some-known-clause-cells c =
+    known_cells c.args.grid.now c.args.self.now.counts.items c.args.b c.in-Some.b c.in-Some-known.cells c.in-Some.is c.requires.grid c.requires.ordered c.requires.shapes c.in-Some-known.ensures.some c.in-Some-known.ensures.count
