@@ -113,15 +113,15 @@ fn some_rows(alloc: Global) -> Result<Answer, Fail> {
     Ok(rows)
 }
 
-fn are_lines(alloc: Global, words: RowFormat, lines: &[u8]) -> Result<bool, Fail> {
+fn are_lines(alloc: Global, format: RowFormat, lines: &[u8]) -> Result<bool, Fail> {
     let rows = some_rows(alloc)?;
-    let written = text_of_pieces(alloc, &mut RunLines::new(words, &rows), 10)?;
+    let written = text_of_pieces(alloc, &mut RunLines::new(format, &rows), 10)?;
     Ok(written.as_slice() == lines)
 }
 
 /// A dash at rank 0, a number there, and no ranks.
 #[test]
-fn words_tell_rows_in_three_ways(rt: HostRuntime) -> Result<(), Fail> {
+fn formats_give_rows_in_three_ways(rt: HostRuntime) -> Result<(), Fail> {
     let alloc = rt.alloc();
     assert!(rt;
         are_lines(alloc, RowFormat::InputAboveZero, b"0 1 0 -\n3 3 12 0\n")?

@@ -47,7 +47,7 @@ fn the_least_128_bit_number_is_out_of_range(rt: HostRuntime) {
 
 /// min(|x0|, max(x1 / 4, x0 - 3)) at x1 = -7, where -7 / 4 is -1.75 and its floor -2: at x0 = -9 the lesser of 9 and
 /// max(-2, -12), at 5 of 5 and max(-2, 2), at 20 of 20 and max(-2, 17).
-fn rows_have_their_values(alloc: Global) -> Result<bool, AllocError> {
+fn lanes_have_their_values(alloc: Global) -> Result<bool, AllocError> {
     let quarter = Expr::Div(Box::new(alloc, Expr::Var(1))?, 4);
     let difference = Expr::Sub(
         Box::new(alloc, Expr::Var(0))?,
@@ -73,13 +73,13 @@ fn rows_have_their_values(alloc: Global) -> Result<bool, AllocError> {
 }
 
 #[test]
-fn each_row_has_its_own_value(rt: HostRuntime) -> Result<(), Fail> {
-    assert!(rt; rows_have_their_values(rt.alloc())?);
+fn each_lane_has_its_own_value(rt: HostRuntime) -> Result<(), Fail> {
+    assert!(rt; lanes_have_their_values(rt.alloc())?);
     Ok(())
 }
 
 /// -2^62 * 2 is -2^63, the least number of 64 bits, and 2^62 * 2 is 2^63, one more than 64 bits hold.
-fn one_row_decides(alloc: Global) -> Result<bool, AllocError> {
+fn one_lane_decides(alloc: Global) -> Result<bool, AllocError> {
     let double = Expr::Mul(
         Box::new(alloc, Expr::Var(0))?,
         Box::new(alloc, Expr::Num(2))?,
@@ -102,13 +102,13 @@ fn one_row_decides(alloc: Global) -> Result<bool, AllocError> {
 }
 
 #[test]
-fn one_row_past_64_bits_leaves_no_answer(rt: HostRuntime) -> Result<(), Fail> {
-    assert!(rt; one_row_decides(rt.alloc())?);
+fn one_lane_past_64_bits_leaves_no_answer(rt: HostRuntime) -> Result<(), Fail> {
+    assert!(rt; one_lane_decides(rt.alloc())?);
     Ok(())
 }
 
 /// ((x1 + (x0 + x0)) + 3 * x3) - x2 mentions the first four variables, and shifts with x1 alone: with x0 it shifts twice as far.
-fn only_a_summand_of_its_own_moves(alloc: Global) -> Result<bool, AllocError> {
+fn only_a_summand_of_its_own_shifts(alloc: Global) -> Result<bool, AllocError> {
     let double = Expr::Add(
         Box::new(alloc, Expr::Var(0))?,
         Box::new(alloc, Expr::Var(0))?,
@@ -131,8 +131,8 @@ fn only_a_summand_of_its_own_moves(alloc: Global) -> Result<bool, AllocError> {
 }
 
 #[test]
-fn a_difference_moves_with_a_summand_of_its_own(rt: HostRuntime) -> Result<(), Fail> {
-    assert!(rt; only_a_summand_of_its_own_moves(rt.alloc())?);
+fn a_difference_shifts_with_a_summand_of_its_own(rt: HostRuntime) -> Result<(), Fail> {
+    assert!(rt; only_a_summand_of_its_own_shifts(rt.alloc())?);
     Ok(())
 }
 

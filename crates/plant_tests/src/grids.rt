@@ -3,7 +3,7 @@
 use grid_quantiser::{Axis, CellBox, Extent, Grid, Point};
 
 /// Five cells of three numbers: 0 to 2, 3 to 5, 6 to 8, 9 to 11 and 12 to 14.
-const ROW: [Axis; 1] = [Axis {
+const LINE: [Axis; 1] = [Axis {
     lo: 0,
     width: 3,
     count: 5,
@@ -30,7 +30,7 @@ const LONG: Axis = Axis {
     count: 1 << 20,
 };
 
-fn on_row(x: i128) -> Point {
+fn on_line(x: i128) -> Point {
     [x, 0, 0, 0, 0, 0]
 }
 
@@ -55,16 +55,16 @@ fn more_than_2_to_20_cells_are_refused(rt: HostRuntime) {
 }
 
 fn cells_of_a_row() -> bool {
-    let Ok(grid) = Grid::new(&ROW) else {
+    let Ok(grid) = Grid::new(&LINE) else {
         return false;
     };
     let ends = [
-        grid.cell_of(&on_row(-1)),
-        grid.cell_of(&on_row(0)),
-        grid.cell_of(&on_row(2)),
-        grid.cell_of(&on_row(3)),
-        grid.cell_of(&on_row(14)),
-        grid.cell_of(&on_row(15)),
+        grid.cell_of(&on_line(-1)),
+        grid.cell_of(&on_line(0)),
+        grid.cell_of(&on_line(2)),
+        grid.cell_of(&on_line(3)),
+        grid.cell_of(&on_line(14)),
+        grid.cell_of(&on_line(15)),
     ];
     ends == [None, Some(0), Some(0), Some(1), Some(4), None] && grid.cells() == 5
 }
@@ -177,7 +177,7 @@ fn a_cell_lies_inside_with_all_its_points_and_touches_with_one(rt: HostRuntime) 
 
 /// A part of a cell, a whole cell and parts of two; out of the domain below, above and on both sides; outside, and empty.
 fn boxes_of_a_row() -> bool {
-    let Ok(grid) = Grid::new(&ROW) else {
+    let Ok(grid) = Grid::new(&LINE) else {
         return false;
     };
     let rows = [
@@ -192,7 +192,7 @@ fn boxes_of_a_row() -> bool {
         (5, 4, None, None),
     ];
     rows.iter().all(|(low, high, touching, within)| {
-        let (lo, hi) = (on_row(*low), on_row(*high));
+        let (lo, hi) = (on_line(*low), on_line(*high));
         grid.touching(&lo, &hi) == *touching && grid.within(&lo, &hi) == *within
     })
 }
@@ -231,7 +231,7 @@ fn extents_of_the_plane() -> bool {
 }
 
 #[test]
-fn a_extent_has_the_indices_of_both_its_ends(rt: HostRuntime) {
+fn an_extent_has_the_indices_of_both_its_ends(rt: HostRuntime) {
     assert!(rt; extents_of_the_plane());
 }
 

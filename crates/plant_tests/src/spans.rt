@@ -55,7 +55,7 @@ fn both_ends_of_a_quotient_round_down(rt: HostRuntime) -> Result<(), Fail> {
 }
 
 /// The square of -3 to 2 spans -6 to 9, and that of 1 to 2 spans 1 to 4. 2^32 * 2^32 is 2^64, past 64 bits.
-fn squares_in_rows(alloc: Global) -> Result<bool, AllocError> {
+fn squares_in_lanes(alloc: Global) -> Result<bool, AllocError> {
     let square = Expr::Mul(
         Box::new(alloc, Expr::Var(0))?,
         Box::new(alloc, Expr::Var(0))?,
@@ -73,8 +73,8 @@ fn squares_in_rows(alloc: Global) -> Result<bool, AllocError> {
 }
 
 #[test]
-fn each_row_has_its_own_span(rt: HostRuntime) -> Result<(), Fail> {
-    assert!(rt; squares_in_rows(rt.alloc())?);
+fn each_lane_has_its_own_span(rt: HostRuntime) -> Result<(), Fail> {
+    assert!(rt; squares_in_lanes(rt.alloc())?);
     Ok(())
 }
 

@@ -15,8 +15,10 @@ fn synthesised<R: Threads + Sync, S: Source>(
     out: &mut CountSink,
 ) -> (u8, u64) {
     let mut err = CountSink::new();
-    let words = ["synth", "1"];
-    let status = run(rt, alloc, &words, source, out, &mut err, &Open, &mut None);
+    let arguments = ["synth", "1"];
+    let status = run(
+        rt, alloc, &arguments, source, out, &mut err, &Open, &mut None,
+    );
     (status, err.count())
 }
 

@@ -40,11 +40,11 @@ impl Trial {
     }
 }
 
-/// Runs some words on a text, past a gate.
+/// Runs what some arguments request on a text, past a gate.
 pub fn run_on<R: Threads + Sync, G: Gate>(
     rt: &R,
     alloc: Global,
-    words: &[&str],
+    arguments: &[&str],
     text: &[u8],
     devices: &Devices,
     gate: &G,
@@ -58,7 +58,7 @@ pub fn run_on<R: Threads + Sync, G: Gate>(
     let status = run(
         rt,
         alloc,
-        words,
+        arguments,
         &mut source,
         &mut out,
         &mut err,

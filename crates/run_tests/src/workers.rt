@@ -31,7 +31,7 @@ const ENDS_TABLE: &[u8] =
 const ROOM: &[u8] =
     b"plant 1\nstate x 0 14 3\ninput u -3 0 3\nnext x = x + u\ntarget 6 14\ngoal reach\nend\n";
 
-const CAPACITY_TEXT: &[u8] =
+const ROOM_TEXT: &[u8] =
     b"stay 1\nplant 1\nstate x 0 14 3\ninput u -3 0 3\nnext x = x + u\ntarget 6 14\ngoal reach\nend\nrows 4\n0 0 2 2\n1 1 1 2\n2 2 0 1\n3 4 0 0\nend\n";
 
 /// Every cell is a goal and stays where it is: none falls, and the goals are the items of the first round.
@@ -59,13 +59,13 @@ const YARD_TEXT: &[u8] =
 fn do_meet<R: Threads + Sync>(
     rt: &R,
     alloc: Global,
-    words: &[&str],
+    arguments: &[&str],
     turns: u32,
     text: &[u8],
     table: &[u8],
 ) -> Result<[bool; 2], Fail> {
     let gate = Rendezvous::of(turns);
-    let tried = run_on(rt, alloc, words, text, &CLEAN, &gate)?;
+    let tried = run_on(rt, alloc, arguments, text, &CLEAN, &gate)?;
     Ok([gate.met(), tried.gave(0, table, b"")])
 }
 
@@ -132,7 +132,7 @@ fn each_number_of_workers_leaves_a_board(rt: HostRuntime) -> Result<(), Fail> {
 
 #[test]
 fn two_workers_meet_where_a_plant_is_to_stay(rt: HostRuntime) -> Result<(), Fail> {
-    let told = do_meet(&rt, rt.alloc(), &["stay", "2"], MANY, ROOM, CAPACITY_TEXT)?;
+    let told = do_meet(&rt, rt.alloc(), &["stay", "2"], MANY, ROOM, ROOM_TEXT)?;
     assert!(rt; told == [true, true]);
     Ok(())
 }

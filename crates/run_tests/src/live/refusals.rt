@@ -25,7 +25,7 @@ fn refused_of_one<R: Wait>(rt: &R, alloc: Global) -> Result<[bool; 2], LiveFault
 
 /// One reader has two slots, its own and one for what it is told.
 #[test]
-fn a_told_has_a_place_until_it_is_dropped(rt: HostRuntime) -> Result<(), Fail> {
+fn a_told_has_a_slot_until_it_is_dropped(rt: HostRuntime) -> Result<(), Fail> {
     let refused = refused_of_one(&rt, rt.alloc())?;
     assert!(rt; refused == [true, false]);
     Ok(())
