@@ -20,10 +20,6 @@ times_negative n x y below =
 pub quotients_in_order : (m n k : ℕ) → 0 < k → m ≤ n → m / k ≤ n / k
 quotients_in_order m n k some order = le-div (m / k) n k some (omega (arith, div-mul-le_self m k))
 
--- a digit, before what stands above it is taken off and after
-pub div-mod : (c m n : ℕ) → 0 < m → 0 < n → c / n % m ≡ c % (m * n) / n
-div-mod c m n some_m some = sym (ap (λ (k : ℕ). k / n) (mod-mul c some_m some) ∙ div-mul-add (c / n % m) n (c % n) (mod_below c n some))
-
 -- the second factor of a product with something below it
 pub some_factor : (m n u : ℕ) → u < m * n → 0 < n
 some_factor m zero u below = let none = mul-zero m in absurd (omega arith)
