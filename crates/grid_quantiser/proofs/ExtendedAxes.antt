@@ -1,6 +1,6 @@
 -- Indices on an axis that is extended by its own length below, and extents that are shifted from there.
-use Rattle.std.proofs.Common.{◌≡◌, ◌⊎◌, ℕ, ◌+◌, ◌-◌, ◌*◌, ◌/◌, ◌^◌, ◌<◌, ◌≤◌, arith, refl, ap, ap₂, sym, subst, List, All, length, get_or, w64, FitsSigned, ◌∙◌, ℤ, pos, nat_abs, ◌+ℤ◌, ◌-ℤ◌, ◌*ℤ◌, ◌<ℤ◌, ◌≤ℤ◌, None, Some, inl, inr}
-use Rattle.std.proofs.lemmas.Int.{ints, to_z-of_z}
+use Rattle.std.proofs.Common.{◌≡◌, ◌⊎◌, ℕ, ◌+◌, ◌-◌, ◌*◌, ◌/◌, ◌^◌, ◌<◌, ◌≤◌, arith, refl, ap, ap₂, sym, subst, List, All, length, get_or, w64, to_z, of_z, ◌∙◌, ℤ, pos, nat_abs, ◌+ℤ◌, ◌-ℤ◌, ◌*ℤ◌, ◌<ℤ◌, ◌≤ℤ◌, None, Some, inl, inr}
+use Rattle.std.proofs.lemmas.Int.{ints}
 use Rattle.std.specs.Int.{w128}
 use Rattle.std.specs.Int.Signed.{pos-nat_abs, yes_non_neg}
 use Rattle.std.proofs.Math.Nat.{div-eq_of_lt, mul_comm, mul-add, add-mul-div_left, mul-le-mul_left}
@@ -13,10 +13,15 @@ use Rattle.grid_quantiser.specs.Axes.{IsAxis, end_of, no_axis, AreAxes}
 use Rattle.grid_quantiser.specs.Cells.{index_of}
 use Rattle.grid_quantiser.specs.Extents.{IsOnAxis, IsExtentOf, extended_axis, IsExtentBefore}
 use Rattle.grid_quantiser.specs.inside.AxisQuantisers.{axis_between, HasEnds}
-use Rattle.grid_quantiser.proofs.AxisOffsets.{kept, low_fits, on_fits, end_low, end_high, apart_kept}
-use Rattle.grid_quantiser.proofs.QuantiserExtents.{held}
 use Rattle.grid_quantiser.proofs.AxisNumbers.{width_is, some_width, widths_is, offset_is, index_below}
 use Rattle.base.proofs.Products.{quotients_in_order}
+
+-- what 64 bits give back, and what 128
+abbrev pub held : ℤ → ℤ
+held x = to_z w64 (of_z w64 x)
+
+abbrev pub wide : ℤ → ℤ
+wide x = to_z w128 (of_z w128 x)
 
 -- one axis of a grid
 pub axis_at : (axes given : List Axis) (i : ℕ) → axes ≡ given → AreAxes axes → i < length given → IsAxis (get_or given i no_axis)
@@ -60,29 +65,11 @@ module _ (a : Axis) (axis : IsAxis a) where
 
   -- its ends, as they are computed
   module _ (end : ℤ) (is : end ≡ end_of a) where
-    low_computed : kept a.lo -ℤ kept (kept end -ℤ kept a.lo) ≡ (extended_axis a).lo
-    low_computed =
-        ap (λ (z : ℤ). kept a.lo -ℤ z) (apart_kept a axis end (end_low a axis end is) (end_high a axis end is))
-        ∙ ap (λ (z : ℤ). z -ℤ (end -ℤ a.lo)) (to_z-of_z w128 a.lo (low_fits a axis))
-        ∙ omega (arith, ints, is)
+    pub low_held : held (wide (wide a.lo -ℤ wide (wide end -ℤ wide a.lo))) ≡ (extended_axis a).lo
+    low_held = omega (arith, ints, is, axis.low_bound, axis.high_bound, widths_is a axis a.count)
 
-    low_narrow : FitsSigned w64 (extended_axis a).lo
-    low_narrow = omega (arith, ints, axis.low_bound, axis.high_bound, widths_is a axis a.count)
-
-    low_wide : FitsSigned w128 (extended_axis a).lo
-    low_wide = omega (arith, ints, axis.low_bound, axis.high_bound, widths_is a axis a.count)
-
-    pub low_fits_wide : FitsSigned w128 (kept a.lo -ℤ kept (kept end -ℤ kept a.lo))
-    low_fits_wide = subst (FitsSigned w128) (sym low_computed) low_wide
-
-    pub low_held : held (kept (kept a.lo -ℤ kept (kept end -ℤ kept a.lo))) ≡ (extended_axis a).lo
-    low_held = ap held (ap kept low_computed ∙ to_z-of_z w128 (extended_axis a).lo low_wide) ∙ to_z-of_z w64 (extended_axis a).lo low_narrow
-
-    end_narrow : FitsSigned w64 (end_of a)
-    end_narrow = omega (arith, ints, axis.low_bound, axis.high_bound, widths_is a axis a.count)
-
-    pub end_held : held (kept end) ≡ end_of a
-    end_held = ap held (to_z-of_z w128 end (on_fits a axis end (end_low a axis end is) (end_high a axis end is)) ∙ is) ∙ to_z-of_z w64 (end_of a) end_narrow
+    pub end_held : held (wide end) ≡ end_of a
+    end_held = omega (arith, ints, is, axis.low_bound, axis.high_bound, widths_is a axis a.count)
 
   -- ---- a number so many indices before another
 

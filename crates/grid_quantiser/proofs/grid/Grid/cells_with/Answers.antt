@@ -22,7 +22,7 @@ returns-in_err-low-clause-cells c =
     let fits_lo : FitsSigned w128 (get_or c.args.lo.now k (pos 0)) = search rules in
     let fits_hi : FitsSigned w128 (get_or c.args.hi.now k (pos 0)) = search rules in
     let none = rw (to_z-of_z w128 (get_or c.args.lo.now k (pos 0)) fits_lo, to_z-of_z w128 (get_or c.args.hi.now k (pos 0)) fits_hi) at c.in_err-low.ensures.some.1 in
-    rw (c.from_residual.ensures, ← c.axes-axes.ensures.same) (no_box c.args.overlap axes c.args.lo.now c.args.hi.now k c.axes-axes.ensures.axes.each c.loop-i-test.true (λ has. absurd (let is_none = none has in cc)))
+    rw (c.from_residual.ensures, ← c.axes-axes.ensures.same) (no_box c.args.overlap axes c.args.lo.now c.args.hi.now k c.loop-i-test.true (λ has. absurd (let is_none = none has in cc)))
 
 -- the indices that a step finds
 indices_here : (overlap : Overlap) (a : Axis) (x y : ℤ) (p q : ℕ) → FitsSigned w128 x → FitsSigned w128 y → AreIndicesIn overlap a (to_z w128 (of_z w128 x)) (to_z w128 (of_z w128 y)) p q → AreIndicesIn overlap a x y p q
