@@ -1,15 +1,14 @@
 -- Indices on an axis that is extended by its own length below, and extents that are shifted from there.
-use Rattle.std.proofs.Common.{◌≡◌, ◌⊎◌, ℕ, ◌+◌, ◌-◌, ◌*◌, ◌/◌, ◌^◌, ◌<◌, ◌≤◌, arith, refl, ap, ap₂, sym, subst, List, All, length, get_or, w64, to_z, of_z, ◌∙◌, ℤ, pos, nat_abs, ◌+ℤ◌, ◌-ℤ◌, ◌*ℤ◌, ◌<ℤ◌, ◌≤ℤ◌, None, Some, inl, inr}
+use Rattle.std.proofs.Common.{◌≡◌, ◌⊎◌, ℕ, ◌+◌, ◌-◌, ◌*◌, ◌/◌, ◌^◌, ◌<◌, ◌≤◌, arith, refl, ap, ap₂, sym, w64, to_z, of_z, ◌∙◌, ℤ, pos, nat_abs, ◌+ℤ◌, ◌-ℤ◌, ◌*ℤ◌, ◌<ℤ◌, ◌≤ℤ◌, None, Some, inl, inr}
 use Rattle.std.proofs.lemmas.Int.{ints}
 use Rattle.std.specs.Int.{w128}
 use Rattle.std.specs.Int.Signed.{pos-nat_abs, yes_non_neg}
 use Rattle.std.proofs.Math.Nat.{div-eq_of_lt, mul_comm, mul-add, add-mul-div_left, mul-le-mul_left}
 use Rattle.std.proofs.lemmas.Bool.{false≢true}
-use Rattle.std.proofs.lemmas.List.Elements.{All-get_or}
 use Rattle.std.proofs.lemmas.Nat.{div-add-mod', mod_below}
 use Rattle.grid_quantiser.specs.declared.axis.Axis.{Axis}
 use Rattle.grid_quantiser.specs.declared.extents.Extent.{Extent}
-use Rattle.grid_quantiser.specs.Axes.{IsAxis, end_of, no_axis, AreAxes}
+use Rattle.grid_quantiser.specs.Axes.{IsAxis, end_of}
 use Rattle.grid_quantiser.specs.Cells.{index_of}
 use Rattle.grid_quantiser.specs.Extents.{IsOnAxis, IsExtentOf, extended_axis, IsExtentBefore}
 use Rattle.grid_quantiser.specs.inside.AxisQuantisers.{axis_between, HasEnds}
@@ -22,10 +21,6 @@ held x = to_z w64 (of_z w64 x)
 
 abbrev pub wide : ℤ → ℤ
 wide x = to_z w128 (of_z w128 x)
-
--- one axis of a grid
-pub axis_at : (axes given : List Axis) (i : ℕ) → axes ≡ given → AreAxes axes → i < length given → IsAxis (get_or given i no_axis)
-axis_at axes given i same grid within = All-get_or IsAxis given i no_axis within (subst (λ (l : List Axis). All IsAxis l) same grid.each)
 
 module _ (a : Axis) (axis : IsAxis a) where
   abbrev width : ℕ

@@ -20,7 +20,7 @@ returns-in_err-indices-clause-inside c =
 
 pub overflow_cast-indices : goal.overflow_cast-indices
 overflow_cast-indices c =
-    omega (arith, c.in_ok-indices.ensures.below, few_indices c.args.axes.now c.args.axes.now c.loop-i.i refl c.requires.axes c.requires.limit c.loop-i-test.true)
+    omega (arith, c.in_ok-indices.ensures.below, few_indices c.args.axes.now c.loop-i.i c.requires.axes c.requires.limit c.loop-i-test.true)
 
 pub loop-i-preserved : goal.loop-i-preserved
 loop-i-preserved c =

@@ -9,7 +9,7 @@ pub loop-i-init : goal.loop-i-init
 loop-i-init c = record { six = refl; each = λ k lt. absurd (omega (arith, lt)); rest = λ k le. six_defaults 0 k }
 
 pub overflow_cast-counts : goal.overflow_cast-counts
-overflow_cast-counts c = omega (arith, few_indices c.args.axes.now c.args.axes.now c.loop-i.i refl c.requires.axes c.requires.limit c.loop-i-test.true)
+overflow_cast-counts c = omega (arith, few_indices c.args.axes.now c.loop-i.i c.requires.axes c.requires.limit c.loop-i-test.true)
 
 pub loop-i-preserved : goal.loop-i-preserved
 loop-i-preserved c =

@@ -31,11 +31,11 @@ indices_here overlap a x y p q fits_x fits_y indices = rw (to_z-of_z w128 x fits
 pub overflow_cast-first : goal.overflow_cast-first
 overflow_cast-first c =
     let found = c.in_ok-low.ensures.indices in
-    omega (arith, found.ordered, found.below, few_indices c.axes-axes.result.now c.axes-axes.result.now c.loop-i.i refl c.axes-axes.ensures.axes c.axes-axes.ensures.limit c.loop-i-test.true)
+    omega (arith, found.ordered, found.below, few_indices c.axes-axes.result.now c.loop-i.i c.axes-axes.ensures.axes c.axes-axes.ensures.limit c.loop-i-test.true)
 
 pub overflow_cast-last : goal.overflow_cast-last
 overflow_cast-last c =
-    omega (arith, c.in_ok-low.ensures.indices.below, few_indices c.axes-axes.result.now c.axes-axes.result.now c.loop-i.i refl c.axes-axes.ensures.axes c.axes-axes.ensures.limit c.loop-i-test.true)
+    omega (arith, c.in_ok-low.ensures.indices.below, few_indices c.axes-axes.result.now c.loop-i.i c.axes-axes.ensures.axes c.axes-axes.ensures.limit c.loop-i-test.true)
 
 pub loop-i-preserved : goal.loop-i-preserved
 loop-i-preserved c =
