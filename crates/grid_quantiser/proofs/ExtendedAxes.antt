@@ -12,6 +12,7 @@ use Rattle.grid_quantiser.specs.Axes.{IsAxis, end_of}
 use Rattle.grid_quantiser.specs.Cells.{index_of}
 use Rattle.grid_quantiser.specs.Extents.{IsOnAxis, IsExtentOf, extended_axis, IsExtentBefore}
 use Rattle.grid_quantiser.specs.inside.AxisQuantisers.{axis_between, HasEnds}
+use Rattle.grid_quantiser.proofs.QuantiserExtents.{missing, found}
 use Rattle.grid_quantiser.proofs.AxisNumbers.{width_is, some_width, widths_is, offset_is, index_below}
 use Rattle.base.proofs.Products.{quotients_in_order}
 
@@ -130,11 +131,7 @@ module _ (a : Axis) (axis : IsAxis a) where
     module _ (low high : ℤ) (order : low ≤ℤ high) where
       -- none lies before one that is missing
       pub still_missing : IsExtentBefore a d low high None → IsExtentOf a low high None
-      still_missing is = record {
-        inside = (λ h. absurd (false≢true h), λ on. absurd (false≢true (is.inside.1 (back_on low on.0, back_on high on.1))));
-        indices = tt;
-        on_axis = tt;
-      }
+      still_missing is = missing a low high (λ on_low on_high. false≢true (is.inside.1 (back_on low on_low, back_on high on_high)))
 
       module _ (s : Extent) (is : IsExtentBefore a d low high (Some s)) where
         both_on : IsOnAxis (extended_axis a) (back low) × IsOnAxis (extended_axis a) (back high)
@@ -144,16 +141,8 @@ module _ (a : Axis) (axis : IsAxis a) where
         in_order = omega (arith, ordered_indices low high order both_on.0 both_on.1, is.indices.0, is.indices.1)
 
         pub leaves : (s.first + d < a.count) ⊎ (2 * a.count ≤ s.last + d) → IsExtentOf a low high None
-        leaves (inl under) = record {
-          inside = (λ h. absurd (false≢true h), λ on. absurd (omega (arith, ints, on.0.0, below_low low both_on.0 (omega (arith, under, is.indices.0)))));
-          indices = tt;
-          on_axis = tt;
-        }
-        leaves (inr over) = record {
-          inside = (λ h. absurd (false≢true h), λ on. absurd (omega (arith, ints, on.1.1, past_end high both_on.1 (omega (arith, over, is.indices.1)))));
-          indices = tt;
-          on_axis = tt;
-        }
+        leaves (inl under) = missing a low high (λ on_low on_high. let below = below_low low both_on.0 (omega (arith, under, is.indices.0)) in omega (arith, ints, on_low.0, below))
+        leaves (inr over) = missing a low high (λ on_low on_high. let past = past_end high both_on.1 (omega (arith, over, is.indices.1)) in omega (arith, ints, on_high.1, past))
 
         pub arrives : (r : Extent) → a.count ≤ s.first + d → s.last + d < 2 * a.count → r.first ≡ s.first + d - a.count → r.last ≡ s.last + d - a.count → IsExtentOf a low high (Some r)
         arrives r from to first last =
@@ -165,8 +154,4 @@ module _ (a : Axis) (axis : IsAxis a) where
             let on_high : IsOnAxis a high = (from_low high both_on.1 high_from, before_end high both_on.1 high_to) in
             let first_is : r.first ≡ index_of a low = omega (arith, first, is.indices.0, index_is low both_on.0 low_from) in
             let last_is : r.last ≡ index_of a high = omega (arith, last, is.indices.1, index_is high both_on.1 high_from) in
-            record {
-              inside = (λ h. (on_low, on_high), λ on. refl);
-              indices = (first_is, last_is);
-              on_axis = (omega (arith, first_is, index_below a low axis on_low.0 on_low.1), omega (arith, last_is, index_below a high axis on_high.0 on_high.1));
-            }
+            found a low high r.first r.last (on_low, on_high) (first_is, omega (arith, first_is, index_below a low axis on_low.0 on_low.1)) (last_is, omega (arith, last_is, index_below a high axis on_high.0 on_high.1))
