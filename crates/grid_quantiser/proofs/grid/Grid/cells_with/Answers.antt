@@ -1,4 +1,4 @@
-use Rattle.std.proofs.Common.{◌≡◌, ◌≢◌, ℕ, ◌<◌, ◌≤◌, arith, ap, refl, sym, ◌∙◌, below_more, List, length, get_or, set, get_or-set_same, get_or-set_other, pos, FitsSigned, rules}
+use Rattle.std.proofs.Common.{◌≡◌, ◌≢◌, ℕ, ◌<◌, ◌≤◌, arith, ap, sym, ◌∙◌, below_more, List, length, get_or, set, get_or-set_same, get_or-set_other, pos, FitsSigned, rules}
 use Rattle.std.specs.Int.{w128}
 use Rattle.std.proofs.lemmas.Int.{to_z-of_z}
 use Rattle.std.proofs.lemmas.List.{length-set}
@@ -10,9 +10,6 @@ use Rattle.grid_quantiser.proofs.AxisCounts.{few_indices}
 use Rattle.grid_quantiser.proofs.Counts.{length-counts_of, each_count}
 use Rattle.grid_quantiser.proofs.OverlapCells.{corners_of_indices, no_box, box_of_corners}
 use Rattle.grid_quantiser.proofs.grid.Grid.cells_with.Goals as goal
-
-pub loop-i-init : goal.loop-i-init
-loop-i-init c = record { six_first = refl; six_last = refl; each = λ k lt. absurd (omega (arith, lt)) }
 
 pub returns-in_err-low-clause-cells : goal.returns-in_err-low-clause-cells
 returns-in_err-low-clause-cells c =

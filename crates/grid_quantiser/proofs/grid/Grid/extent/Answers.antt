@@ -1,18 +1,8 @@
 use Rattle.std.proofs.Common.{refl}
 use Rattle.std.specs.Int.{w128}
 use Rattle.std.proofs.lemmas.Int.{to_z-of_z}
-use Rattle.grid_quantiser.proofs.QuantiserExtents.{missing, found}
+use Rattle.grid_quantiser.proofs.QuantiserExtents.{found}
 use Rattle.grid_quantiser.proofs.grid.Grid.extent.Goals as goal
-
-pub returns-in_err-first : goal.returns-in_err-first
-returns-in_err-first c =
-    let outside = rw (to_z-of_z w128 c.args.low c.ranges.low) at c.in_err-first.ensures.inside.1 in
-    rw (c.from_residual.ensures, ← c.axis-axis.ensures.same) (missing _ _ _ (λ low high. let h = outside low in cc))
-
-pub returns-in_err-last : goal.returns-in_err-last
-returns-in_err-last c =
-    let outside = rw (to_z-of_z w128 c.args.high c.ranges.high) at c.in_err-last.ensures.inside.1 in
-    rw (c.from_residual-in_err-last.ensures, ← c.axis-axis.ensures.same) (missing _ _ _ (λ low high. let h = outside high in cc))
 
 pub returns : goal.returns
 returns c =

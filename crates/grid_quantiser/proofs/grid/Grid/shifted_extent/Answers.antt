@@ -29,12 +29,6 @@ module _ (c : In_ok-extent) where
   given : IsExtentBefore axis c.args.indices c.requires.extent.0 c.requires.extent.1 (Some c.in_ok-extent.extent)
   given = there _ _ c.requires.extent.3
 
-pub overflow_add-first : goal.overflow_add-first
-overflow_add-first c = let k = (goal.at.overflow_add-first c).In_ok-extent in omega (arith, (given k).on_axis, count_is k)
-
-pub overflow_add-last : goal.overflow_add-last
-overflow_add-last c = let k = (goal.at.overflow_add-last c).In_ok-extent in omega (arith, (given k).on_axis, count_is k)
-
 pub returns-then-first-count : goal.returns-then-first-count
 returns-then-first-count c = λ low high order is.
     let k = (goal.at.returns-then-first-count c).In_ok-extent in
