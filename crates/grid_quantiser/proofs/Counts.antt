@@ -3,7 +3,7 @@ use Rattle.std.proofs.Common.{◌≡◌, ◌≢◌, ℕ, zero, suc, ◌+◌, ◌
 use Rattle.std.specs.List.{All}
 use Rattle.std.proofs.lemmas.List.Elements.{All-get_or}
 use Rattle.std.proofs.lemmas.Bool.{cases_lt}
-use Rattle.std.proofs.lemmas.List.{same_lists, length-append, length-replicate, get_or_append_left, get_or-append_right, get_or-replicate, get_or_past, get_or_default, take_at}
+use Rattle.std.proofs.lemmas.List.{same_lists, length-append, length-replicate, get_or_append_left, get_or-append_right, get_or-replicate, get_or_default, take_at}
 use Rattle.mixed_radix.specs.Radix.{AreDigitsOf}
 use Rattle.mixed_radix.proofs.Numbers.{number_same}
 use Rattle.grid_quantiser.specs.declared.axis.Axis.{Axis}
@@ -77,9 +77,6 @@ written_more {X = X} xs i v d F lt is before =
 
 pub kept_more : {X : Type 0} (xs : List X) (i : ℕ) (v d : X) → ((k : ℕ) → i ≤ k → get_or xs k d ≡ d) → (k : ℕ) → i + 1 ≤ k → get_or (set xs i v) k d ≡ d
 kept_more {X = X} xs i v d rest k past = let ne : k ≢ i = omega (arith, past) in get_or-set_other xs i k v d ne ∙ rest k (omega (arith, past))
-
-pub six_defaults : {X : Type 0} (d : X) (k : ℕ) → get_or (d ∷ d ∷ d ∷ d ∷ d ∷ d ∷ []) k d ≡ d
-six_defaults d k = elim (cases_lt k 6) [ inl within ↦ get_or-replicate 6 k d d within | inr past ↦ get_or_past (replicate 6 d) k d past ]
 
 -- six indices with these first, and d after them
 pub six_written : {X : Type 0} (xs front : List X) (d : X) → length xs ≡ 6 → length front ≤ 6 → ((k : ℕ) → k < length front → get_or xs k d ≡ get_or front k d) → ((k : ℕ) → length front ≤ k → get_or xs k d ≡ d) →
