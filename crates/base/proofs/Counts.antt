@@ -3,22 +3,28 @@ use Rattle.std.proofs.Common.{◌≤◌, ◌&&◌, subst, ◌≡◌, ◌≢◌, 
 use Rattle.std.proofs.lemmas.List.Elements.{All-head, All-tail, All-nil, All-cons}
 use Rattle.std.specs.List.{Any, list_any, list_all, range_with_len}
 use Rattle.std.proofs.lemmas.List.FromFn.{length-range_with_len, get_or-range_with_len, fill_by_all}
-use Rattle.std.proofs.lemmas.List.Sums.{sum_by-cons, sum_by-le-sum_by, count_by-le-length}
+use Rattle.std.proofs.lemmas.List.Sums.{sum_by-cons, sum_by-le, sum_by-le-sum_by}
 use Rattle.base.specs.Counts.{one_if}
-use Rattle.std.proofs.lemmas.Bool.{or_parts}
+use Rattle.std.proofs.lemmas.Bool.{or_parts, false≢true}
 
 -- one element more
 pub count-cons : {X : Type 0} (p : X → Bool) (x : X) (xs : List X) → count_by p (x ∷ xs) ≡ one_if (p x) + count_by p xs
 count-cons p x xs = sum_by-cons (λ y. one_if (p y)) x xs
 
--- sums of equal terms, of ones, of zeros and of added terms
-pub sum_alike : {X : Type 0} (f h : X → ℕ) (xs : List X) → All (λ x. f x ≡ h x) xs → sum_by f xs ≡ sum_by h xs
-sum_alike f h [] e = refl
-sum_alike f h (x ∷ xs) e =
+-- sums of terms in order, of equal terms, of ones, of zeros and of added terms
+pub sum_le : {X : Type 0} (f h : X → ℕ) (xs : List X) → All (λ x. f x ≤ h x) xs → sum_by f xs ≤ sum_by h xs
+sum_le f h [] e = omega arith
+sum_le f h (x ∷ xs) e =
     let a = sum_by-cons f x xs in
     let b = sum_by-cons h x xs in
-    let first = All-head (λ x. f x ≡ h x) x xs e in
-    let rest = sum_alike f h xs (All-tail (λ x. f x ≡ h x) x xs e) in
+    let first = All-head (λ x. f x ≤ h x) x xs e in
+    let rest = sum_le f h xs (All-tail (λ x. f x ≤ h x) x xs e) in
+    omega arith
+
+pub sum_alike : {X : Type 0} (f h : X → ℕ) (xs : List X) → All (λ x. f x ≡ h x) xs → sum_by f xs ≡ sum_by h xs
+sum_alike f h xs e =
+    let up = sum_le f h xs (λ i d lt. let same = e i d lt in omega arith) in
+    let down = sum_le h f xs (λ i d lt. let same = e i d lt in omega arith) in
     omega arith
 
 pub sum_ones : {X : Type 0} (f : X → ℕ) (xs : List X) → All (λ x. f x ≡ 1) xs → sum_by f xs ≡ length xs
@@ -30,12 +36,7 @@ sum_ones f (x ∷ xs) e =
     omega arith
 
 pub sum_zeros : {X : Type 0} (f : X → ℕ) (xs : List X) → All (λ x. f x ≡ 0) xs → sum_by f xs ≡ 0
-sum_zeros f [] e = refl
-sum_zeros f (x ∷ xs) e =
-    let a = sum_by-cons f x xs in
-    let first = All-head (λ x. f x ≡ 0) x xs e in
-    let rest = sum_zeros f xs (All-tail (λ x. f x ≡ 0) x xs e) in
-    omega arith
+sum_zeros f xs e = omega (arith, sum_by-le f 0 xs (λ i d lt. let none = e i d lt in omega arith))
 
 pub sum_added : {X : Type 0} (f h : X → ℕ) (xs : List X) → sum_by (λ x. f x + h x) xs ≡ sum_by f xs + sum_by h xs
 sum_added f h [] = refl
@@ -44,15 +45,6 @@ sum_added f h (x ∷ xs) =
     let b = sum_by-cons h x xs in
     let c = sum_by-cons (λ x. f x + h x) x xs in
     let rest = sum_added f h xs in
-    omega arith
-
-pub sum_le : {X : Type 0} (f h : X → ℕ) (xs : List X) → All (λ x. f x ≤ h x) xs → sum_by f xs ≤ sum_by h xs
-sum_le f h [] e = omega arith
-sum_le f h (x ∷ xs) e =
-    let a = sum_by-cons f x xs in
-    let b = sum_by-cons h x xs in
-    let first = All-head (λ x. f x ≤ h x) x xs e in
-    let rest = sum_le f h xs (All-tail (λ x. f x ≤ h x) x xs e) in
     omega arith
 
 pub sum_map : {X Y : Type 0} (f : Y → ℕ) (h : X → Y) (xs : List X) → sum_by f (map h xs) ≡ sum_by (λ x. f (h x)) xs
@@ -77,40 +69,36 @@ count_same p q xs h = sum_alike (λ x. one_if (p x)) (λ x. one_if (q x)) xs (λ
 pub count_none : {X : Type 0} (p : X → Bool) (xs : List X) → All (λ x. p x ≡ false) xs → count_by p xs ≡ 0
 count_none p xs h = sum_zeros (λ x. one_if (p x)) xs (λ i d lt. ap one_if (h i d lt))
 
-test_fails : (b : Bool) (n : ℕ) → one_if b + n ≡ 0 → b ≡ false
-test_fails true n e = absurd (omega arith)
-test_fails false n e = refl
+-- a test that passes wherever another does, and no more often, passes alike
+pub one_if_le : (a b : Bool) → (a ≡ true → b ≡ true) → one_if a ≤ one_if b
+one_if_le true b h = let e : one_if b ≡ 1 = ap one_if (h refl) in omega arith
+one_if_le false b h = omega arith
+
+pub one_if_same : (a b : Bool) → one_if a ≡ one_if b → a ≡ b
+one_if_same true true e = refl
+one_if_same true false e = absurd (omega arith)
+one_if_same false true e = absurd (omega arith)
+one_if_same false false e = refl
+
+pub alike_from_counts : {X : Type 0} (p q : X → Bool) → ((x : X) → p x ≡ true → q x ≡ true) → (xs : List X) → count_by q xs ≤ count_by p xs → All (λ x. p x ≡ q x) xs
+alike_from_counts p q more [] le = All-nil (λ x. p x ≡ q x)
+alike_from_counts p q more (x ∷ xs) le =
+    let a = count-cons p x xs in
+    let b = count-cons q x xs in
+    let here = one_if_le (p x) (q x) (more x) in
+    let rest : count_by p xs ≤ count_by q xs = sum_by-le-sum_by (λ x. one_if (p x)) (λ x. one_if (q x)) xs (λ x. one_if_le (p x) (q x) (more x)) in
+    All-cons (λ x. p x ≡ q x) x xs (one_if_same (p x) (q x) (omega arith)) (alike_from_counts p q more xs (omega arith))
 
 -- and the other way round
 pub none_from_count : {X : Type 0} (p : X → Bool) (xs : List X) → count_by p xs ≡ 0 → All (λ x. p x ≡ false) xs
-none_from_count p [] e = All-nil (λ x. p x ≡ false)
-none_from_count p (x ∷ xs) e =
-    let a = count-cons p x xs in
-    All-cons (λ y. p y ≡ false) x xs (test_fails (p x) (count_by p xs) (omega arith)) (none_from_count p xs (omega arith))
+none_from_count p xs e = λ i d lt. sym (alike_from_counts (λ x. false) p (λ x no. absurd (false≢true no)) xs (omega arith) i d lt)
 
 -- a test that passes at each element counts all, and the other way round
 pub all_pass : {X : Type 0} (p : X → Bool) (xs : List X) → All (λ x. p x ≡ true) xs → count_by p xs ≡ length xs
-all_pass p [] h = refl
-all_pass p (x ∷ xs) h =
-    let a = count-cons p x xs in
-    let b : one_if (p x) ≡ 1 = ap one_if (All-head (λ x. p x ≡ true) x xs h) in
-    let rest = all_pass p xs (All-tail (λ x. p x ≡ true) x xs h) in
-    omega arith
+all_pass p xs h = sum_ones (λ x. one_if (p x)) xs (λ i d lt. ap one_if (h i d lt))
 
 pub each_passes : {X : Type 0} (p : X → Bool) (xs : List X) → count_by p xs ≡ length xs → All (λ x. p x ≡ true) xs
-each_passes p [] e = All-nil (λ x. p x ≡ true)
-each_passes p (x ∷ xs) e = by_test (p x) refl (each_passes p xs)
-  where
-    by_test : (b : Bool) → p x ≡ b → (count_by p xs ≡ length xs → All (λ x. p x ≡ true) xs) → All (λ x. p x ≡ true) (x ∷ xs)
-    by_test true f later =
-        let a = count-cons p x xs in
-        let b : one_if (p x) ≡ 1 = ap one_if f in
-        All-cons (λ x. p x ≡ true) x xs f (later (omega arith))
-    by_test false f later =
-        let a = count-cons p x xs in
-        let b : one_if (p x) ≡ 0 = ap one_if f in
-        let most = count_by-le-length p xs in
-        absurd (omega arith)
+each_passes p xs e = let all = all_pass (λ x. true) xs (λ i d lt. refl) in alike_from_counts p (λ x. true) (λ x yes. refl) xs (omega arith)
 
 -- one that fails is found where not all count
 pub one_fails : {X : Type 0} (p : X → Bool) (xs : List X) → count_by p xs < length xs → (x : X) × Contains xs x × (p x ≡ false)
@@ -185,26 +173,6 @@ not_every p (x ∷ xs) e = by_test (p x) refl (not_every p xs)
         let same : list_all p (x ∷ xs) ≡ list_all p xs = ap (λ b. b && list_all p xs) f in
         let rest = later (sym same ∙ e) in
         (suc rest.0, rest.1, (let lt = rest.2 in omega arith), rest.3, rest.4)
-
--- a test that passes wherever another does, and no more often, passes alike
-pub one_if_le : (a b : Bool) → (a ≡ true → b ≡ true) → one_if a ≤ one_if b
-one_if_le true b h = let e : one_if b ≡ 1 = ap one_if (h refl) in omega arith
-one_if_le false b h = omega arith
-
-pub one_if_same : (a b : Bool) → one_if a ≡ one_if b → a ≡ b
-one_if_same true true e = refl
-one_if_same true false e = absurd (omega arith)
-one_if_same false true e = absurd (omega arith)
-one_if_same false false e = refl
-
-pub alike_from_counts : (p q : ℕ → Bool) → ((x : ℕ) → p x ≡ true → q x ≡ true) → (xs : List ℕ) → count_by q xs ≤ count_by p xs → All (λ x. p x ≡ q x) xs
-alike_from_counts p q more [] le = All-nil (λ x. p x ≡ q x)
-alike_from_counts p q more (x ∷ xs) le =
-    let a = count-cons p x xs in
-    let b = count-cons q x xs in
-    let here = one_if_le (p x) (q x) (more x) in
-    let rest : count_by p xs ≤ count_by q xs = sum_by-le-sum_by (λ x. one_if (p x)) (λ x. one_if (q x)) xs (λ x. one_if_le (p x) (q x) (more x)) in
-    All-cons (λ x. p x ≡ q x) x xs (one_if_same (p x) (q x) (omega arith)) (alike_from_counts p q more xs (omega arith))
 
 -- what holds of all numbers of a range holds of each below its end
 pub below_end : (P : ℕ → Type 0) (n c : ℕ) → c < n → All P (range_with_len 0 n) → P c

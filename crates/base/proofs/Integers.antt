@@ -1,5 +1,5 @@
 -- Whole numbers in order, and those that fit in so many bits.
-use Rattle.std.proofs.Common.{◌≡◌, ℕ, ◌<◌, true, arith}
+use Rattle.std.proofs.Common.{◌≡◌, ◌<◌, true, arith}
 use Rattle.std.specs.Prelude.{ℤ, pos, nat_abs, FitsSigned, ◌+ℤ◌, ◌≤ℤ◌, ◌<ℤ◌, int_lt}
 use Rattle.std.specs.Int.{w64, w128}
 use Rattle.std.proofs.lemmas.Int.{ints}

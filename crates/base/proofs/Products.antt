@@ -1,9 +1,8 @@
 -- Products and quotients, in order.
-use Rattle.std.proofs.Common.{◌≡◌, ℕ, zero, suc, ◌+◌, ◌*◌, ◌/◌, ◌%◌, ◌<◌, ◌≤◌, sym, ap, ◌∙◌, arith}
+use Rattle.std.proofs.Common.{ℕ, zero, suc, ◌+◌, ◌*◌, ◌/◌, ◌<◌, ◌≤◌, arith}
 use Rattle.std.specs.Prelude.{ℤ, pos, negsuc, ◌*ℤ◌, ◌≤ℤ◌}
 use Rattle.std.proofs.lemmas.Int.{ints}
-use Rattle.std.proofs.lemmas.Nat.{le-div, div-mul-add, mod_below}
-use Rattle.std.proofs.Math.Arith.{mod-mul}
+use Rattle.std.proofs.lemmas.Nat.{le-div}
 use Rattle.std.proofs.Math.Nat.{mul-le-mul_left, mul-le-mul_right, div-mul-le_self, mul-zero, add-mul}
 use borrow.Author.Differences.{up, down}
 
@@ -19,10 +18,6 @@ times_negative n x y below =
 
 pub quotients_in_order : (m n k : ℕ) → 0 < k → m ≤ n → m / k ≤ n / k
 quotients_in_order m n k some order = le-div (m / k) n k some (omega (arith, div-mul-le_self m k))
-
--- a digit, before what stands above it is taken off and after
-pub div-mod : (c m n : ℕ) → 0 < m → 0 < n → c / n % m ≡ c % (m * n) / n
-div-mod c m n some_m some = sym (ap (λ (k : ℕ). k / n) (mod-mul c some_m some) ∙ div-mul-add (c / n % m) n (c % n) (mod_below c n some))
 
 -- the second factor of a product with something below it
 pub some_factor : (m n u : ℕ) → u < m * n → 0 < n

@@ -1,16 +1,17 @@
 -- How often numbers stand in lists.
-use Rattle.std.proofs.Common.{eqb, Bool, true, false, cond, filter, inl, inr, ◌⊎◌, ◌≡◌, ◌≢◌, ℕ, zero, suc, ◌+◌, ◌<◌, ◌≤◌, ◌==◌, List, [], ◌∷◌, ◌++◌, length, get_or, All, AllPairs, Contains, sum_by, arith, refl, sym, ◌∙◌, ap, eq-eqb}
+use Rattle.std.proofs.Common.{eqb, Bool, true, false, cond, filter, inl, inr, ◌⊎◌, ◌≡◌, ◌≢◌, ℕ, zero, suc, ◌+◌, ◌-◌, ◌<◌, ◌≤◌, ◌==◌, List, [], ◌∷◌, ◌++◌, length, get_or, All, AllPairs, Contains, sum_by, arith, refl, sym, ◌∙◌, ap, eq-eqb}
 use Rattle.std.specs.List.{range_with_len, remove, AllByRecursion, list_any}
 use Rattle.std.specs.List.Sorted.{IsPermutation}
 use Rattle.std.proofs.lemmas.Bool.{cases_lt, cases_eq, ne_eqb, or_cases, eqb-true}
 use Rattle.std.proofs.lemmas.Bool.Decides.{Decides-eqb}
 use Rattle.std.proofs.lemmas.Map.Made.{IsDistinct-from_AllPairs}
 use Rattle.std.proofs.lemmas.Map.Steps.{length-le_from_distinct_below}
-use Rattle.std.proofs.lemmas.List.Elements.{All-head, All-tail, recursion_from_All}
+use Rattle.std.proofs.lemmas.List.Elements.{recursion_from_All}
 use Rattle.std.proofs.lemmas.List.Sorted.{IsPermutation-refl, IsPermutation-sym, IsPermutation-cons, IsPermutation-trans, IsPermutation-remove, sum_by-IsPermutation}
-use Rattle.std.proofs.lemmas.List.Sums.{sum_by-cons, sum_by-append}
+use Rattle.std.proofs.lemmas.List.Sums.{sum_by-cons, sum_by-append, get_or-le-sum_by}
+use Rattle.std.proofs.lemmas.List.FromFn.{length-range_with_len, get_or-range_with_len}
 use Rattle.base.specs.Counts.{times, one_if}
-use Rattle.base.proofs.Counts.{count-cons, sum_alike, sum_added, sum_ones, sum_zeros}
+use Rattle.base.proofs.Counts.{count-cons, count_none, range_apart, sum_alike, sum_added, sum_ones, sum_zeros}
 
 pub times-append : (n : ℕ) (xs ys : List ℕ) → times n (xs ++ ys) ≡ times n xs + times n ys
 times-append n xs ys = sum_by-append (λ x. one_if (x == n)) xs ys
@@ -27,12 +28,7 @@ pub one_if_elsewhere : (x n : ℕ) → x ≢ n → one_if (x == n) ≡ 0
 one_if_elsewhere x n ne = ap one_if (ne_eqb x n ne)
 
 pub times_none : (n : ℕ) (xs : List ℕ) → All (λ x. x ≢ n) xs → times n xs ≡ 0
-times_none n [] h = refl
-times_none n (x ∷ xs) h =
-    let a = times-cons n x xs in
-    let b = one_if_elsewhere x n (All-head (λ x. x ≢ n) x xs h) in
-    let rest = times_none n xs (All-tail (λ x. x ≢ n) x xs h) in
-    omega arith
+times_none n xs h = count_none (λ x. x == n) xs (λ i d lt. ne_eqb (get_or xs i d) n (h i d lt))
 
 -- a number that is counted stands there
 pub found : (n : ℕ) (xs : List ℕ) → 0 < times n xs → Contains xs n
@@ -48,17 +44,7 @@ found n (x ∷ xs) lt =
     ]
 
 pub counted : (n : ℕ) (xs : List ℕ) → Contains xs n → 0 < times n xs
-counted n [] has = absurd (let lt = has.1 in omega arith)
-counted n (x ∷ xs) has =
-    let a = times-cons n x xs in
-    elim (cases_eq x n) [
-      | inl e ↦ let b = one_if_here x n e in omega arith
-      | inr ne ↦ let rest = counted n xs (later ne has) in omega arith
-    ]
-  where
-    later : x ≢ n → Contains (x ∷ xs) n → Contains xs n
-    later ne (zero, lt, e) = absurd (ne e)
-    later ne (suc k, lt, e) = (k, omega arith, e)
+counted n xs has = omega (arith, get_or-le-sum_by (λ x. one_if (x == n)) xs has.0 n has.1, one_if_here (get_or xs has.0 n) n has.2)
 
 -- where the elements differ, one that stands there stands there once
 pub times_once : (n : ℕ) (xs : List ℕ) → AllPairs (λ a b. a ≢ b) xs → Contains xs n → times n xs ≡ 1
@@ -102,26 +88,16 @@ same (x ∷ xs) ys h =
 
 -- a range has each of its numbers once
 pub out_of_range : (i a n : ℕ) → (i < a) ⊎ (a + n ≤ i) → times i (range_with_len a n) ≡ 0
-out_of_range i a zero out = refl
-out_of_range i a (suc n) (inl lt) =
-    let c = times-cons i a (range_with_len (a + 1) n) in
-    let b = one_if_elsewhere a i (omega arith) in
-    let rest = out_of_range i (a + 1) n (inl (omega arith)) in
-    omega arith
-out_of_range i a (suc n) (inr le) =
-    let c = times-cons i a (range_with_len (a + 1) n) in
-    let b = one_if_elsewhere a i (omega arith) in
-    let rest = out_of_range i (a + 1) n (inr (omega arith)) in
-    omega arith
+out_of_range i a n out =
+    times_none i (range_with_len a n) (λ k d lt e.
+    let is = get_or-range_with_len a n k d (omega (arith, lt, length-range_with_len a n)) in
+    omega (arith, out, e, is, lt, length-range_with_len a n))
 
 pub in_range : (i a n : ℕ) → a ≤ i → i < a + n → times i (range_with_len a n) ≡ 1
-in_range i a zero le lt = absurd (omega arith)
-in_range i a (suc n) le lt =
-    let c = times-cons i a (range_with_len (a + 1) n) in
-    elim (cases_eq a i) [
-      | inl e ↦ let b = one_if_here a i e in let rest = out_of_range i (a + 1) n (inl (omega arith)) in omega arith
-      | inr ne ↦ let b = one_if_elsewhere a i ne in let rest = in_range i (a + 1) n (omega arith) (omega arith) in omega arith
-    ]
+in_range i a n le lt =
+    let short : i - a < n = omega arith in
+    let here : get_or (range_with_len a n) (i - a) i ≡ i = omega (arith, get_or-range_with_len a n (i - a) i short) in
+    times_once i (range_with_len a n) (range_apart a n) (i - a, omega (arith, short, length-range_with_len a n), here)
 
 -- a filter keeps all of a number that passes, and none of another
 pub times_filter : (p : ℕ → Bool) (n : ℕ) (xs : List ℕ) → times n (filter p xs) ≡ cond (p n) (times n xs) 0

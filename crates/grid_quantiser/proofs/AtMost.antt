@@ -1,5 +1,5 @@
 -- Lists of numbers, one at most the other in each state.
-use Rattle.std.proofs.Common.{ℕ, zero, suc, ◌<◌, ◌≤◌, arith, List, [], ◌∷◌, ◌++◌, length, get_or, ℤ, pos, ◌≤ℤ◌}
+use Rattle.std.proofs.Common.{◌≡◌, ℕ, zero, suc, ◌<◌, ◌≤◌, arith, refl, ap, List, [], ◌∷◌, ◌++◌, length, get_or, ℤ, pos, ◌≤ℤ◌}
 use Rattle.std.specs.Int.Signed.{≤ℤ_refl}
 use Rattle.std.proofs.lemmas.Int.{ints, by_lt_z}
 use Rattle.grid_quantiser.specs.declared.axis.Axis.{Axis}
@@ -34,21 +34,17 @@ IsAtMost-trans (a ∷ axes) (x ∷ xs) (y ∷ ys) (z ∷ zs) h k =
     (omega (arith, ints, h.0, k.0), IsAtMost-trans axes xs ys zs h.1 k.1)
 
 -- what stands past the axes is not looked at
-pub at_most_left : (axes : List Axis) (xs ys zs : List ℤ) → length axes ≤ length xs → (IsAtMost axes (xs ++ zs) ys → IsAtMost axes xs ys) × (IsAtMost axes xs ys → IsAtMost axes (xs ++ zs) ys)
-at_most_left [] xs ys zs long = (λ h. tt, λ h. tt)
+pub at_most_left : (axes : List Axis) (xs ys zs : List ℤ) → length axes ≤ length xs → IsAtMost axes (xs ++ zs) ys ≡ IsAtMost axes xs ys
+at_most_left [] xs ys zs long = refl
 at_most_left (a ∷ axes) [] ys zs long = absurd (omega (arith, long))
-at_most_left (a ∷ axes) (x ∷ xs) [] zs long = (λ h. h, λ h. h)
-at_most_left (a ∷ axes) (x ∷ xs) (y ∷ ys) zs long =
-    let rest = at_most_left axes xs ys zs (omega (arith, long)) in
-    (λ (h : (x ≤ℤ y) × IsAtMost axes (xs ++ zs) ys). (h.0, rest.0 h.1), λ (h : (x ≤ℤ y) × IsAtMost axes xs ys). (h.0, rest.1 h.1))
+at_most_left (a ∷ axes) (x ∷ xs) [] zs long = refl
+at_most_left (a ∷ axes) (x ∷ xs) (y ∷ ys) zs long = ap (λ (rest : Type 0). (x ≤ℤ y) × rest) (at_most_left axes xs ys zs (omega (arith, long)))
 
-pub at_most_right : (axes : List Axis) (xs ys zs : List ℤ) → length axes ≤ length ys → (IsAtMost axes xs (ys ++ zs) → IsAtMost axes xs ys) × (IsAtMost axes xs ys → IsAtMost axes xs (ys ++ zs))
-at_most_right [] xs ys zs long = (λ h. tt, λ h. tt)
-at_most_right (a ∷ axes) [] ys zs long = (λ h. absurd h, λ h. absurd h)
+pub at_most_right : (axes : List Axis) (xs ys zs : List ℤ) → length axes ≤ length ys → IsAtMost axes xs (ys ++ zs) ≡ IsAtMost axes xs ys
+at_most_right [] xs ys zs long = refl
+at_most_right (a ∷ axes) [] ys zs long = refl
 at_most_right (a ∷ axes) (x ∷ xs) [] zs long = absurd (omega (arith, long))
-at_most_right (a ∷ axes) (x ∷ xs) (y ∷ ys) zs long =
-    let rest = at_most_right axes xs ys zs (omega (arith, long)) in
-    (λ (h : (x ≤ℤ y) × IsAtMost axes xs (ys ++ zs)). (h.0, rest.0 h.1), λ (h : (x ≤ℤ y) × IsAtMost axes xs ys). (h.0, rest.1 h.1))
+at_most_right (a ∷ axes) (x ∷ xs) (y ∷ ys) zs long = ap (λ (rest : Type 0). (x ≤ℤ y) × rest) (at_most_right axes xs ys zs (omega (arith, long)))
 
 -- two boxes that reach past each other's ends have a point in common
 pub common_point : (axes : List Axis) (lo hi low high : List ℤ) → IsAtMost axes lo hi → IsAtMost axes low high → IsAtMost axes lo high → IsAtMost axes low hi →

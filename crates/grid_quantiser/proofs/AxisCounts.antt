@@ -1,5 +1,5 @@
 -- How many indices an axis has.
-use Rattle.std.proofs.Common.{◌≡◌, ℕ, ◌^◌, ◌<◌, ◌≤◌, arith, sym, subst, List, length, get_or}
+use Rattle.std.proofs.Common.{ℕ, ◌^◌, ◌<◌, ◌≤◌, arith, List, length, get_or}
 use Rattle.mixed_radix.proofs.Steps.{some_count_fits}
 use Rattle.grid_quantiser.specs.declared.axis.Axis.{Axis}
 use Rattle.grid_quantiser.specs.Axes.{AreAxes, no_axis, counts_of, cells_of}
@@ -7,7 +7,6 @@ use Rattle.grid_quantiser.proofs.Suffixes.{some_cells}
 use Rattle.grid_quantiser.proofs.Counts.{length-counts_of, each_count}
 
 -- the indices of an axis are few
-pub few_indices : (axes given : List Axis) (i : ℕ) → axes ≡ given → AreAxes axes → cells_of axes ≤ 2 ^ 20 → i < length given → (get_or axes i no_axis).count ≤ 2 ^ 20
-few_indices axes given i same grid limit within =
-    let below : i < length axes = subst (λ (l : List Axis). i < length l) (sym same) within in
-    omega (arith, limit, each_count axes i, some_count_fits (counts_of axes) i (omega (arith, below, length-counts_of axes)) (some_cells axes grid.each))
+pub few_indices : (axes : List Axis) (i : ℕ) → AreAxes axes → cells_of axes ≤ 2 ^ 20 → i < length axes → (get_or axes i no_axis).count ≤ 2 ^ 20
+few_indices axes i grid limit within =
+    omega (arith, limit, each_count axes i, some_count_fits (counts_of axes) i (omega (arith, within, length-counts_of axes)) (some_cells axes grid.each))

@@ -1,5 +1,5 @@
 -- The counts of the axes, the indices of a state and the numbers of indices, one for each axis.
-use Rattle.std.proofs.Common.{◌≡◌, ◌≢◌, ℕ, zero, suc, ◌+◌, ◌-◌, ◌<◌, ◌≤◌, arith, refl, ap, sym, ◌∙◌, below_more, List, [], ◌∷◌, ◌++◌, length, take, replicate, get_or, set, get_or-set_same, get_or-set_other, ℤ, pos, inl, inr}
+use Rattle.std.proofs.Common.{◌≡◌, ◌≢◌, ℕ, zero, suc, ◌+◌, ◌-◌, ◌<◌, ◌≤◌, arith, refl, ap, sym, ◌∙◌, below_more, List, [], ◌∷◌, ◌++◌, length, take, drop, replicate, get_or, set, get_or-set_same, get_or-set_other, ℤ, pos, inl, inr}
 use Rattle.std.specs.List.{All}
 use Rattle.std.proofs.lemmas.List.Elements.{All-get_or}
 use Rattle.std.proofs.lemmas.Bool.{cases_lt}
@@ -16,6 +16,11 @@ use Rattle.grid_quantiser.proofs.AxisNumbers.{index_below}
 pub length-counts_of : (axes : List Axis) → length (counts_of axes) ≡ length axes
 length-counts_of [] = refl
 length-counts_of (a ∷ axes) = ap suc (length-counts_of axes)
+
+pub drop-counts_of : (k : ℕ) (axes : List Axis) → drop k (counts_of axes) ≡ counts_of (drop k axes)
+drop-counts_of zero axes = refl
+drop-counts_of (suc k) [] = refl
+drop-counts_of (suc k) (a ∷ axes) = drop-counts_of k axes
 
 pub each_count : (axes : List Axis) (k : ℕ) → get_or (counts_of axes) k 0 ≡ (get_or axes k no_axis).count
 each_count [] k = refl
@@ -72,15 +77,6 @@ written_more {X = X} xs i v d F lt is before =
 
 pub kept_more : {X : Type 0} (xs : List X) (i : ℕ) (v d : X) → ((k : ℕ) → i ≤ k → get_or xs k d ≡ d) → (k : ℕ) → i + 1 ≤ k → get_or (set xs i v) k d ≡ d
 kept_more {X = X} xs i v d rest k past = let ne : k ≢ i = omega (arith, past) in get_or-set_other xs i k v d ne ∙ rest k (omega (arith, past))
-
-pub six_defaults : {X : Type 0} (d : X) (k : ℕ) → get_or (d ∷ d ∷ d ∷ d ∷ d ∷ d ∷ []) k d ≡ d
-six_defaults d zero = refl
-six_defaults d (suc zero) = refl
-six_defaults d (suc (suc zero)) = refl
-six_defaults d (suc (suc (suc zero))) = refl
-six_defaults d (suc (suc (suc (suc zero)))) = refl
-six_defaults d (suc (suc (suc (suc (suc zero))))) = refl
-six_defaults d (suc (suc (suc (suc (suc (suc k)))))) = refl
 
 -- six indices with these first, and d after them
 pub six_written : {X : Type 0} (xs front : List X) (d : X) → length xs ≡ 6 → length front ≤ 6 → ((k : ℕ) → k < length front → get_or xs k d ≡ get_or front k d) → ((k : ℕ) → length front ≤ k → get_or xs k d ≡ d) →

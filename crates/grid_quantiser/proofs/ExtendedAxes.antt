@@ -1,26 +1,27 @@
 -- Indices on an axis that is extended by its own length below, and extents that are shifted from there.
-use Rattle.std.proofs.Common.{◌≡◌, ◌⊎◌, ℕ, ◌+◌, ◌-◌, ◌*◌, ◌/◌, ◌^◌, ◌<◌, ◌≤◌, arith, refl, ap, ap₂, sym, subst, List, All, length, get_or, w64, FitsSigned, ◌∙◌, ℤ, pos, nat_abs, ◌+ℤ◌, ◌-ℤ◌, ◌*ℤ◌, ◌<ℤ◌, ◌≤ℤ◌, None, Some, inl, inr}
-use Rattle.std.proofs.lemmas.Int.{ints, to_z-of_z}
+use Rattle.std.proofs.Common.{◌≡◌, ◌⊎◌, ℕ, ◌+◌, ◌-◌, ◌*◌, ◌/◌, ◌^◌, ◌<◌, ◌≤◌, arith, refl, ap, ap₂, sym, w64, to_z, of_z, ◌∙◌, ℤ, pos, nat_abs, ◌+ℤ◌, ◌-ℤ◌, ◌*ℤ◌, ◌<ℤ◌, ◌≤ℤ◌, None, Some, inl, inr}
+use Rattle.std.proofs.lemmas.Int.{ints}
 use Rattle.std.specs.Int.{w128}
 use Rattle.std.specs.Int.Signed.{pos-nat_abs, yes_non_neg}
 use Rattle.std.proofs.Math.Nat.{div-eq_of_lt, mul_comm, mul-add, add-mul-div_left, mul-le-mul_left}
 use Rattle.std.proofs.lemmas.Bool.{false≢true}
-use Rattle.std.proofs.lemmas.List.Elements.{All-get_or}
 use Rattle.std.proofs.lemmas.Nat.{div-add-mod', mod_below}
 use Rattle.grid_quantiser.specs.declared.axis.Axis.{Axis}
 use Rattle.grid_quantiser.specs.declared.extents.Extent.{Extent}
-use Rattle.grid_quantiser.specs.Axes.{IsAxis, end_of, no_axis, AreAxes}
+use Rattle.grid_quantiser.specs.Axes.{IsAxis, end_of}
 use Rattle.grid_quantiser.specs.Cells.{index_of}
 use Rattle.grid_quantiser.specs.Extents.{IsOnAxis, IsExtentOf, extended_axis, IsExtentBefore}
 use Rattle.grid_quantiser.specs.inside.AxisQuantisers.{axis_between, HasEnds}
-use Rattle.grid_quantiser.proofs.AxisOffsets.{kept, low_fits, on_fits, end_low, end_high, apart_kept}
-use Rattle.grid_quantiser.proofs.QuantiserExtents.{held}
+use Rattle.grid_quantiser.proofs.QuantiserExtents.{missing, found}
 use Rattle.grid_quantiser.proofs.AxisNumbers.{width_is, some_width, widths_is, offset_is, index_below}
 use Rattle.base.proofs.Products.{quotients_in_order}
 
--- one axis of a grid
-pub axis_at : (axes given : List Axis) (i : ℕ) → axes ≡ given → AreAxes axes → i < length given → IsAxis (get_or given i no_axis)
-axis_at axes given i same grid within = All-get_or IsAxis given i no_axis within (subst (λ (l : List Axis). All IsAxis l) same grid.each)
+-- what 64 bits give back, and what 128
+abbrev pub held : ℤ → ℤ
+held x = to_z w64 (of_z w64 x)
+
+abbrev pub wide : ℤ → ℤ
+wide x = to_z w128 (of_z w128 x)
 
 module _ (a : Axis) (axis : IsAxis a) where
   abbrev width : ℕ
@@ -60,29 +61,11 @@ module _ (a : Axis) (axis : IsAxis a) where
 
   -- its ends, as they are computed
   module _ (end : ℤ) (is : end ≡ end_of a) where
-    low_computed : kept a.lo -ℤ kept (kept end -ℤ kept a.lo) ≡ (extended_axis a).lo
-    low_computed =
-        ap (λ (z : ℤ). kept a.lo -ℤ z) (apart_kept a axis end (end_low a axis end is) (end_high a axis end is))
-        ∙ ap (λ (z : ℤ). z -ℤ (end -ℤ a.lo)) (to_z-of_z w128 a.lo (low_fits a axis))
-        ∙ omega (arith, ints, is)
+    pub low_held : held (wide (wide a.lo -ℤ wide (wide end -ℤ wide a.lo))) ≡ (extended_axis a).lo
+    low_held = omega (arith, ints, is, axis.low_bound, axis.high_bound, widths_is a axis a.count)
 
-    low_narrow : FitsSigned w64 (extended_axis a).lo
-    low_narrow = omega (arith, ints, axis.low_bound, axis.high_bound, widths_is a axis a.count)
-
-    low_wide : FitsSigned w128 (extended_axis a).lo
-    low_wide = omega (arith, ints, axis.low_bound, axis.high_bound, widths_is a axis a.count)
-
-    pub low_fits_wide : FitsSigned w128 (kept a.lo -ℤ kept (kept end -ℤ kept a.lo))
-    low_fits_wide = subst (FitsSigned w128) (sym low_computed) low_wide
-
-    pub low_held : held (kept (kept a.lo -ℤ kept (kept end -ℤ kept a.lo))) ≡ (extended_axis a).lo
-    low_held = ap held (ap kept low_computed ∙ to_z-of_z w128 (extended_axis a).lo low_wide) ∙ to_z-of_z w64 (extended_axis a).lo low_narrow
-
-    end_narrow : FitsSigned w64 (end_of a)
-    end_narrow = omega (arith, ints, axis.low_bound, axis.high_bound, widths_is a axis a.count)
-
-    pub end_held : held (kept end) ≡ end_of a
-    end_held = ap held (to_z-of_z w128 end (on_fits a axis end (end_low a axis end is) (end_high a axis end is)) ∙ is) ∙ to_z-of_z w64 (end_of a) end_narrow
+    pub end_held : held (wide end) ≡ end_of a
+    end_held = omega (arith, ints, is, axis.low_bound, axis.high_bound, widths_is a axis a.count)
 
   -- ---- a number so many indices before another
 
@@ -148,11 +131,7 @@ module _ (a : Axis) (axis : IsAxis a) where
     module _ (low high : ℤ) (order : low ≤ℤ high) where
       -- none lies before one that is missing
       pub still_missing : IsExtentBefore a d low high None → IsExtentOf a low high None
-      still_missing is = record {
-        inside = (λ h. absurd (false≢true h), λ on. absurd (false≢true (is.inside.1 (back_on low on.0, back_on high on.1))));
-        indices = tt;
-        on_axis = tt;
-      }
+      still_missing is = missing a low high (λ on_low on_high. false≢true (is.inside.1 (back_on low on_low, back_on high on_high)))
 
       module _ (s : Extent) (is : IsExtentBefore a d low high (Some s)) where
         both_on : IsOnAxis (extended_axis a) (back low) × IsOnAxis (extended_axis a) (back high)
@@ -162,16 +141,8 @@ module _ (a : Axis) (axis : IsAxis a) where
         in_order = omega (arith, ordered_indices low high order both_on.0 both_on.1, is.indices.0, is.indices.1)
 
         pub leaves : (s.first + d < a.count) ⊎ (2 * a.count ≤ s.last + d) → IsExtentOf a low high None
-        leaves (inl under) = record {
-          inside = (λ h. absurd (false≢true h), λ on. absurd (omega (arith, ints, on.0.0, below_low low both_on.0 (omega (arith, under, is.indices.0)))));
-          indices = tt;
-          on_axis = tt;
-        }
-        leaves (inr over) = record {
-          inside = (λ h. absurd (false≢true h), λ on. absurd (omega (arith, ints, on.1.1, past_end high both_on.1 (omega (arith, over, is.indices.1)))));
-          indices = tt;
-          on_axis = tt;
-        }
+        leaves (inl under) = missing a low high (λ on_low on_high. let below = below_low low both_on.0 (omega (arith, under, is.indices.0)) in omega (arith, ints, on_low.0, below))
+        leaves (inr over) = missing a low high (λ on_low on_high. let past = past_end high both_on.1 (omega (arith, over, is.indices.1)) in omega (arith, ints, on_high.1, past))
 
         pub arrives : (r : Extent) → a.count ≤ s.first + d → s.last + d < 2 * a.count → r.first ≡ s.first + d - a.count → r.last ≡ s.last + d - a.count → IsExtentOf a low high (Some r)
         arrives r from to first last =
@@ -183,8 +154,4 @@ module _ (a : Axis) (axis : IsAxis a) where
             let on_high : IsOnAxis a high = (from_low high both_on.1 high_from, before_end high both_on.1 high_to) in
             let first_is : r.first ≡ index_of a low = omega (arith, first, is.indices.0, index_is low both_on.0 low_from) in
             let last_is : r.last ≡ index_of a high = omega (arith, last, is.indices.1, index_is high both_on.1 high_from) in
-            record {
-              inside = (λ h. (on_low, on_high), λ on. refl);
-              indices = (first_is, last_is);
-              on_axis = (omega (arith, first_is, index_below a low axis on_low.0 on_low.1), omega (arith, last_is, index_below a high axis on_high.0 on_high.1));
-            }
+            found a low high r.first r.last (on_low, on_high) (first_is, omega (arith, first_is, index_below a low axis on_low.0 on_low.1)) (last_is, omega (arith, last_is, index_below a high axis on_high.0 on_high.1))

@@ -13,6 +13,7 @@ use Rattle.grid_quantiser.specs.Cells.{IsInDomain, index_of, cell_of}
 use Rattle.grid_quantiser.specs.CellBoxes.{IsAtMost, IsBoxInDomain, AreCornersMeeting}
 use Rattle.grid_quantiser.specs.Extents.{IsOnAxis, IsExtentOf, AreExtentsOf}
 use Rattle.grid_quantiser.specs.ExtentBoxes.{one_cell, with_extent, IsBoxMeeting}
+use Rattle.grid_quantiser.proofs.Counts.{domain_each}
 use Rattle.grid_quantiser.proofs.Suffixes.{some_cells}
 use Rattle.grid_quantiser.proofs.BoxCells.{box_ordered}
 use Rattle.grid_quantiser.proofs.MeetingCells.{meeting_corners}
@@ -63,13 +64,6 @@ domain_more (a ∷ axes) [] k lt long inside on = absurd (omega (arith, long))
 domain_more (a ∷ axes) (x ∷ xs) zero lt long inside on = (on.0, on.1, tt)
 domain_more (a ∷ axes) (x ∷ xs) (suc k) lt long inside on =
     (inside.0, inside.1, domain_more axes xs k (omega (arith, lt)) (omega (arith, long)) inside.2 on)
-
--- a number of a state in the domain
-on_axis : (axes : List Axis) (xs : List ℤ) (i : ℕ) → i < length axes → IsInDomain axes xs → IsOnAxis (slice_index_or axes i no_axis) (slice_index_or xs i (pos 0))
-on_axis [] xs i lt inside = absurd (omega (arith, lt))
-on_axis (a ∷ axes) [] i lt inside = absurd inside
-on_axis (a ∷ axes) (x ∷ xs) zero lt inside = (inside.0, inside.1)
-on_axis (a ∷ axes) (x ∷ xs) (suc i) lt inside = on_axis axes xs i (omega (arith, lt)) inside.2
 
 -- its cell there
 cell_more : (axes : List Axis) (xs : List ℤ) (k : ℕ) → k < length axes → k < length xs →
@@ -146,7 +140,7 @@ module _ (axes : List Axis) (lo hi : List ℤ) (extents : List (Option Extent)) 
 
   -- a missing extent
   pub none_inside : slice_index_or extents i None ≡ None → IsBoxInDomain axes lo hi → ⊥
-  none_inside was inside = false≢true (rw was at (are.each i lt).inside.1 (on_axis axes lo i lt inside.0, on_axis axes hi i lt inside.1))
+  none_inside was inside = false≢true (rw was at (are.each i lt).inside.1 (domain_each axes lo i inside.0 lt, domain_each axes hi i inside.1 lt))
 
 -- the cells of a box on the first axes are cells of the grid
 pub corners_within : (axes : List Axis) (lo hi : List ℤ) (k : ℕ) (b : CellBox) → All IsAxis axes → IsBoxMeeting (take k axes) lo hi (Some b) → (b.first < cells_of axes) × (b.last < cells_of axes)

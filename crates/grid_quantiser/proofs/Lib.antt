@@ -2,7 +2,6 @@ pub mod General
 pub mod Counts
 pub mod Suffixes
 pub mod AxisNumbers
-pub mod AxisOffsets
 pub mod SixAxes
 pub mod Domain
 pub mod AtMost

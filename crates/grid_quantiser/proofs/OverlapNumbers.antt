@@ -1,172 +1,121 @@
 -- The indices of one axis with an overlap in a range, by quotients.
-use Rattle.std.proofs.Common.{◌≡◌, ℕ, ◌+◌, ◌-◌, ◌*◌, ◌/◌, ◌%◌, min, ◌<◌, ◌≤◌, ◌↔◌, arith, ℤ, pos, nat_abs, ◌+ℤ◌, ◌*ℤ◌, ◌<ℤ◌, ◌≤ℤ◌, inl, inr}
-use Rattle.std.specs.Int.Signed.{≤ℤ_refl}
+use Rattle.std.proofs.Common.{◌≡◌, ℕ, ◌+◌, ◌-◌, ◌*◌, ◌/◌, ◌<◌, ◌≤◌, ◌↔◌, arith, sym, subst, FitsSigned, ℤ, pos, nat_abs, ◌+ℤ◌, ◌<ℤ◌, ◌≤ℤ◌}
+use Rattle.std.specs.Int.{w128, saturate_signed}
 use Rattle.std.proofs.Math.Nat.{mul_comm, add-mul, mul-le-mul_right, div-mul-le_self}
-use Rattle.std.proofs.lemmas.Bool.{cases_lt}
-use Rattle.std.proofs.lemmas.Grind.{div_ceil_times}
-use Rattle.std.proofs.lemmas.Int.{ints}
-use Rattle.std.proofs.lemmas.Nat.{div_below, le-div}
+use Rattle.std.proofs.lemmas.Int.{ints, by_lt_z}
+use Rattle.std.proofs.lemmas.Nat.{le-div}
 use Rattle.grid_quantiser.specs.declared.axis.Axis.{Axis}
 use Rattle.grid_quantiser.specs.declared.axis.Overlap.{Overlap}
 use Rattle.grid_quantiser.specs.declared.axis.Overlap.TheVariants.{Partial, Whole}
-use Rattle.grid_quantiser.specs.declared.axis.CellPoint.TheVariants.{Low, High}
 use Rattle.grid_quantiser.specs.Axes.{IsAxis, end_of}
 use Rattle.grid_quantiser.specs.Extents.{IsOnAxis}
 use Rattle.grid_quantiser.specs.inside.Spots.{coordinate_of}
-use Rattle.grid_quantiser.specs.inside.Overlaps.{HasOverlapIn, AreIndicesIn}
-use Rattle.grid_quantiser.proofs.General.{past_quotient}
-use Rattle.grid_quantiser.proofs.AxisNumbers.{width_is, some_width, widths_is, index_from_between}
+use Rattle.grid_quantiser.specs.inside.Overlaps.{outside_of, first_point, last_point, HasOverlapIn, AreIndicesIn}
+use Rattle.grid_quantiser.proofs.AxisNumbers.{width_is, some_width, widths_is}
 
--- a quotient, rounded up
-abbrev pub ceil : ℕ → ℕ → ℕ
-ceil n w = n / w + min 1 (n % w)
+-- an index is before a quotient where all its numbers are
+before_quotient : (m w p : ℕ) → 0 < w → (p < m / w → (p + 1) * w ≤ m) × ((p + 1) * w ≤ m → p < m / w)
+before_quotient m w p some = (
+  λ lt. let row : (p + 1) * w ≤ m / w * w = mul-le-mul_right w (omega (arith, lt)) in omega (arith, row, div-mul-le_self m w),
+  λ le. omega (arith, le-div (p + 1) m w some le),
+)
 
--- the first index with such an overlap in a range, and the index after the last, by how many numbers
--- come before the range, and how many up to its end
-abbrev pub first_index : Overlap → ℕ → ℕ → ℕ
-first_index Partial before w = before / w
-first_index Whole before w = ceil before w
+at_quotient : (m w p : ℕ) → 0 < w → (m / w ≤ p → m < (p + 1) * w) × (m < (p + 1) * w → m / w ≤ p)
+at_quotient m w p some = (λ le. grind (arith, (before_quotient m w p some).1), λ lt. grind (arith, (before_quotient m w p some).0))
 
-abbrev pub end_index : Overlap → ℕ → ℕ → ℕ
-end_index Partial up_to w = ceil up_to w
-end_index Whole up_to w = up_to / w
+abbrev pub w : Axis → ℕ
+w a = nat_abs a.width
 
--- ---- quotients against a number
+module _ (a : Axis) (axis : IsAxis a) where
+  pub some_outside : (overlap : Overlap) → outside_of overlap (w a) < w a
+  some_outside Partial = omega (arith, some_width a axis)
+  some_outside Whole = some_width a axis
 
-module _ (n w p : ℕ) (some : 0 < w) where
-  floor_at_most : n / w ≤ p → n < (p + 1) * w
-  floor_at_most le = past_quotient n w (p + 1) some (omega (arith, le))
+  first_point_is : (overlap : Overlap) (p : ℕ) → coordinate_of (first_point overlap) a p ≡ a.lo +ℤ pos (p * w a + outside_of overlap (w a))
+  first_point_is Partial p = omega (arith, ints, widths_is a axis p, mul_comm (w a) p, width_is a axis, some_width a axis)
+  first_point_is Whole p = omega (arith, ints, widths_is a axis p, mul_comm (w a) p)
 
-  at_least_floor : n < (p + 1) * w → n / w ≤ p
-  at_least_floor lt = let below : n / w < p + 1 = div_below n w (p + 1) some lt in omega (arith, below)
+  last_point_is : (overlap : Overlap) (p : ℕ) → coordinate_of (last_point overlap) a p ≡ a.lo +ℤ pos (p * w a + (w a - 1 - outside_of overlap (w a)))
+  last_point_is Partial p = omega (arith, ints, widths_is a axis p, mul_comm (w a) p)
+  last_point_is Whole p = omega (arith, ints, widths_is a axis p, mul_comm (w a) p, width_is a axis, some_width a axis)
 
-  floor_past : p < n / w → (p + 1) * w ≤ n
-  floor_past lt =
-      let row : (p + 1) * w ≤ n / w * w = mul-le-mul_right w (omega (arith, lt)) in omega (arith, row, div-mul-le_self n w)
+  number_on : (p k : ℕ) → p < a.count → k < w a → IsOnAxis a (a.lo +ℤ pos (p * w a + k))
+  number_on p k below short =
+      let row : (p + 1) * w a ≤ a.count * w a = mul-le-mul_right (w a) (omega (arith, below)) in
+      (omega (arith, ints), omega (arith, ints, row, widths_is a axis a.count, mul_comm a.count (w a), add-mul p 1 (w a)))
 
-  past_floor : (p + 1) * w ≤ n → p < n / w
-  past_floor le = let above : p + 1 ≤ n / w = le-div (p + 1) n w some le in omega (arith, above)
-
-  ceil_at_most : ceil n w ≤ p → n ≤ p * w
-  ceil_at_most le = let row : ceil n w * w ≤ p * w = mul-le-mul_right w le in omega (arith, row, (div_ceil_times n w some).0)
-
-  at_least_ceil : n ≤ p * w → ceil n w ≤ p
-  at_least_ceil le =
-      elim (cases_lt p (ceil n w)) [
-        | inl past ↦
-            let row : (p + 1) * w ≤ ceil n w * w = mul-le-mul_right w (omega (arith, past)) in
-            absurd (omega (arith, row, (div_ceil_times n w some).1, add-mul p 1 w, le))
-        | inr small ↦ small
-      ]
-
-  ceil_past : p < ceil n w → p * w < n
-  ceil_past lt = elim (cases_lt (p * w) n) [ inl small ↦ small | inr le ↦ absurd (omega (arith, at_least_ceil le, lt)) ]
-
-  past_ceil : p * w < n → p < ceil n w
-  past_ceil lt = elim (cases_lt p (ceil n w)) [ inl small ↦ small | inr le ↦ absurd (omega (arith, ceil_at_most le, lt)) ]
-
--- ---- an axis
-
--- How many numbers of an axis are less than one, and how many are at most one.
+-- how many numbers of an axis are less than one
 abbrev pub IsCountBelow : Axis → ℤ → ℕ → Type 0
 IsCountBelow a x n = (y : ℤ) → IsOnAxis a y → (x ≤ℤ y) ↔ ((a.lo +ℤ pos n) ≤ℤ y)
 
-abbrev pub IsCountUpTo : Axis → ℤ → ℕ → Type 0
-IsCountUpTo a x n = (y : ℤ) → IsOnAxis a y → (y ≤ℤ x) ↔ (y <ℤ (a.lo +ℤ pos n))
+-- How many numbers of an axis come before a range, and how many up to its end.
+pub record AreCounted (a : Axis) (low high : ℤ) (before up_to : ℕ) : Type 0 where
+  pub axis : IsAxis a
+  pub before_is : IsCountBelow a low before
+  pub up_to_is : (y : ℤ) → IsOnAxis a y → (y ≤ℤ high) ↔ (y <ℤ (a.lo +ℤ pos up_to))
+  pub limit : (a.lo +ℤ pos up_to) ≤ℤ end_of a
 
--- an index's least and greatest number are on the axis
-least_on_axis : (a : Axis) (p : ℕ) → IsAxis a → p < a.count → IsOnAxis a (coordinate_of Low a p)
-least_on_axis a p axis below =
-    let wide : coordinate_of Low a p ≤ℤ coordinate_of High a p = omega (arith, ints, axis.some_width) in
-    let on = index_from_between a (coordinate_of Low a p) p axis below (≤ℤ_refl (coordinate_of Low a p)) wide in
-    (on.0, on.1)
+-- As many are at most a number as are less than the next, which may be past what 128 bits hold.
+pub counted : (a : Axis) (low high next : ℤ) (before up_to : ℕ) → IsAxis a → FitsSigned w128 high → next ≡ saturate_signed w128 (high +ℤ pos 1) → IsCountBelow a low before → IsCountBelow a next up_to →
+    (a.lo +ℤ pos up_to) ≤ℤ end_of a → AreCounted a low high before up_to
+counted a low high next before up_to axis fits is below_low below_next limit = record {
+  axis = axis;
+  before_is = below_low;
+  up_to_is = λ y on.
+      let past : high <ℤ y → next ≤ℤ y = λ less. grind (arith, ints, is, fits, less) in
+      let not_past : next ≤ℤ y → high <ℤ y = λ le. grind (arith, ints, is, fits, on, axis.high_bound, le) in
+      let same = below_next y on in (
+        λ h. by_lt_z y (a.lo +ℤ pos up_to) (λ less. less) (λ le. absurd (let far = not_past (same.1 le) in omega (arith, ints, h, far))),
+        λ h. by_lt_z high y (λ less. absurd (let far = same.0 (past less) in omega (arith, ints, h, far))) (λ le. le),
+      );
+  limit = limit;
+}
 
-greatest_on_axis : (a : Axis) (p : ℕ) → IsAxis a → p < a.count → IsOnAxis a (coordinate_of High a p)
-greatest_on_axis a p axis below =
-    let wide : coordinate_of Low a p ≤ℤ coordinate_of High a p = omega (arith, ints, axis.some_width) in
-    let on = index_from_between a (coordinate_of High a p) p axis below wide (≤ℤ_refl (coordinate_of High a p)) in
-    (on.0, on.1)
+module _ (overlap : Overlap) (a : Axis) (low high : ℤ) (before up_to : ℕ) (counts : AreCounted a low high before up_to) where
+  abbrev axis : IsAxis a
+  axis = counts.axis
 
--- One index against the numbers before a range and up to its end.
-module _ (a : Axis) (low high : ℤ) (before up_to p : ℕ) (axis : IsAxis a) (is_before : IsCountBelow a low before) (is_up_to : IsCountUpTo a high up_to) (below : p < a.count) where
-  abbrev w : ℕ
-  w = nat_abs a.width
+  abbrev o : ℕ
+  o = outside_of overlap (w a)
 
-  some : 0 < w
-  some = some_width a axis
+  -- the first index with such an overlap, and the index after the last
+  abbrev pub first : ℕ
+  first = (before + (w a - 1 - o)) / w a
 
-  row : a.width *ℤ pos p ≡ pos (p * w)
-  row = omega (arith, ints, widths_is a axis p, mul_comm w p)
+  abbrev pub end : ℕ
+  end = (up_to + o) / w a
 
-  next_row : (p + 1) * w ≡ p * w + w
-  next_row = omega (arith, add-mul p 1 w)
-
-  pub overlap_from_indices : (overlap : Overlap) → low ≤ℤ high → first_index overlap before w ≤ p → p < end_index overlap up_to w → HasOverlapIn overlap a low high p
-  overlap_from_indices Partial ordered first last = (
-    ordered,
-    (is_before (coordinate_of High a p) (greatest_on_axis a p axis below)).1 (omega (arith, ints, floor_at_most before w p some first, row, next_row, width_is a axis)),
-    (is_up_to (coordinate_of Low a p) (least_on_axis a p axis below)).1 (omega (arith, ints, ceil_past up_to w p some last, row)),
-  )
-  overlap_from_indices Whole ordered first last = (
-    (is_before (coordinate_of Low a p) (least_on_axis a p axis below)).1 (omega (arith, ints, ceil_at_most before w p some first, row)),
-    (is_up_to (coordinate_of High a p) (greatest_on_axis a p axis below)).1 (omega (arith, ints, floor_past up_to w p some last, row, next_row, width_is a axis)),
-  )
-
-  pub indices_from_overlap : (overlap : Overlap) → HasOverlapIn overlap a low high p → (first_index overlap before w ≤ p) × (p < end_index overlap up_to w)
-  indices_from_overlap Partial has =
-      let first = (is_before (coordinate_of High a p) (greatest_on_axis a p axis below)).0 has.1 in
-      let last = (is_up_to (coordinate_of Low a p) (least_on_axis a p axis below)).0 has.2 in (
-        at_least_floor before w p some (omega (arith, ints, first, row, next_row, width_is a axis)),
-        past_ceil up_to w p some (omega (arith, ints, last, row)),
+  pub each_index : (p : ℕ) → p < a.count → ((low ≤ℤ high) × (first ≤ p) × (p < end)) ↔ HasOverlapIn overlap a low high p
+  each_index p below =
+      let few = some_outside a axis overlap in
+      let from = counts.before_is (coordinate_of (first_point overlap) a p) (subst (IsOnAxis a) (sym (first_point_is a axis overlap p)) (number_on a axis p o below few)) in
+      let to = counts.up_to_is (coordinate_of (last_point overlap) a p) (subst (IsOnAxis a) (sym (last_point_is a axis overlap p)) (number_on a axis p (w a - 1 - o) below (omega (arith, few)))) in
+      let firsts = at_quotient (before + (w a - 1 - o)) (w a) p (some_width a axis) in
+      let ends = before_quotient (up_to + o) (w a) p (some_width a axis) in
+      let row = add-mul p 1 (w a) in (
+        λ (h : (low ≤ℤ high) × (first ≤ p) × (p < end)). (
+          h.0,
+          from.1 (omega (arith, ints, firsts.0 h.1, few, row, first_point_is a axis overlap p)),
+          to.1 (omega (arith, ints, ends.0 h.2, few, row, last_point_is a axis overlap p)),
+        ),
+        λ (h : HasOverlapIn overlap a low high p). (
+          h.0,
+          firsts.1 (omega (arith, ints, from.0 h.1, few, row, first_point_is a axis overlap p)),
+          ends.1 (omega (arith, ints, to.0 h.2, few, row, last_point_is a axis overlap p)),
+        ),
       )
-  indices_from_overlap Whole has =
-      let first = (is_before (coordinate_of Low a p) (least_on_axis a p axis below)).0 has.0 in
-      let last = (is_up_to (coordinate_of High a p) (greatest_on_axis a p axis below)).0 has.1 in (
-        at_least_ceil before w p some (omega (arith, ints, first, row)),
-        past_floor up_to w p some (omega (arith, ints, last, row, next_row, width_is a axis)),
-      )
 
--- no index is past the last
-module _ (a : Axis) (up_to : ℕ) (axis : IsAxis a) (limit : (a.lo +ℤ pos up_to) ≤ℤ end_of a) where
-  few : up_to ≤ a.count * nat_abs a.width
-  few = omega (arith, ints, limit, widths_is a axis a.count, mul_comm a.count (nat_abs a.width))
+  end_limit : end ≤ a.count
+  end_limit =
+      grind (arith, ints, counts.limit, some_outside a axis overlap, (before_quotient (up_to + o) (w a) a.count (some_width a axis)).0, widths_is a axis a.count, mul_comm a.count (w a), add-mul a.count 1 (w a))
 
-  pub end_limit : (overlap : Overlap) → end_index overlap up_to (nat_abs a.width) ≤ a.count
-  end_limit Partial = at_least_ceil up_to (nat_abs a.width) a.count (some_width a axis) few
-  end_limit Whole =
-      elim (cases_lt a.count (up_to / nat_abs a.width)) [
-        | inl past ↦
-            absurd (omega (arith, floor_past up_to (nat_abs a.width) a.count (some_width a axis) past, few, add-mul a.count 1 (nat_abs a.width), some_width a axis))
-        | inr le ↦ le
-      ]
-
--- ---- the indices of an axis
-
--- the first index with such an overlap, and the index after the last
-module _ (overlap : Overlap) (a : Axis) (low high : ℤ) (before up_to first end : ℕ) (axis : IsAxis a) (is_before : IsCountBelow a low before) (is_up_to : IsCountUpTo a high up_to) (limit : (a.lo +ℤ pos up_to) ≤ℤ end_of a) (first_is : first ≡ first_index overlap before (nat_abs a.width)) (end_is : end ≡ end_index overlap up_to (nat_abs a.width)) where
   pub some_indices : low ≤ℤ high → first < end → AreIndicesIn overlap a low high first (end - 1)
-  some_indices order more = record {
-    ordered = omega arith;
-    below = omega (arith, end_limit a up_to axis limit overlap);
-    exactly = λ p below. (
-      λ (between : (first ≤ p) × (p ≤ end - 1)).
-          overlap_from_indices a low high before up_to p axis is_before is_up_to below overlap order (omega (arith, between.0, first_is)) (omega (arith, between.1, more, end_is)),
-      λ (has : HasOverlapIn overlap a low high p).
-          let indices = indices_from_overlap a low high before up_to p axis is_before is_up_to below overlap has in (omega (arith, indices.0, first_is), omega (arith, indices.1, end_is)),
-    );
+  some_indices ordered more = record {
+    ordered = omega (arith, more);
+    below = omega (arith, more, end_limit);
+    exactly = λ p below.
+        let each = each_index p below in (
+          λ (between : (first ≤ p) × (p ≤ end - 1)). each.0 (ordered, between.0, omega (arith, between.1, more)),
+          λ (has : HasOverlapIn overlap a low high p). let indices = each.1 has in (indices.1, omega (arith, indices.2)),
+        );
   }
-
-  pub a_index : low ≤ℤ high → first < end → (p : ℕ) × (p < a.count) × HasOverlapIn overlap a low high p
-  a_index order more =
-      let indices = some_indices order more in
-      let below : first < a.count = omega (arith, indices.ordered, indices.below) in
-      (first, below, (indices.exactly first below).0 (omega arith, omega arith))
-
-  pub no_index : end ≤ first → (p : ℕ) → p < a.count → HasOverlapIn overlap a low high p → ⊥
-  no_index none p below has =
-      let indices = indices_from_overlap a low high before up_to p axis is_before is_up_to below overlap has in omega (arith, indices.0, indices.1, first_is, end_is)
-
--- a range that ends before it begins has no index
-pub ordered_overlap : (overlap : Overlap) (a : Axis) (low high : ℤ) (p : ℕ) → IsAxis a → HasOverlapIn overlap a low high p → low ≤ℤ high
-ordered_overlap Partial a low high p axis has = has.0
-ordered_overlap Whole a low high p axis has = omega (arith, ints, has.0, has.1, axis.some_width)

@@ -1,5 +1,5 @@
 -- The index of a cell along an axis, and the centre there, which depends on it alone.
-use Rattle.std.proofs.Common.{◌≡◌, ℕ, zero, suc, ◌+◌, ◌/◌, ◌%◌, ◌<◌, arith, refl, ap, ap₂, sym, subst, ◌∙◌, List, [], ◌∷◌, length, drop, get_or}
+use Rattle.std.proofs.Common.{◌≡◌, ℕ, ◌+◌, ◌/◌, ◌%◌, ◌<◌, arith, ap, ap₂, sym, subst, ◌∙◌, List, length, drop, get_or}
 use Rattle.std.specs.List.{All}
 use Rattle.std.proofs.lemmas.List.Elements.{All-get_or}
 use Rattle.std.proofs.lemmas.Nat.{mod_below}
@@ -10,12 +10,7 @@ use Rattle.grid_quantiser.specs.declared.axis.Axis.{Axis}
 use Rattle.grid_quantiser.specs.Axes.{IsAxis, no_axis, counts_of, cells_of}
 use Rattle.grid_quantiser.specs.Cells.{centre_of}
 use Rattle.grid_quantiser.specs.Indices.{index_along, middle_of}
-use Rattle.grid_quantiser.proofs.Counts.{length-counts_of, each_count, each_number}
-
-drop-counts_of : (k : ℕ) (axes : List Axis) → drop k (counts_of axes) ≡ counts_of (drop k axes)
-drop-counts_of zero axes = refl
-drop-counts_of (suc k) [] = refl
-drop-counts_of (suc k) (a ∷ axes) = drop-counts_of k axes
+use Rattle.grid_quantiser.proofs.Counts.{length-counts_of, drop-counts_of, each_count, each_number}
 
 -- the cells along the later axes are skipped
 pub index_along_is : (axes : List Axis) (i c : ℕ) → index_along axes i c ≡ c / cells_of (drop (i + 1) axes) % (get_or axes i no_axis).count

@@ -4,8 +4,9 @@ ghost use Rattle.base.specs.declared.limits.TheConstants.{CELLS_LIMIT, STATES_LI
 ghost use Rattle.grid_quantiser.specs.Axes.{counts_of, cells_of, AreAxes};
 ghost use Rattle.mixed_radix.specs.Boxes.{box_counts, last_of};
 ghost use Rattle.grid_quantiser.specs.CellBoxes.{IsAtMost, IsBoxInDomain, Touches, LiesInside, AreCornersMeeting, IsCellBox, cells_between};
+ghost use Rattle.grid_quantiser.specs.inside.Overlaps.{HasOverlap};
 
-use crate::axis::Axis;
+use crate::axis::{Axis, Overlap};
 use crate::grid::{Grid, Point};
 use base::limits::STATES_LIMIT;
 use mixed_radix::{box_size, decode, nth};
@@ -90,8 +91,7 @@ impl Grid {
         requires ordered { IsAtMost self.now lo.now hi.now }
         ensures { IsTrue result ↔ LiesInside self.now c lo.now hi.now }
     {
-        let axes = self.axes();
-        is_at_most(axes, lo, &self.low(c)) && is_at_most(axes, &self.high(c), hi)
+        self.has_overlap(c, lo, hi, Overlap::Whole)
     }
 
     /// Whether some point of a cell lies in the box from `lo` to `hi`.
@@ -101,8 +101,20 @@ impl Grid {
         requires ordered { IsAtMost self.now lo.now hi.now }
         ensures { IsTrue result ↔ Touches self.now c lo.now hi.now }
     {
+        self.has_overlap(c, lo, hi, Overlap::Partial)
+    }
+
+    /// Whether the index of a cell has such an overlap in the box from `lo` to `hi` in each state.
+    #[inline]
+    fn has_overlap(&self, c: u32, lo: &Point, hi: &Point, overlap: Overlap) -> bool
+        requires cell { c < cells_of self.now }
+        requires ordered { IsAtMost self.now lo.now hi.now }
+        ensures overlap { IsTrue result ↔ HasOverlap overlap self.now lo.now hi.now c }
+        ensures axes { AreAxes self.now }
+    {
         let axes = self.axes();
-        is_at_most(axes, lo, &self.high(c)) && is_at_most(axes, &self.low(c), hi)
+        is_at_most(axes, lo, &self.point(c, overlap.first_point()))
+            && is_at_most(axes, &self.point(c, overlap.last_point()), hi)
     }
 }
 

@@ -62,7 +62,7 @@ impl Grid {
 
     /// One number of each state's index in a cell.
     #[inline]
-    fn point(&self, c: u32, cell_point: CellPoint) -> Point
+    pub(crate) fn point(&self, c: u32, cell_point: CellPoint) -> Point
         requires { c < cells_of self.now }
         ensures { result ≡ point_of (numbers_of cell_point self.now c) }
     {

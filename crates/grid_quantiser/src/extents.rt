@@ -24,7 +24,7 @@ impl Grid {
         requires { axis < length self.now }
         ensures { IsExtentOf (axis_at self.now axis) low high result }
     {
-        let axis = self.axes()[axis as usize];
+        let axis = self.axis(axis);
         let first = axis.index_holding(low)? as u32;
         let last = axis.index_holding(high)? as u32;
         Some(Extent { first, last })
@@ -35,7 +35,7 @@ impl Grid {
         requires { axis < length self.now }
         ensures { result ≡ extended_axis (axis_at self.now axis) }
     {
-        self.axes()[axis as usize].extended_quantiser()
+        self.axis(axis).extended_quantiser()
     }
 
     /// The extent on an axis of what lies so many indices after what has this extent on the extended axis:
@@ -47,7 +47,7 @@ impl Grid {
         requires extent { IsShiftable (axis_at self.now axis) indices extent }
         ensures { IsShiftOf (axis_at self.now axis) indices extent result }
     {
-        let count = self.axes()[axis as usize].count as u32;
+        let count = self.axis(axis).count as u32;
         let extent = extent?;
         let first = extent.first + indices;
         let last = extent.last + indices;
@@ -88,7 +88,7 @@ impl Grid {
         requires { axis < length self.now }
         ensures { result ≡ (axis_at self.now axis).count }
     {
-        self.axes()[axis as usize].count as u32
+        self.axis(axis).count as u32
     }
 
     /// The index of a cell along each axis. Past the last axis it is 0.

@@ -1,5 +1,5 @@
 ghost use Rattle.std.specs.Prelude.{◌≡◌, ◌*◌, ◌<◌, ◌≤◌, ◌↔◌, length, IfOk, IsErr};
-ghost use Rattle.grid_quantiser.specs.Axes.{counts_of, cells_of, AreAxes, axis_at};
+ghost use Rattle.grid_quantiser.specs.Axes.{counts_of, cells_of, IsAxis, AreAxes, axis_at};
 ghost use Rattle.grid_quantiser.specs.inside.Storage.{six_counts};
 ghost use Rattle.mixed_radix.specs.Radix.{size};
 ghost use Rattle.grid_quantiser.specs.Cells.{radius_of};
@@ -89,7 +89,7 @@ impl Grid {
         requires { axis < length self.now }
         ensures { result ≡ radius_of (axis_at self.now axis) }
     {
-        self.axes()[axis as usize].radius()
+        self.axis(axis).radius()
     }
 
     /// How many numbers a cell has along an axis.
@@ -98,7 +98,7 @@ impl Grid {
         requires { axis < length self.now }
         ensures { result ≡ (axis_at self.now axis).width }
     {
-        self.axes()[axis as usize].width
+        self.axis(axis).width
     }
 
     /// The middle number of the first index on an axis: the greater of the two along an even width.
@@ -107,7 +107,7 @@ impl Grid {
         requires { axis < length self.now }
         ensures { result ≡ middle_of (axis_at self.now axis) 0 }
     {
-        self.axes()[axis as usize].number(0, CellPoint::Centre)
+        self.axis(axis).number(0, CellPoint::Centre)
     }
 
     #[inline]
@@ -117,6 +117,16 @@ impl Grid {
         ensures limit { cells_of result.now ≤ CELLS_LIMIT }
     {
         &self.axes[..self.states as usize]
+    }
+
+    #[inline]
+    pub(crate) fn axis(&self, axis: u32) -> &Axis
+        requires { axis < length self.now }
+        ensures same { result.now ≡ axis_at self.now axis }
+        ensures axis { IsAxis result.now }
+        ensures few { result.now.count ≤ CELLS_LIMIT }
+    {
+        &self.axes()[axis as usize]
     }
 
     /// How many indices each axis has.

@@ -3,7 +3,6 @@ pub mod Axes
 pub mod ValueIndices
 pub mod InputVectors
 pub mod Limits
-pub mod NamePositions
 pub mod NextPoints
 pub mod Numbers
 pub mod OrderedBoxes

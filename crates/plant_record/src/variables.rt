@@ -1,7 +1,6 @@
 //! The variables of a plant.
 
-ghost use Rattle.std.specs.Prelude.{◌≡◌, ◌<◌, ◌≤◌, length, position, IfOk, IfSome, IfNone, slice_get, Some, Contains};
-ghost use Rattle.std.specs.Str.{bytes_eq};
+ghost use Rattle.std.specs.Prelude.{◌≡◌, ◌<◌, ◌≤◌, length, IfOk, IfSome, IfNone, slice_get, Some, Contains};
 ghost use Rattle.line_words.specs.Names.{IsName};
 ghost use Rattle.base.specs.declared.limits.TheConstants.{VARIABLES_LIMIT};
 ghost use Rattle.plant_record.specs.Parts.{variable_names};
@@ -129,36 +128,13 @@ impl Variables {
         ensures found { IfSome result (λ i. slice_get (variable_names self.now) i ≡ Some name.now) }
         ensures none { IfNone result (Contains (variable_names self.now) name.now → ⊥) }
     {
-        if let Some(i) = state_named(&self.states, name) {
-            return Some(i as u32);
+        let names = self.names();
+        let count = self.states.len() + self.inputs.len() + self.noises.len();
+        for i in 0..count as u32 {
+            if names.name(i).as_bytes() == name {
+                return Some(i);
+            }
         }
-        let states = self.states.len();
-        if let Some(i) = input_named(&self.inputs, name) {
-            return Some((states + i) as u32);
-        }
-        let inputs = self.inputs.len();
-        let i = noise_named(&self.noises, name)?;
-        Some((states + inputs + i) as u32)
+        None
     }
-}
-
-fn state_named(states: &[StateVariable], name: &[u8]) -> Option<usize>
-    ensures position { result ≡ position (λ (s : StateVariable). bytes_eq s.name name.now) states.now }
-    ensures within { IfSome result (λ i. i < length states.now) }
-{
-    states.iter().position(|s| s.name.as_bytes() == name)
-}
-
-fn input_named(inputs: &[InputVariable], name: &[u8]) -> Option<usize>
-    ensures position { result ≡ position (λ (i : InputVariable). bytes_eq i.name name.now) inputs.now }
-    ensures within { IfSome result (λ i. i < length inputs.now) }
-{
-    inputs.iter().position(|i| i.name.as_bytes() == name)
-}
-
-fn noise_named(noises: &[NoiseVariable], name: &[u8]) -> Option<usize>
-    ensures position { result ≡ position (λ (w : NoiseVariable). bytes_eq w.name name.now) noises.now }
-    ensures within { IfSome result (λ i. i < length noises.now) }
-{
-    noises.iter().position(|w| w.name.as_bytes() == name)
 }

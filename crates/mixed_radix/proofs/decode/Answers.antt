@@ -1,25 +1,14 @@
-use Rattle.std.proofs.Common.{◌≡◌, ◌≢◌, ℕ, ◌+◌, ◌-◌, ◌*◌, ◌<◌, ◌≤◌, arith, ap, sym, refl, ◌∙◌, get_or, get_or-set_same, get_or-set_other, set, replicate, length, List, inl, inr}
+use Rattle.std.proofs.Common.{◌≡◌, ◌≢◌, ℕ, ◌+◌, ◌-◌, ◌*◌, ◌<◌, ◌≤◌, arith, ap, sym, ◌∙◌, get_or, get_or-set_same, get_or-set_other, set, length, List, inl, inr}
 use Rattle.std.proofs.lemmas.Bool.{cases_lt}
-use Rattle.std.proofs.lemmas.List.{length-set, get_or-replicate, get_or_past}
+use Rattle.std.proofs.lemmas.List.{length-set}
 use Rattle.std.proofs.lemmas.Nat.{div-add-mod', mod_below}
 use Rattle.mixed_radix.specs.Radix.{AreDigits}
-use Rattle.mixed_radix.proofs.Steps.{joined, joined_all, some_count, rest_step, whole_number}
+use Rattle.mixed_radix.proofs.Steps.{joined, some_count, rest_step, whole_number}
 use Rattle.mixed_radix.proofs.Numbers.{digit_after}
 use Rattle.mixed_radix.proofs.decode.Goals as goal
 
 pub split-quotient-requires : goal.split-quotient-requires
 split-quotient-requires c = omega (arith, some_count c.args.counts.now (c.loop-i.i - 1) (omega arith) c.requires.some)
-
-zeros : (k : ℕ) → ◌≡◌ {A = ℕ} (get_or (replicate 6 0) k 0) 0
-zeros k = elim (cases_lt k 6) [ inl within ↦ get_or-replicate 6 k 0 0 within | inr past ↦ get_or_past (replicate 6 0) k 0 past ]
-
-pub loop-i-init : goal.loop-i-init
-loop-i-init c = record {
-  whole = sym (joined_all c.args.counts.now _ c.args.number (length c.args.counts.now) (omega arith)) ∙ refl;
-  six = refl;
-  past = λ k _. zeros k;
-  below = λ k from lt. absurd (omega (arith, from, lt));
-}
 
 -- each digit from i on is below its count
 below_more : (counts ds : List ℕ) (i left : ℕ) → i < length ds → left < get_or counts i 0 → ((k : ℕ) → i + 1 ≤ k → k < length counts → get_or ds k 0 < get_or counts k 0) →
@@ -53,9 +42,6 @@ loop-i-preserved c =
       below = below_more counts ds i c.split-quotient.result.1 short (omega (arith, parts.left, mod_below c.loop-i.rest (get_or counts i 0) count))
           (λ k from lt. so_far.below k (omega (arith, from, back)) lt);
     }
-
-pub returns-clause-past : goal.returns-clause-past
-returns-clause-past c = c.loop-i.invariant.past
 
 pub returns-clause-each : goal.returns-clause-each
 returns-clause-each c =

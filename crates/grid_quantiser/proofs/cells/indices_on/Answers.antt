@@ -9,9 +9,6 @@ use Rattle.grid_quantiser.proofs.AxisCounts.{few_indices}
 use Rattle.grid_quantiser.proofs.Counts.{domain_each, domain_from_each, written_more}
 use Rattle.grid_quantiser.proofs.cells.indices_on.Goals as goal
 
-pub loop-i-init : goal.loop-i-init
-loop-i-init c = record { six = refl; on = λ k lt. absurd (omega (arith, lt)); each = λ k lt. absurd (omega (arith, lt)) }
-
 pub returns-in_err-indices-clause-inside : goal.returns-in_err-indices-clause-inside
 returns-in_err-indices-clause-inside c =
     let fits : FitsSigned w128 (get_or c.args.x.now c.loop-i.i (pos 0)) = search rules in
@@ -20,7 +17,7 @@ returns-in_err-indices-clause-inside c =
 
 pub overflow_cast-indices : goal.overflow_cast-indices
 overflow_cast-indices c =
-    omega (arith, c.in_ok-indices.ensures.below, few_indices c.args.axes.now c.args.axes.now c.loop-i.i refl c.requires.axes c.requires.limit c.loop-i-test.true)
+    omega (arith, c.in_ok-indices.ensures.below, few_indices c.args.axes.now c.loop-i.i c.requires.axes c.requires.limit c.loop-i-test.true)
 
 pub loop-i-preserved : goal.loop-i-preserved
 loop-i-preserved c =
@@ -40,6 +37,3 @@ loop-i-preserved c =
 pub returns-clause-inside : goal.returns-clause-inside
 returns-clause-inside c =
     (λ h. domain_from_each c.args.axes.now c.args.x.now (omega (arith, c.told-x, c.requires.axes.states_bound)) (λ k lt. c.loop-i.invariant.on k (omega (arith, lt, c.loop-i-test.false))), λ h. refl)
-
-pub returns-clause-each : goal.returns-clause-each
-returns-clause-each c = λ k lt. c.loop-i.invariant.each k (omega (arith, lt, c.loop-i-test.false))

@@ -1,15 +1,12 @@
-use Rattle.std.proofs.Common.{ℕ, ◌-◌, ◌++◌, arith, ap, sym, refl, ◌∙◌, replicate, get_or}
+use Rattle.std.proofs.Common.{ℕ, ◌-◌, ◌++◌, arith, ap, sym, ◌∙◌, replicate, get_or}
 use Rattle.std.proofs.lemmas.List.{length-set}
 use Rattle.grid_quantiser.specs.Axes.{no_axis, counts_of}
 use Rattle.grid_quantiser.proofs.AxisCounts.{few_indices}
-use Rattle.grid_quantiser.proofs.Counts.{length-counts_of, each_count, written_more, kept_more, six_defaults, six_written}
+use Rattle.grid_quantiser.proofs.Counts.{length-counts_of, each_count, written_more, kept_more, six_written}
 use Rattle.grid_quantiser.proofs.grid.counts_in.Goals as goal
 
-pub loop-i-init : goal.loop-i-init
-loop-i-init c = record { six = refl; each = λ k lt. absurd (omega (arith, lt)); rest = λ k le. six_defaults 0 k }
-
 pub overflow_cast-counts : goal.overflow_cast-counts
-overflow_cast-counts c = omega (arith, few_indices c.args.axes.now c.args.axes.now c.loop-i.i refl c.requires.axes c.requires.limit c.loop-i-test.true)
+overflow_cast-counts c = omega (arith, few_indices c.args.axes.now c.loop-i.i c.requires.axes c.requires.limit c.loop-i-test.true)
 
 pub loop-i-preserved : goal.loop-i-preserved
 loop-i-preserved c =

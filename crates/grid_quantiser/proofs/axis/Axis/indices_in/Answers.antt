@@ -1,77 +1,49 @@
-use Rattle.std.proofs.Common.{◌≡◌, ℕ, ◌/◌, arith, ap, refl, ◌∙◌, FitsSigned, nat_abs, ◌≤ℤ◌, rules}
-use Rattle.std.specs.Int.{w128, div_ceil}
-use Rattle.std.proofs.lemmas.Int.{ints, to_z-of_z}
+use Rattle.std.proofs.Common.{◌<◌, ◌≤ℤ◌, arith, refl, FitsSigned, rules}
+use Rattle.std.specs.Int.{w128}
 use Rattle.std.proofs.lemmas.Bool.{false≢true}
-use Rattle.grid_quantiser.specs.declared.axis.Overlap.{Overlap}
-use Rattle.grid_quantiser.specs.declared.axis.Overlap.TheVariants.{Partial, Whole}
-use Rattle.grid_quantiser.proofs.OverlapNumbers.{IsCountBelow, IsCountUpTo, ceil, first_index, end_index, some_indices, a_index, no_index, ordered_overlap}
+use Rattle.std.proofs.lemmas.Int.{ints, to_z-of_z}
+use Rattle.grid_quantiser.proofs.AxisNumbers.{width_below}
+use Rattle.grid_quantiser.proofs.OverlapNumbers.{AreCounted, counted, first, end, each_index, some_indices}
 use Rattle.grid_quantiser.proofs.axis.Axis.indices_in.Goals as goal
-use Rattle.grid_quantiser.proofs.axis.Axis.indices_in.Goals.{in-Partial, in-Whole, else-low-high-via-then-low-high+else-first-end, else-low-high-via-else-low-high}
+use Rattle.grid_quantiser.proofs.axis.Axis.indices_in.Goals.{After-count_below-2, else-low-high-via-then-low-high+else-first-end, else-low-high-via-else-low-high}
 
--- What the two arms find.
-record AreFound (overlap : Overlap) (found : ℕ × ℕ) (before up_to w : ℕ) : Type 0 where
-  first : found.0 ≡ first_index overlap before w
-  end : found.1 ≡ end_index overlap up_to w
+module _ (c : After-count_below-2) where
+  width_fits : FitsSigned w128 c.args.self.now.width
+  width_fits = search rules
 
-part_found : (overlap : Overlap) (found : ℕ × ℕ) (before up_to w v last : ℕ) → v ≡ w → overlap ≡ Partial → found ≡ (before / v, last) → last ≡ div_ceil up_to v → AreFound overlap found before up_to w
-part_found overlap found before up_to w v last width is found_is last_is =
-    rw is
-    (record { first = ap (λ (f : ℕ × ℕ). f.0) found_is ∙ ap (λ k. before / k) width; end = ap (λ (f : ℕ × ℕ). f.1) found_is ∙ last_is ∙ ap (λ k. ceil up_to k) width })
+  counts : AreCounted c.args.self.now c.args.low c.args.high c.count_below.result c.count_below-2.result
+  counts =
+      let fits : FitsSigned w128 c.saturating_add.result = search rules in
+      counted c.args.self.now c.args.low c.args.high c.saturating_add.result c.count_below.result c.count_below-2.result c.requires c.ranges.high (rw (to_z-of_z w128 c.args.high c.ranges.high) at c.saturating_add.ensures)
+      (rw (to_z-of_z w128 c.args.low c.ranges.low) at c.count_below.ensures.below) (rw (to_z-of_z w128 c.saturating_add.result fits) at c.count_below-2.ensures.below) c.count_below-2.ensures.limit
 
-whole_found : (overlap : Overlap) (found : ℕ × ℕ) (before up_to w v first : ℕ) → v ≡ w → overlap ≡ Whole → found ≡ (first, up_to / v) → first ≡ div_ceil before v → AreFound overlap found before up_to w
-whole_found overlap found before up_to w v first width is found_is first_is =
-    rw is
-    (record { first = ap (λ (f : ℕ × ℕ). f.0) found_is ∙ first_is ∙ ap (λ k. ceil before k) width; end = ap (λ (f : ℕ × ℕ). f.1) found_is ∙ ap (λ k. up_to / k) width })
+pub overflow_add-end : goal.overflow_add-end
+overflow_add-end c =
+    omega (arith, ints, c.requires.low_bound, c.requires.high_bound, c.count_below-2.ensures.limit, c.outside-outside.ensures.below, width_below c.args.self.now c.requires)
 
 pub returns-then-first-end : goal.returns-then-first-end
 returns-then-first-end c =
-    let a = c.args.self.now in
-    let overlap = c.args.overlap in
-    let low = c.args.low in
-    let high = c.args.high in
-    let before = c.count_below-before.result in
-    let up_to = c.count_up_to-up_to.result in
-    let both = c.match-overlap.first in
-    let fits : FitsSigned w128 a.width = search rules in
-    let width = ap nat_abs (to_z-of_z w128 a.width fits) in
-    let is_before : IsCountBelow a low before = rw (to_z-of_z w128 low c.ranges.low) at c.count_below-before.ensures.below in
-    let is_up_to : IsCountUpTo a high up_to = rw (to_z-of_z w128 high c.ranges.high) at c.count_up_to-up_to.ensures.up_to in
-    let found : AreFound overlap both before up_to (nat_abs a.width) = elim c.match-overlap.branch [
-      | in-Partial w ↦ part_found overlap both before up_to (nat_abs a.width) _ w.div_ceil.result width w.in-Partial.is w.first-is w.div_ceil.ensures
-      | in-Whole w ↦ whole_found overlap both before up_to (nat_abs a.width) _ w.div_ceil-in-Whole.result width w.in-Whole.is w.first-is w.div_ceil-in-Whole.ensures
-    ] in
-    let order : low ≤ℤ high = omega (arith, ints, c.if-low-high.true) in
-    record {
-      some = (λ some. a_index overlap a low high before up_to both.0 both.1 c.requires is_before is_up_to c.count_up_to-up_to.ensures.limit found.first found.end order c.if-first-end.true, λ has. refl);
-      indices = some_indices overlap a low high before up_to both.0 both.1 c.requires is_before is_up_to c.count_up_to-up_to.ensures.limit found.first found.end order c.if-first-end.true;
-    }
+    let k = (goal.at.returns-then-first-end c).After-count_below-2 in
+    let each = each_index c.args.overlap _ _ _ _ _ (counts k) in
+    let ordered : c.args.low ≤ℤ c.args.high = omega (arith, ints, c.if-low-high.true) in
+    let more : first c.args.overlap _ _ _ _ _ (counts k) < end c.args.overlap _ _ _ _ _ (counts k) = rw (c.outside-outside.ensures.outside, to_z-of_z w128 c.args.self.now.width (width_fits k)) at c.if-first-end.true in
+    let found = some_indices c.args.overlap _ _ _ _ _ (counts k) ordered more in
+    rw (c.outside-outside.ensures.outside, to_z-of_z w128 c.args.self.now.width (width_fits k))
+    (record {
+      some = (λ some. let below : first c.args.overlap _ _ _ _ _ (counts k) < c.args.self.now.count = omega (arith, found.ordered, found.below) in (_, below, (each _ below).0 (ordered, omega arith, more)), λ has. refl);
+      indices = found;
+    })
 
-pub returns-else-low-high : goal.returns-else-low-high
-returns-else-low-high c =
-    let a = c.args.self.now in
-    let overlap = c.args.overlap in
-    let low = c.args.low in
-    let high = c.args.high in
-    let before = c.count_below-before.result in
-    let up_to = c.count_up_to-up_to.result in
-    let both = c.match-overlap.first in
-    let fits : FitsSigned w128 a.width = search rules in
-    let width = ap nat_abs (to_z-of_z w128 a.width fits) in
-    let is_before : IsCountBelow a low before = rw (to_z-of_z w128 low c.ranges.low) at c.count_below-before.ensures.below in
-    let is_up_to : IsCountUpTo a high up_to = rw (to_z-of_z w128 high c.ranges.high) at c.count_up_to-up_to.ensures.up_to in
-    let found : AreFound overlap both before up_to (nat_abs a.width) = elim c.match-overlap.branch [
-      | in-Partial w ↦ part_found overlap both before up_to (nat_abs a.width) _ w.div_ceil.result width w.in-Partial.is w.first-is w.div_ceil.ensures
-      | in-Whole w ↦ whole_found overlap both before up_to (nat_abs a.width) _ w.div_ceil-in-Whole.result width w.in-Whole.is w.first-is w.div_ceil-in-Whole.ensures
-    ] in
-    record {
-      some = (
-        λ some. absurd (false≢true some),
-        λ has. elim c.else-low-high.branch [
-          | else-low-high-via-then-low-high+else-first-end w ↦
-              absurd (no_index overlap a low high before up_to both.0 both.1 c.requires is_before is_up_to c.count_up_to-up_to.ensures.limit found.first found.end w.if-first-end.false has.0 has.1 has.2)
-          | else-low-high-via-else-low-high w ↦
-              absurd (omega (arith, ints, w.if-low-high.false, ordered_overlap overlap a low high has.0 c.requires has.2))
-        ],
-      );
-      indices = tt;
-    }
+pub returns-else-low-high-clause-some : goal.returns-else-low-high-clause-some
+returns-else-low-high-clause-some c = (
+  λ some. absurd (false≢true some),
+  λ has.
+      let k = (goal.at.returns-else-low-high-clause-some c).After-count_below-2 in
+      let indices = (each_index c.args.overlap _ _ _ _ _ (counts k) has.0 has.1).1 has.2 in
+      absurd
+      (elim c.else-low-high.branch [
+        | else-low-high-via-then-low-high+else-first-end w ↦
+            let none = rw (c.outside-outside.ensures.outside, to_z-of_z w128 c.args.self.now.width (width_fits k)) at w.if-first-end.false in omega (arith, none, indices.1, indices.2)
+        | else-low-high-via-else-low-high w ↦ omega (arith, ints, w.if-low-high.false, indices.0)
+      ]),
+)

@@ -1,4 +1,4 @@
-use Rattle.std.proofs.Common.{ℕ, ◌<◌, ◌≤◌, arith, ap, refl, below_more, length, get_or}
+use Rattle.std.proofs.Common.{◌<◌, arith, ap, refl, length}
 use Rattle.mixed_radix.proofs.Numbers.{the_digits}
 use Rattle.grid_quantiser.specs.Axes.{counts_of}
 use Rattle.grid_quantiser.proofs.Counts.{length-counts_of}
@@ -6,14 +6,6 @@ use Rattle.grid_quantiser.proofs.BetweenCells.{between_from_contains, contains_f
 use Rattle.grid_quantiser.proofs.BoxNth.{corners}
 use Rattle.grid_quantiser.proofs.grid.Grid.box_has.Goals as goal
 use Rattle.grid_quantiser.proofs.grid.Grid.box_has.Goals.{then-indices-i-via-then-indices-i, then-indices-i-via-else-indices-i+then-last-i}
-
-pub loop-i-init : goal.loop-i-init
-loop-i-init c = λ k lt. absurd (omega (arith, lt))
-
-pub loop-i-preserved : goal.loop-i-preserved
-loop-i-preserved c =
-    below_more (λ (k : ℕ). (get_or c.decode-first.result k 0 ≤ get_or c.decode-indices.result k 0) × (get_or c.decode-indices.result k 0 ≤ get_or c.decode-last.result k 0)) c.loop-i.i
-    c.loop-i.invariant (c.if-indices-i.false, c.if-last-i.false)
 
 pub returns-then-indices-i : goal.returns-then-indices-i
 returns-then-indices-i c = (

@@ -1,10 +1,9 @@
-use Rattle.std.proofs.Common.{◌≡◌, ◌≢◌, ℕ, ◌<◌, ◌≤◌, arith, ap, refl, sym, ◌∙◌, below_more, List, length, get_or, set, get_or-set_same, get_or-set_other, ℤ, pos, FitsSigned, to_z, of_z, rules}
+use Rattle.std.proofs.Common.{◌≡◌, ◌≢◌, ℕ, ◌<◌, ◌≤◌, arith, ap, sym, ◌∙◌, below_more, List, length, get_or, set, get_or-set_same, get_or-set_other, pos, FitsSigned, rules}
 use Rattle.std.specs.Int.{w128}
 use Rattle.std.proofs.lemmas.Int.{to_z-of_z}
 use Rattle.std.proofs.lemmas.List.{length-set}
 use Rattle.mixed_radix.specs.Radix.{number, AreDigits}
 use Rattle.grid_quantiser.specs.declared.axis.Axis.{Axis}
-use Rattle.grid_quantiser.specs.declared.axis.Overlap.{Overlap}
 use Rattle.grid_quantiser.specs.Axes.{no_axis, counts_of}
 use Rattle.grid_quantiser.specs.inside.Overlaps.{AreIndicesIn}
 use Rattle.grid_quantiser.proofs.AxisCounts.{few_indices}
@@ -12,30 +11,23 @@ use Rattle.grid_quantiser.proofs.Counts.{length-counts_of, each_count}
 use Rattle.grid_quantiser.proofs.OverlapCells.{corners_of_indices, no_box, box_of_corners}
 use Rattle.grid_quantiser.proofs.grid.Grid.cells_with.Goals as goal
 
-pub loop-i-init : goal.loop-i-init
-loop-i-init c = record { six_first = refl; six_last = refl; each = λ k lt. absurd (omega (arith, lt)) }
-
 pub returns-in_err-low-clause-cells : goal.returns-in_err-low-clause-cells
 returns-in_err-low-clause-cells c =
     let axes = c.axes-axes.result.now in
     let k = c.loop-i.i in
     let fits_lo : FitsSigned w128 (get_or c.args.lo.now k (pos 0)) = search rules in
     let fits_hi : FitsSigned w128 (get_or c.args.hi.now k (pos 0)) = search rules in
-    let none = rw (to_z-of_z w128 (get_or c.args.lo.now k (pos 0)) fits_lo, to_z-of_z w128 (get_or c.args.hi.now k (pos 0)) fits_hi) at c.in_err-low.ensures.some.1 in
-    rw (c.from_residual.ensures, ← c.axes-axes.ensures.same) (no_box c.args.overlap axes c.args.lo.now c.args.hi.now k c.axes-axes.ensures.axes.each c.loop-i-test.true (λ has. absurd (let is_none = none has in cc)))
-
--- the indices that a step finds
-indices_here : (overlap : Overlap) (a : Axis) (x y : ℤ) (p q : ℕ) → FitsSigned w128 x → FitsSigned w128 y → AreIndicesIn overlap a (to_z w128 (of_z w128 x)) (to_z w128 (of_z w128 y)) p q → AreIndicesIn overlap a x y p q
-indices_here overlap a x y p q fits_x fits_y indices = rw (to_z-of_z w128 x fits_x, to_z-of_z w128 y fits_y) at indices
+    let none = simp to_z-of_z at c.in_err-low.ensures.some.1 in
+    rw (c.from_residual.ensures, ← c.axes-axes.ensures.same) (no_box c.args.overlap axes c.args.lo.now c.args.hi.now k c.loop-i-test.true (λ has. absurd (let is_none = none has in cc)))
 
 pub overflow_cast-first : goal.overflow_cast-first
 overflow_cast-first c =
     let found = c.in_ok-low.ensures.indices in
-    omega (arith, found.ordered, found.below, few_indices c.axes-axes.result.now c.axes-axes.result.now c.loop-i.i refl c.axes-axes.ensures.axes c.axes-axes.ensures.limit c.loop-i-test.true)
+    omega (arith, found.ordered, found.below, few_indices c.axes-axes.result.now c.loop-i.i c.axes-axes.ensures.axes c.axes-axes.ensures.limit c.loop-i-test.true)
 
 pub overflow_cast-last : goal.overflow_cast-last
 overflow_cast-last c =
-    omega (arith, c.in_ok-low.ensures.indices.below, few_indices c.axes-axes.result.now c.axes-axes.result.now c.loop-i.i refl c.axes-axes.ensures.axes c.axes-axes.ensures.limit c.loop-i-test.true)
+    omega (arith, c.in_ok-low.ensures.indices.below, few_indices c.axes-axes.result.now c.loop-i.i c.axes-axes.ensures.axes c.axes-axes.ensures.limit c.loop-i-test.true)
 
 pub loop-i-preserved : goal.loop-i-preserved
 loop-i-preserved c =
@@ -51,7 +43,7 @@ loop-i-preserved c =
     let lasts = c.loop-i.last in
     let fits_lo : FitsSigned w128 (get_or lo i (pos 0)) = search rules in
     let fits_hi : FitsSigned w128 (get_or hi i (pos 0)) = search rules in
-    let here = indices_here overlap (get_or axes i no_axis) (get_or lo i (pos 0)) (get_or hi i (pos 0)) p q fits_lo fits_hi c.in_ok-low.ensures.indices in
+    let here = simp to_z-of_z at c.in_ok-low.ensures.indices in
     let short_first : i < length firsts = omega (arith, so_far.six_first, c.axes-axes.ensures.axes.states_bound, c.loop-i-test.true) in
     let short_last : i < length lasts = omega (arith, so_far.six_last, c.axes-axes.ensures.axes.states_bound, c.loop-i-test.true) in
     record {
