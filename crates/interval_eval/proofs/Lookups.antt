@@ -86,8 +86,7 @@ outside a x false t e f none above below = omega (arith, ints, e, above)
 
 within : (a : Interval) (x : ℤ) (s t : Bool) → int_le a.lo x ≡ s → int_le x a.hi ≡ t → (s && t) ≡ true → (a.lo ≤ℤ x) × (x ≤ℤ a.hi)
 within a x true true e f both = (omega (arith, ints, e), omega (arith, ints, f))
-within a x true false e f both = absurd (false≢true both)
-within a x false t e f both = absurd (false≢true both)
+within a x _ _ e f both = absurd (false≢true both)
 
 covers_from : (a s : Interval) (points : List (ℤ × ℤ)) → All (IsIn s) (values_within points a) → Covers a s points
 covers_from a s [] each = tt
