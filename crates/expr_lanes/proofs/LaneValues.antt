@@ -4,7 +4,7 @@ use Rattle.std.specs.Prelude.{ℤ, pos, negsuc, SomeIff, FitsSigned}
 use Rattle.std.proofs.lemmas.Int.{ints, to_z-of_z}
 use Rattle.fixed_expr.specs.declared.lanes.TheConstants.{LANES}
 use Rattle.fixed_expr.specs.declared.operation.Binary.{Binary}
-use Rattle.fixed_expr.specs.declared.operation.Binary.TheVariants.{AddOp, SubOp, MulOp, MinOp, MaxOp}
+use Rattle.fixed_expr.specs.declared.operation.Binary.TheVariants.{AddOp}
 use Rattle.fixed_expr.specs.Expression.{Expression}
 use Rattle.fixed_expr.specs.Lanes.{at, AreNarrow, IsColumnOf, IsNarrowColumnOf}
 use Rattle.fixed_expr.specs.NarrowValues.{IsNarrow, StaysNarrow}

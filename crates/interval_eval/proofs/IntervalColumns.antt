@@ -1,5 +1,5 @@
 -- Intervals in many lanes, by the columns of their ends.
-use Rattle.std.proofs.Common.{◌≡◌, ℕ, ◌+◌, ◌<◌, ◌≤◌, List, ap₂, subst, ◌∙◌, arith, to_z, of_z, w64}
+use Rattle.std.proofs.Common.{◌≡◌, ℕ, ◌+◌, ◌<◌, List, ap₂, subst, ◌∙◌, arith, to_z, of_z, w64}
 use Rattle.std.specs.Prelude.{ℤ, ◌≤ℤ◌, slice_set}
 use Rattle.std.specs.Int.{int_min, int_max}
 use Rattle.std.proofs.lemmas.Int.{ints}
@@ -17,11 +17,6 @@ pub one_span_lane_more : (start found : IntervalColumn) (wanted : ℕ → Interv
     AreLanesDone (n + 1) start (record { lo = slice_set found.lo n (to_z w64 (of_z w64 lo)); hi = slice_set found.hi n (to_z w64 (of_z w64 hi)) }) wanted
 one_span_lane_more start found wanted n lo hi here done narrow_low is_low narrow_high is_high =
     record { low = one_lane_more start.lo found.lo (λ k. (wanted k).lo) n lo here done.low narrow_low is_low; high = one_lane_more start.hi found.hi (λ k. (wanted k).hi) n hi here done.high narrow_high is_high }
-
--- all lanes done
-pub all_lanes : (start found : IntervalColumn) (wanted : ℕ → Interval) (n : ℕ) → 32 ≤ n → AreLanesDone n start found wanted → AreNarrowIntervals wanted × IsIntervalColumnOf found wanted
-all_lanes start found wanted n past done =
-    ((λ k lt. ((done.low.done k (omega (arith, lt, past))).0, (done.high.done k (omega (arith, lt, past))).0)), (λ k lt. ((done.low.done k (omega (arith, lt, past))).1, (done.high.done k (omega (arith, lt, past))).1)))
 
 -- a lane that is still to come is as it was
 pub as_it_was : (start found : IntervalColumn) (wanted : ℕ → Interval) (n : ℕ) → AreLanesDone n start found wanted → interval_in found n ≡ interval_in start n
