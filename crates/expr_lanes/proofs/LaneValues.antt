@@ -4,7 +4,7 @@ use Rattle.std.specs.Prelude.{ℤ, pos, negsuc, SomeIff, FitsSigned}
 use Rattle.std.proofs.lemmas.Int.{ints, to_z-of_z}
 use Rattle.fixed_expr.specs.declared.lanes.TheConstants.{LANES}
 use Rattle.fixed_expr.specs.declared.operation.Binary.{Binary}
-use Rattle.fixed_expr.specs.declared.operation.Binary.TheVariants.{AddOp, SubOp, MulOp, MinOp, MaxOp}
+use Rattle.fixed_expr.specs.declared.operation.Binary.TheVariants.{AddOp}
 use Rattle.fixed_expr.specs.Expression.{Expression}
 use Rattle.fixed_expr.specs.Lanes.{at, AreNarrow, IsColumnOf, IsNarrowColumnOf}
 use Rattle.fixed_expr.specs.NarrowValues.{IsNarrow, StaysNarrow}
@@ -20,17 +20,11 @@ use Rattle.expr_lanes.specs.declared.lane_eval.LaneValues.TheVariants.{Alike}
 
 pub value_combined : (binary : Binary) (a b : Expression) (lane : List ℤ) → value_of (combined binary a b) lane ≡ combined_number binary (value_of a lane) (value_of b lane)
 value_combined AddOp a b lane = refl
-value_combined SubOp a b lane = refl
-value_combined MulOp a b lane = refl
-value_combined MinOp a b lane = refl
-value_combined MaxOp a b lane = refl
+value_combined _ a b lane = refl
 
 pub stays_combined : (binary : Binary) (a b : Expression) (lane : List ℤ) → StaysNarrow a lane → StaysNarrow b lane → IsNarrow (combined_number binary (value_of a lane) (value_of b lane)) → StaysNarrow (combined binary a b) lane
 stays_combined AddOp a b lane first second narrow = (first, second, narrow)
-stays_combined SubOp a b lane first second narrow = (first, second, narrow)
-stays_combined MulOp a b lane first second narrow = (first, second, narrow)
-stays_combined MinOp a b lane first second narrow = (first, second, narrow)
-stays_combined MaxOp a b lane first second narrow = (first, second, narrow)
+stays_combined _ a b lane first second narrow = (first, second, narrow)
 
 pub record StaysInParts (binary : Binary) (a b : Expression) (lane : List ℤ) : Type 0 where
   pub first : StaysNarrow a lane
@@ -39,10 +33,7 @@ pub record StaysInParts (binary : Binary) (a b : Expression) (lane : List ℤ) :
 
 pub parts_of : (binary : Binary) (a b : Expression) (lane : List ℤ) → StaysNarrow (combined binary a b) lane → StaysInParts binary a b lane
 parts_of AddOp a b lane stays = record { first = stays.0; second = stays.1; whole = stays.2 }
-parts_of SubOp a b lane stays = record { first = stays.0; second = stays.1; whole = stays.2 }
-parts_of MulOp a b lane stays = record { first = stays.0; second = stays.1; whole = stays.2 }
-parts_of MinOp a b lane stays = record { first = stays.0; second = stays.1; whole = stays.2 }
-parts_of MaxOp a b lane stays = record { first = stays.0; second = stays.1; whole = stays.2 }
+parts_of _ a b lane stays = record { first = stays.0; second = stays.1; whole = stays.2 }
 
 -- the parts' numbers combined
 pub whole_answer : (binary : Binary) (a b : Expression) (lane : List ℤ) (x y : ℤ) (o : Option ℤ) → StaysNarrow a lane → x ≡ value_of a lane → StaysNarrow b lane → y ≡ value_of b lane → SomeIff o (IsNarrow (combined_number binary x y)) (combined_number binary x y) → SomeIff o (StaysNarrow (combined binary a b) lane) (value_of (combined binary a b) lane)

@@ -8,17 +8,11 @@ use Rattle.fixed_expr.specs.inside.Passed.{ArePassed}
 use Rattle.fixed_expr.proofs.Pieces.{before_first, on_piece, after_piece}
 
 -- the arguments rise
-later : (p : ℤ × ℤ) (points : List (ℤ × ℤ)) (j : ℕ) (d : ℤ × ℤ) → RiseFrom p points → j < length points → p.0 ≤ℤ (slice_index_or points j d).0
-later p [] j d rises within = absurd (omega (arith, within))
-later p (q ∷ points) zero d rises within = omega (arith, ints, rises.0)
-later p (q ∷ points) (suc j) d rises within = omega (arith, ints, rises.0, later q points j d rises.1 (omega (arith, within)))
-
 in_order : (p : ℤ × ℤ) (points : List (ℤ × ℤ)) (i j : ℕ) (d : ℤ × ℤ) → RiseFrom p points → i ≤ j → j < suc (length points) → (slice_index_or (p ∷ points) i d).0 ≤ℤ (slice_index_or (p ∷ points) j d).0
 in_order p points zero zero d rises order within = omega (arith, ints)
-in_order p points zero (suc j) d rises order within = later p points j d rises (omega (arith, within))
-in_order p points (suc i) zero d rises order within = absurd (omega (arith, order))
-in_order p [] (suc i) (suc j) d rises order within = absurd (omega (arith, within))
+in_order p (q ∷ points) zero (suc j) d rises order within = omega (arith, ints, rises.0, in_order q points zero j d rises.1 (omega arith) (omega (arith, within)))
 in_order p (q ∷ points) (suc i) (suc j) d rises order within = in_order q points i j d rises.1 (omega (arith, order)) (omega (arith, within))
+in_order p _ _ _ d rises order within = absurd (omega (arith, order, within))
 
 pub passed_first : (points : List (ℤ × ℤ)) (x : ℤ) → IsCurve points → IsPartitionedBy (λ (p : ℤ × ℤ). int_le p.0 x) points
 passed_first [] x curve i j d order within passed = absurd (omega (arith, within))
@@ -54,7 +48,11 @@ value_after (p ∷ points) x n d curve passed all =
     ap (λ (k : ℕ). (slice_index_or (p ∷ points) k d).1) last
     ∙ sym (after_all p points x d curve.rising (λ k within. passed.before (suc k) d (omega (arith, within, all))))
 
-pub value_between : (points : List (ℤ × ℤ)) (x : ℤ) (n : ℕ) (d : ℤ × ℤ) → IsCurve points → ArePassed points x (suc n) → suc n < length points → value_along (slice_index_or points n d) (slice_index_or points (suc n) d) x ≡ curve_value points x
-value_between [] x n d curve passed within = absurd (omega (arith, within))
-value_between (p ∷ points) x n d curve passed within =
-    sym (at_position p points x n d curve.rising (omega (arith, within)) (passed.before 0 d (omega arith)) (λ k before. passed.before (suc k) d (omega (arith, before))) (passed.after (suc n) d (omega arith) within))
+pub value_between : (points : List (ℤ × ℤ)) (x : ℤ) (n : ℕ) (d : ℤ × ℤ) → IsCurve points → ArePassed points x n → (n ≡ 0 → ⊥) → (n ≡ length points → ⊥) → value_along (slice_index_or points (n - 1) d) (slice_index_or points n d) x ≡ curve_value points x
+value_between [] x n d curve passed some inside = absurd (omega (arith, curve.some))
+value_between (p ∷ points) x zero d curve passed some inside = absurd (some refl)
+value_between (p ∷ points) x (suc n) d curve passed some inside =
+    let back : suc n - 1 ≡ n = omega arith in
+    let within : suc n < length (p ∷ points) = omega (arith, passed.whole, inside) in
+    rw back
+    (sym (at_position p points x n d curve.rising (omega (arith, within)) (passed.before 0 d (omega arith)) (λ k before. passed.before (suc k) d (omega (arith, before))) (passed.after (suc n) d (omega arith) within)))

@@ -3,7 +3,7 @@ use Rattle.std.proofs.Common.{◌≡◌, ℕ, true, false, not, ◌||◌, ◌&&�
 use Rattle.std.specs.Prelude.{ℤ, pos, ◌-ℤ◌, slice_index_or}
 use Rattle.std.proofs.lemmas.Int.{ints}
 use Rattle.std.proofs.lemmas.Bool.{or_left, or_right, or_cases, and_parts, not-true, eqb-true, false≢true}
-use Rattle.fixed_expr.specs.Expression.{Expression, NumExpr, VarExpr, NegExpr, AddExpr, SubExpr, MulExpr, DivExpr, MinExpr, MaxExpr, AbsExpr, LutExpr}
+use Rattle.fixed_expr.specs.Expression.{Expression, VarExpr, AddExpr, SubExpr}
 use Rattle.fixed_expr.specs.Value.{value_of}
 use Rattle.fixed_expr.specs.Mentions.{mentions}
 use Rattle.fixed_expr.specs.Shifts.{shifts_with}
@@ -29,7 +29,6 @@ module _ (k : ℕ) (xs ys : List ℤ) where
     right i other here = same i other (or_right (mentions a i) (mentions b i) here)
 
   pub shifts : (e : Expression) → Shifts e
-  shifts (NumExpr c) is same = absurd (false≢true is)
   shifts (VarExpr j) is same = let here : j ≡ k = eqb-true j k is in omega (arith, ints, ap (λ (i : ℕ). slice_index_or xs i (pos 0)) here, ap (λ (i : ℕ). slice_index_or ys i (pos 0)) here)
   shifts (AddExpr a b) is same =
       elim (or_cases (shifts_with a k && not (mentions b k)) (not (mentions a k) && shifts_with b k) is) [
@@ -43,10 +42,4 @@ module _ (k : ℕ) (xs ys : List ℤ) where
   shifts (SubExpr a b) is same =
       let parts = and_parts (shifts_with a k) (not (mentions b k)) is in
       omega (arith, ints, shifts a parts.0 (left a b same), stays b (not-true (mentions b k) parts.1) (right a b same))
-  shifts (NegExpr a) is same = absurd (false≢true is)
-  shifts (MulExpr a b) is same = absurd (false≢true is)
-  shifts (DivExpr a c) is same = absurd (false≢true is)
-  shifts (MinExpr a b) is same = absurd (false≢true is)
-  shifts (MaxExpr a b) is same = absurd (false≢true is)
-  shifts (AbsExpr a) is same = absurd (false≢true is)
-  shifts (LutExpr a points) is same = absurd (false≢true is)
+  shifts _ is same = absurd (false≢true is)

@@ -65,6 +65,7 @@ impl Curve {
 }
 
 /// The value at a number of the curve through these points.
+#[tactic(auto, using(crate::proofs::PointsPassed::value_before, crate::proofs::PointsPassed::value_after, crate::proofs::PointsPassed::value_between))]
 fn value_at(points: &[(i128, i128)], x: i128) -> i128
     requires { IsCurve points.now }
     ensures value { result ≡ curve_value points.now x }

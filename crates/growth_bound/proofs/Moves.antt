@@ -13,12 +13,9 @@ use Rattle.growth_bound.proofs.Distances.{near_negation, near_sum, near_differen
 
 near_variable : (radii xs ys : List ℤ) (i : ℕ) → AreNear radii xs ys → IsNear (pos (nat_abs (slice_index_or radii i (pos 0)))) (slice_index_or xs i (pos 0)) (slice_index_or ys i (pos 0))
 near_variable [] [] [] i h = (omega (arith, ints), omega (arith, ints))
-near_variable [] [] (y ∷ ys) i h = absurd h
-near_variable [] (x ∷ xs) ys i h = absurd h
-near_variable (r ∷ radii) [] ys i h = absurd h
-near_variable (r ∷ radii) (x ∷ xs) [] i h = absurd h
 near_variable (r ∷ radii) (x ∷ xs) (y ∷ ys) zero h = (omega (arith, ints, h.0.0), omega (arith, ints, h.0.1))
 near_variable (r ∷ radii) (x ∷ xs) (y ∷ ys) (suc i) h = near_variable radii xs ys i h.1
+near_variable _ _ _ i h = absurd h
 
 within_magnitude : (a : Interval) (x : ℤ) → IsIn a x → nat_abs x ≤ magnitude_of a
 within_magnitude a x h = omega (arith, ints, h.0, h.1)

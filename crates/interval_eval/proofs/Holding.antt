@@ -15,10 +15,9 @@ use Rattle.interval_eval.proofs.Integers.{multiple_between, product_between}
 
 in_variable : (area : List Interval) (values : List ℤ) (i : ℕ) (d : Interval) (z : ℤ) → i < length area → AreIn area values → IsIn (slice_index_or area i d) (slice_index_or values i z)
 in_variable [] [] i d z below h = absurd (omega arith)
-in_variable [] (x ∷ values) i d z below h = absurd h
-in_variable (a ∷ area) [] i d z below h = absurd h
 in_variable (a ∷ area) (x ∷ values) zero d z below h = h.0
 in_variable (a ∷ area) (x ∷ values) (suc i) d z below h = in_variable area values i d z (omega arith) h.1
+in_variable _ _ i d z below h = absurd h
 
 in_negation : (a : Interval) (x : ℤ) → IsIn a x → IsIn (neg_span a) (neg_ℤ x)
 in_negation a x h = (omega (arith, ints), omega (arith, ints))

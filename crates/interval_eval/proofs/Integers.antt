@@ -1,5 +1,5 @@
 -- Products, floors of quotients and extremes of whole numbers, in order.
-use Rattle.std.proofs.Common.{ℕ, suc, ◌≤◌, arith}
+use Rattle.std.proofs.Common.{arith}
 use Rattle.std.specs.Prelude.{ℤ, pos, negsuc, ◌*ℤ◌, ◌≤ℤ◌}
 use Rattle.std.specs.Int.{int_min, int_max}
 use Rattle.std.proofs.lemmas.Int.{ints, clamps}

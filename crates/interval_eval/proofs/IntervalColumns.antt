@@ -1,5 +1,5 @@
 -- Intervals in many lanes, by the columns of their ends.
-use Rattle.std.proofs.Common.{◌≡◌, ℕ, ◌+◌, ◌<◌, ◌≤◌, List, ap₂, subst, ◌∙◌, arith, to_z, of_z, w64}
+use Rattle.std.proofs.Common.{◌≡◌, ℕ, ◌+◌, ◌<◌, List, ap₂, subst, ◌∙◌, arith, to_z, of_z, w64}
 use Rattle.std.specs.Prelude.{ℤ, ◌≤ℤ◌, slice_set}
 use Rattle.std.specs.Int.{int_min, int_max}
 use Rattle.std.proofs.lemmas.Int.{ints}
@@ -16,18 +16,11 @@ use Rattle.interval_eval.specs.inside.LaneProgress.{AreLanesDone}
 pub one_span_lane_more : (start found : IntervalColumn) (wanted : ℕ → Interval) (n : ℕ) (lo hi : ℤ) → n < 32 → AreLanesDone n start found wanted → IsNarrow lo → lo ≡ (wanted n).lo → IsNarrow hi → hi ≡ (wanted n).hi →
     AreLanesDone (n + 1) start (record { lo = slice_set found.lo n (to_z w64 (of_z w64 lo)); hi = slice_set found.hi n (to_z w64 (of_z w64 hi)) }) wanted
 one_span_lane_more start found wanted n lo hi here done narrow_low is_low narrow_high is_high =
-    let low = one_lane_more start.lo found.lo (λ k. (wanted k).lo) n lo done.lows here done.low narrow_low is_low in
-    let high = one_lane_more start.hi found.hi (λ k. (wanted k).hi) n hi done.highs here done.high narrow_high is_high in
-    record { lows = low.0; highs = high.0; low = low.1; high = high.1 }
-
--- all lanes done
-pub all_lanes : (start found : IntervalColumn) (wanted : ℕ → Interval) (n : ℕ) → 32 ≤ n → AreLanesDone n start found wanted → AreNarrowIntervals wanted × IsIntervalColumnOf found wanted
-all_lanes start found wanted n past done =
-    ((λ k lt. ((done.low.0 k (omega (arith, lt, past))).0, (done.high.0 k (omega (arith, lt, past))).0)), (λ k lt. ((done.low.0 k (omega (arith, lt, past))).1, (done.high.0 k (omega (arith, lt, past))).1)))
+    record { low = one_lane_more start.lo found.lo (λ k. (wanted k).lo) n lo here done.low narrow_low is_low; high = one_lane_more start.hi found.hi (λ k. (wanted k).hi) n hi here done.high narrow_high is_high }
 
 -- a lane that is still to come is as it was
 pub as_it_was : (start found : IntervalColumn) (wanted : ℕ → Interval) (n : ℕ) → AreLanesDone n start found wanted → interval_in found n ≡ interval_in start n
-as_it_was start found wanted n done = ap₂ (λ (lo hi : ℤ). record { lo = lo; hi = hi }) (done.low.1 n (omega arith)) (done.high.1 n (omega arith))
+as_it_was start found wanted n done = ap₂ (λ (lo hi : ℤ). record { lo = lo; hi = hi }) (done.low.rest n (omega arith)) (done.high.rest n (omega arith))
 
 -- a corner between ends of 64 bits lies there too
 pub corner_fails : (corner : ℕ → ℤ) (wanted : ℕ → Interval) → ((k : ℕ) → ((wanted k).lo ≤ℤ corner k) × (corner k ≤ℤ (wanted k).hi)) → ¬ (AreNarrow corner) → ¬ (AreNarrowIntervals wanted)

@@ -7,7 +7,7 @@ use Rattle.std.proofs.lemmas.Bool.{false≢true}
 use Rattle.std.proofs.lemmas.Int.{ints, clamps, by_lt_z, fold-int_min_bounds, fold-int_max_bounds}
 use Rattle.std.proofs.lemmas.List.Elements.{All-head, All-tail, All-cons, All-nil, All-get_or, All-from_get_or}
 use Rattle.fixed_expr.specs.Curves.{RiseFrom, IsCurve, value_along, value_from, curve_value}
-use Rattle.fixed_expr.proofs.Laws.{between_ends, at_left, at_right, on_piece, after_piece, before_first}
+use Rattle.fixed_expr.proofs.Laws.{piece_between, at_left, at_right, on_piece, after_piece, before_first}
 use Rattle.interval_eval.specs.declared.interval.Interval.{Interval}
 use Rattle.interval_eval.specs.Span.{IsInterval, IsIn, is_in, values_within, lut_span}
 use Rattle.interval_eval.specs.NestedAreas.{IsPartOf}
@@ -59,7 +59,7 @@ value_in (q ∷ points) p a s x rises inside low high covers =
         let l = left above below in
         let h = right above below in
         subst (IsIn s) (sym (on_piece p q points x rise (omega (arith, ints, above)) below))
-        (in_between s (value_along p q l.0) (value_along p q h.0) (value_along p q x) l.2 h.2 (between_ends p q l.0 x h.0 rise l.1 h.1))
+        (in_between s (value_along p q l.0) (value_along p q h.0) (value_along p q x) l.2 h.2 (piece_between p q rise l.0 x h.0 l.1 h.1))
 
     before : x <ℤ q.0 → IsIn s (value_from p (q ∷ points) x)
     before below = by_lt_z p.0 x (λ above. inner above below) outer
@@ -86,8 +86,7 @@ outside a x false t e f none above below = omega (arith, ints, e, above)
 
 within : (a : Interval) (x : ℤ) (s t : Bool) → int_le a.lo x ≡ s → int_le x a.hi ≡ t → (s && t) ≡ true → (a.lo ≤ℤ x) × (x ≤ℤ a.hi)
 within a x true true e f both = (omega (arith, ints, e), omega (arith, ints, f))
-within a x true false e f both = absurd (false≢true both)
-within a x false t e f both = absurd (false≢true both)
+within a x _ _ e f both = absurd (false≢true both)
 
 covers_from : (a s : Interval) (points : List (ℤ × ℤ)) → All (IsIn s) (values_within points a) → Covers a s points
 covers_from a s [] each = tt

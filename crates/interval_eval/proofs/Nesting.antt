@@ -16,16 +16,14 @@ use Rattle.interval_eval.proofs.Ranging.{between}
 
 same_count : (area wider : List Interval) → ArePartsOf area wider → length area ≡ length wider
 same_count [] [] h = refl
-same_count [] (j ∷ wider) h = absurd h
-same_count (i ∷ area) [] h = absurd h
 same_count (i ∷ area) (j ∷ wider) h = ap suc (same_count area wider h.1)
+same_count _ _ h = absurd h
 
 part_variable : (area wider : List Interval) (i : ℕ) (d : Interval) → i < length wider → ArePartsOf area wider → IsPartOf (slice_index_or area i d) (slice_index_or wider i d)
 part_variable [] [] i d below h = absurd (omega (arith, below))
-part_variable [] (j ∷ wider) i d below h = absurd h
-part_variable (a ∷ area) [] i d below h = absurd h
 part_variable (a ∷ area) (b ∷ wider) zero d below h = h.0
 part_variable (a ∷ area) (b ∷ wider) (suc i) d below h = part_variable area wider i d (omega (arith, below)) h.1
+part_variable _ _ i d below h = absurd h
 
 part_negation : (a b : Interval) → IsPartOf a b → IsPartOf (neg_span a) (neg_span b)
 part_negation a b h = (omega (arith, ints), omega (arith, ints))

@@ -1,7 +1,7 @@
 -- The span of an operation, given those of its parts.
 use Rattle.std.proofs.Common.{◌≡◌, List, Option, Some, None, SomeIff, sym, ap, ap₂, subst, ◌∙◌}
 use Rattle.fixed_expr.specs.declared.operation.Binary.{Binary}
-use Rattle.fixed_expr.specs.declared.operation.Binary.TheVariants.{AddOp, SubOp, MulOp, MinOp, MaxOp}
+use Rattle.fixed_expr.specs.declared.operation.Binary.TheVariants.{AddOp}
 use Rattle.fixed_expr.specs.declared.expr.Expr.{Expr}
 use Rattle.fixed_expr.specs.Expression.{Expression, expression_of}
 use Rattle.fixed_expr.specs.inside.Combinations.{combined}
@@ -29,10 +29,7 @@ of_part E found area e held a is same answer =
 both_parts : (binary : Binary) (found : Option Interval) (area : List Interval) (a b : Expression) (x y : Interval) → SpanStaysInRange a area × (x ≡ span_of a area) → SpanStaysInRange b area × (y ≡ span_of b area)
     → SomeIff found (EndsFit (combined_interval binary x y)) (combined_interval binary x y) → AnswersSpan found (combined binary a b) area
 both_parts AddOp found area a b x y p q answer = two_nodes found _ _ (combined_interval AddOp) x y _ _ p q answer
-both_parts SubOp found area a b x y p q answer = two_nodes found _ _ (combined_interval SubOp) x y _ _ p q answer
-both_parts MulOp found area a b x y p q answer = two_nodes found _ _ (combined_interval MulOp) x y _ _ p q answer
-both_parts MinOp found area a b x y p q answer = two_nodes found _ _ (combined_interval MinOp) x y _ _ p q answer
-both_parts MaxOp found area a b x y p q answer = two_nodes found _ _ (combined_interval MaxOp) x y _ _ p q answer
+both_parts binary found area a b x y p q answer = two_nodes found _ _ (combined_interval binary) x y _ _ p q answer
 
 pub of_parts : (binary : Binary) (found : Option Interval) (area : List Interval) (e : Expression) (held_a held_b a b : Expr) (x y : Interval) → e ≡ combined binary (expression_of held_a) (expression_of held_b) → a ≡ held_a → b ≡ held_b
     → SpanStaysInRange (expression_of a) area × (x ≡ span_of (expression_of a) area) → SpanStaysInRange (expression_of b) area × (y ≡ span_of (expression_of b) area)

@@ -3,7 +3,7 @@ use Rattle.std.proofs.Common.{◌≡◌, ℕ, true, false, not, ◌||◌, ◌&&�
 use Rattle.std.specs.Prelude.{◌-ℤ◌}
 use Rattle.std.proofs.lemmas.Int.{ints}
 use Rattle.std.proofs.lemmas.Bool.{or_left, or_right, or_cases, and_parts, not-true, eqb-true, false≢true}
-use Rattle.fixed_expr.specs.Expression.{Expression, NumExpr, VarExpr, NegExpr, AddExpr, SubExpr, MulExpr, DivExpr, MinExpr, MaxExpr, AbsExpr, LutExpr}
+use Rattle.fixed_expr.specs.Expression.{Expression, VarExpr, AddExpr, SubExpr}
 use Rattle.fixed_expr.specs.Mentions.{mentions}
 use Rattle.fixed_expr.specs.Shifts.{shifts_with}
 use Rattle.interval_eval.specs.declared.interval.Interval.{Interval}
@@ -37,7 +37,6 @@ module _ (k : ℕ) (area other : List Interval) where
     right i apart here = same i apart (or_right (mentions a i) (mentions b i) here)
 
   pub shifts : (e : Expression) → Shifts e
-  shifts (NumExpr c) is same = absurd (false≢true is)
   shifts (VarExpr j) is same =
       let here : j ≡ k = eqb-true j k is in
       let one : range_at area j ≡ range_at area k = ap (range_at area) here in
@@ -61,10 +60,4 @@ module _ (k : ℕ) (area other : List Interval) where
       let shifted = shifts a parts.0 (left a b same) in
       let rest = stays b (not-true (mentions b k) parts.1) (right a b same) in
       (omega (arith, ints, shifted.0, highs b rest), omega (arith, ints, shifted.1, lows b rest))
-  shifts (NegExpr a) is same = absurd (false≢true is)
-  shifts (MulExpr a b) is same = absurd (false≢true is)
-  shifts (DivExpr a c) is same = absurd (false≢true is)
-  shifts (MinExpr a b) is same = absurd (false≢true is)
-  shifts (MaxExpr a b) is same = absurd (false≢true is)
-  shifts (AbsExpr a) is same = absurd (false≢true is)
-  shifts (LutExpr a points) is same = absurd (false≢true is)
+  shifts _ is same = absurd (false≢true is)

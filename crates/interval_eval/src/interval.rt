@@ -56,6 +56,7 @@ impl Interval {
     }
 
     /// The least and the greatest of the products of ends.
+    #[tactic(auto, using(crate::proofs::Corners::corners_fit))]
     pub fn mul_span(self, other: Interval) -> Option<Interval>
         ensures { SomeIff result (EndsFit (mul_span self other)) (mul_span self other) }
     {

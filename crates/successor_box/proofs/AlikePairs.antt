@@ -66,11 +66,22 @@ module _ (p : Description) where
       in_first (centre c) (vector_of p.inputs u) noises k (pos 0) (omega (arith, lt, centre_long c))
       ∙ get_or-take states (centre_of (axes_of p) c) k (pos 0) lt
 
+  -- which is the middle of its index
+  pub central_middle : IsSound p → (c u k : ℕ) → c < cells_of (axes_of p) → k < states → get_or (central_values p c u) k (pos 0) ≡ middle_of (get_or (axes_of p) k no_axis) (index_along (axes_of p) k c)
+  central_middle sound c u k cell lt = central_state c u k lt ∙ centres_depend_on_their_indices (axes_of p) c k sound.axes cell (omega (arith, lt, length-map p.states axis_of))
+
   pub central_input : (c u k : ℕ) → states ≤ k → k < states + length p.inputs → get_or (central_values p c u) k (pos 0) ≡ get_or (vector_of p.inputs u) (k - states) (pos 0)
   central_input c u k past lt = in_second (centre c) (vector_of p.inputs u) noises k (pos 0) states (centre_long c) past (omega (arith, lt, vector_count p.inputs u))
 
   pub central_noise : (c u k : ℕ) → states + length p.inputs ≤ k → get_or (central_values p c u) k (pos 0) ≡ get_or noises (k - states - length p.inputs) (pos 0)
   central_noise c u k past = in_third (centre c) (vector_of p.inputs u) noises k (pos 0) states (length p.inputs) (centre_long c) (vector_count p.inputs u) past
+
+  -- the index of a pair by its kind
+  pub state_slot : (c u k : ℕ) → k < states → index_along (axes_of p) k c ≡ index_in p c u k
+  state_slot c u k lt = cond_below k states (index_along (axes_of p) k c) (value_index p.inputs (k - states) u) lt
+
+  pub among_slot : (c u k : ℕ) → states ≤ k → value_index p.inputs (k - states) u ≡ index_in p c u k
+  among_slot c u k past = cond_above k states (index_along (axes_of p) k c) (value_index p.inputs (k - states) u) (value_index p.inputs (k - states) u) past refl
 
 -- ---- two pairs
 
@@ -97,51 +108,32 @@ module _ (p : Description) (c u d v k : ℕ) where
         | inl state ↦
             let lt : k < length state_ranges = omega (arith, state, states_count) in
             in_first state_ranges (ranges v) noise_ranges k no_range lt ∙ sym (in_first state_ranges (ranges u) noise_ranges k no_range lt)
-        | inr past ↦ later past (cases_lt k (length p.states + length p.inputs))
+        | inr past ↦
+            elim (cases_lt k (length p.states + length p.inputs)) [
+              | inl input ↦
+                  let value = sym (central_input p d v k past input) ∙ same past ∙ central_input p c u k past input in
+                  sym (input_range p v k no_range past input) ∙ ap (λ (z : ℤ). record { lo = z; hi = z }) value ∙ input_range p u k no_range past input
+              | inr noise ↦
+                  in_third state_ranges (ranges v) noise_ranges k no_range (length p.states) (length p.inputs) states_count (ranges_count v) noise
+                  ∙ sym (in_third state_ranges (ranges u) noise_ranges k no_range (length p.states) (length p.inputs) states_count (ranges_count u) noise)
+            ]
       ]
-    where
-      later : length p.states ≤ k → (k < length p.states + length p.inputs) ⊎ (length p.states + length p.inputs ≤ k) → get_or (area_of p v) k no_range ≡ get_or (area_of p u) k no_range
-      later past (inl input) =
-          let value : get_or (vector_of p.inputs v) (k - length p.states) (pos 0) ≡ get_or (vector_of p.inputs u) (k - length p.states) (pos 0) =
-          sym (central_input p d v k past input) ∙ same past ∙ central_input p c u k past input in
-          sym (input_range p v k no_range past input) ∙ ap (λ (z : ℤ). record { lo = z; hi = z }) value ∙ input_range p u k no_range past input
-      later past (inr noise) =
-          in_third state_ranges (ranges v) noise_ranges k no_range (length p.states) (length p.inputs) states_count (ranges_count v) noise
-          ∙ sym (in_third state_ranges (ranges u) noise_ranges k no_range (length p.states) (length p.inputs) states_count (ranges_count u) noise)
 
   -- the same index brings the same central value
-  module _ (sound : IsSound p) (cell : c < cells_of (axes_of p)) (input : u < vectors_of p.inputs) (other_cell : d < cells_of (axes_of p)) (other_input : v < vectors_of p.inputs) where
-    same_state : k < length p.states → index_in p c u k ≡ index_in p d v k → get_or (central_values p d v) k (pos 0) ≡ get_or (central_values p c u) k (pos 0)
-    same_state lt alike =
-        let axes = axes_of p in
-        let within : k < length axes = omega (arith, lt, length-map p.states axis_of) in
-        let index : index_along axes k d ≡ index_along axes k c =
-        cond_below k (length p.states) (index_along axes k d) (value_index p.inputs (k - length p.states) v) lt ∙ sym alike ∙ sym (cond_below k (length p.states) (index_along axes k c) (value_index p.inputs (k - length p.states) u) lt) in
-        central_state p d v k lt
-        ∙ centres_depend_on_their_indices axes d k sound.axes other_cell within
-        ∙ ap (middle_of (get_or axes k no_axis)) index
-        ∙ sym (centres_depend_on_their_indices axes c k sound.axes cell within)
-        ∙ sym (central_state p c u k lt)
-
-    same_input : length p.states ≤ k → k < length p.states + length p.inputs → index_in p c u k ≡ index_in p d v k → get_or (central_values p d v) k (pos 0) ≡ get_or (central_values p c u) k (pos 0)
-    same_input past lt alike =
-        let j : ℕ = k - length p.states in
-        let index : value_index p.inputs j v ≡ value_index p.inputs j u =
-        cond_above k (length p.states) (index_along (axes_of p) k d) (value_index p.inputs j v) (value_index p.inputs j v) past refl ∙ sym alike ∙ sym (cond_above k (length p.states) (index_along (axes_of p) k c) (value_index p.inputs j u) (value_index p.inputs j u) past refl) in
-        central_input p d v k past lt
-        ∙ inputs_rest p.inputs j v u (omega (arith, past, lt)) other_input input index
-        ∙ sym (central_input p c u k past lt)
-
-    same_value : (k < length p.states + length p.inputs → index_in p c u k ≡ index_in p d v k) → get_or (central_values p d v) k (pos 0) ≡ get_or (central_values p c u) k (pos 0)
-    same_value alike =
-        elim (cases_lt k (length p.states)) [
-          | inl state ↦ same_state state (alike (omega (arith, state)))
-          | inr past ↦ later past (cases_lt k (length p.states + length p.inputs))
-        ]
-      where
-        later : length p.states ≤ k → (k < length p.states + length p.inputs) ⊎ (length p.states + length p.inputs ≤ k) → get_or (central_values p d v) k (pos 0) ≡ get_or (central_values p c u) k (pos 0)
-        later past (inl here) = same_input past here (alike here)
-        later past (inr noise) = central_noise p d v k noise ∙ sym (central_noise p c u k noise)
+  same_value : IsSound p → c < cells_of (axes_of p) → u < vectors_of p.inputs → d < cells_of (axes_of p) → v < vectors_of p.inputs → (k < length p.states + length p.inputs → index_in p c u k ≡ index_in p d v k) → get_or (central_values p d v) k (pos 0) ≡ get_or (central_values p c u) k (pos 0)
+  same_value sound cell input other_cell other_input alike =
+      elim (cases_lt k (length p.states)) [
+        | inl state ↦
+            let index = state_slot p d v k state ∙ sym (alike (omega (arith, state))) ∙ sym (state_slot p c u k state) in
+            central_middle p sound d v k other_cell state ∙ ap (middle_of (get_or (axes_of p) k no_axis)) index ∙ sym (central_middle p sound c u k cell state)
+        | inr past ↦
+            elim (cases_lt k (length p.states + length p.inputs)) [
+              | inl here ↦
+                  let index = among_slot p d v k past ∙ sym (alike here) ∙ sym (among_slot p c u k past) in
+                  central_input p d v k past here ∙ inputs_rest p.inputs (k - length p.states) v u (omega (arith, past, here)) other_input input index ∙ sym (central_input p c u k past here)
+              | inr noise ↦ central_noise p d v k noise ∙ sym (central_noise p c u k noise)
+            ]
+      ]
 
 -- ---- one extent
 
@@ -173,10 +165,6 @@ module _ (p : Description) (i c u d v : ℕ) (sound : IsSound p) (lt : i < lengt
       let radii : AreSameIn (pos 0) e (radii_of p v) (radii_of p u) = λ k stands. ap (λ (rs : List ℤ). get_or rs k (pos 0)) (same_radii p u v) in
       ap pos (deviations_depend_on_variables e (area_of p v) (area_of p u) (radii_of p v) (radii_of p u) ranges radii)
 
-  -- the state's own value is the middle of its index
-  own_value : (b w : ℕ) → b < cells_of (axes_of p) → get_or (central_values p b w) i (pos 0) ≡ middle_of axis (index_along (axes_of p) i b)
-  own_value b w within = central_state p b w i state_lt ∙ centres_depend_on_their_indices (axes_of p) b i sound.axes within (omega (arith, state_lt, length-map p.states axis_of))
-
   -- the same end of two intervals, each so many indices before
   abbrev shift : ℕ → ℤ
   shift b = axis.width *ℤ pos (shifted_by p i b)
@@ -195,7 +183,7 @@ module _ (p : Description) (i c u d v : ℕ) (sound : IsSound p) (lt : i < lengt
   same_centre (inl moves) =
       let but : AreSameBut i e (central_values p d v) (central_values p c u) = λ k other stands. same k stands (λ m is. other is) in
       let apart = values_shift_with_variables e i (central_values p d v) (central_values p c u) moves but in
-      rw (shifted_here moves c, shifted_here moves d) (omega (arith, ints, apart, own_value c u cell, own_value d v other_cell))
+      rw (shifted_here moves c, shifted_here moves d) (omega (arith, ints, apart, central_middle p sound c u i cell state_lt, central_middle p sound d v i other_cell state_lt))
   same_centre (inr fixed) =
       let value = values_depend_on_variables e (central_values p d v) (central_values p c u) (λ k stands. same k stands (λ m is. both_ways (shifts_along p i) fixed m)) in
       rw (fixed_here fixed c, fixed_here fixed d) (ap (λ (x : ℤ). x -ℤ (axis.width *ℤ pos 0)) value)
@@ -207,7 +195,7 @@ module _ (p : Description) (i c u d v : ℕ) (sound : IsSound p) (lt : i < lengt
   own_range : (b w : ℕ) → b < cells_of (axes_of p) → get_or (cell_area_of p b w) i no_range ≡ shifted_to (middle_of axis (index_along (axes_of p) i b)) (get_or (offsets_of p u) i no_range)
   own_range b w within =
       cell_range p b w i (omega (arith, state_lt))
-      ∙ ap₂ (λ (x : ℤ) (os : List Interval). shifted_to x (get_or os i no_range)) (own_value b w within) (same_offsets p u w)
+      ∙ ap₂ (λ (x : ℤ) (os : List Interval). shifted_to x (get_or os i no_range)) (central_middle p sound b w i within state_lt) (same_offsets p u w)
 
   same_span : (shifts_along p i ≡ true) ⊎ (shifts_along p i ≡ false) → IsSameBefore (span d v).lo (span c u).lo × IsSameBefore (span d v).hi (span c u).hi
   same_span (inl moves) =

@@ -29,11 +29,10 @@ by_box_in_domain axes lo hi holds fails =
 -- the states of a box in the domain lie in the domain
 pub box_inside : (axes : List Axis) (lo hi xs : List ℤ) → IsBoxInDomain axes lo hi → IsInBox axes lo hi xs → IsInDomain axes xs
 box_inside [] lo hi xs domain box = tt
-box_inside (a ∷ axes) [] hi xs domain box = absurd box.0
-box_inside (a ∷ axes) (l ∷ lo) hi [] domain box = absurd box.0
 box_inside (a ∷ axes) (l ∷ lo) [] (x ∷ xs) domain box = absurd box.1
 box_inside (a ∷ axes) (l ∷ lo) (h ∷ hi) (x ∷ xs) domain box =
     (omega (arith, ints, domain.0.0, box.0.0), omega (arith, ints, domain.1.1, box.1.0), box_inside axes lo hi xs (domain.0.2, domain.1.2) (box.0.1, box.1.1))
+box_inside _ _ _ _ domain box = absurd box.0
 
 -- the cell of a state of a box meets the box
 pub cell_touches : (axes : List Axis) (lo hi xs : List ℤ) → IsInDomain axes xs → IsInBox axes lo hi xs → Touches axes (cell_of axes xs) lo hi

@@ -33,9 +33,8 @@ wide x w some = omega (arith, ints, some)
 
 pub ranges_long : (lows highs : List ℤ) (n : ℕ) → length lows ≡ n → length highs ≡ n → length (ranges_between lows highs) ≡ n
 ranges_long [] [] n low high = low
-ranges_long [] (h ∷ highs) n low high = absurd (omega (arith, low, high))
-ranges_long (l ∷ lows) [] n low high = absurd (omega (arith, low, high))
 ranges_long (l ∷ lows) (h ∷ highs) n low high = omega (arith, low, high, ranges_long lows highs (length lows) refl (omega (arith, low, high)))
+ranges_long _ _ n low high = absurd (omega (arith, low, high))
 
 intervals_between : (axes : List Axis) (c : ℕ) → All IsAxis axes → All IsInterval (ranges_between (low_of axes c) (high_of axes c))
 intervals_between [] c each = All-nil IsInterval
@@ -64,23 +63,16 @@ ends (a ∷ axes) c each =
 parts_states : (states : List StateVariable) (xs ys : List ℤ) → length xs ≡ length states → length ys ≡ length states → All IsFilledByCells states → IsInDomain (map axis_of states) xs → IsInDomain (map axis_of states) ys
     → ArePartsOf (ranges_between xs ys) (map (λ (s : StateVariable). record { lo = s.low; hi = s.high }) states)
 parts_states [] [] [] m n whole low high = tt
-parts_states [] [] (y ∷ ys) m n whole low high = absurd (omega (arith, n))
-parts_states [] (x ∷ xs) ys m n whole low high = absurd (omega (arith, m))
-parts_states (s ∷ states) [] ys m n whole low high = absurd low
-parts_states (s ∷ states) (x ∷ xs) [] m n whole low high = absurd high
 parts_states (s ∷ states) (x ∷ xs) (y ∷ ys) m n whole low high =
     ((low.0, up_to y (end_of (axis_of s)) s.high high.1 (All-head IsFilledByCells s states whole)), parts_states states xs ys (omega (arith, m)) (omega (arith, n)) (All-tail IsFilledByCells s states whole) low.2 high.2)
+parts_states _ _ _ m n whole low high = absurd (omega (arith, m, n))
 
 between_in : (states : List StateVariable) (lows highs xs : List ℤ) → length lows ≡ length states → length highs ≡ length states → IsInBox (map axis_of states) lows highs xs → AreIn (ranges_between lows highs) (take (length states) xs)
 between_in [] [] [] xs m n box = tt
-between_in [] [] (h ∷ highs) xs m n box = absurd (omega (arith, n))
-between_in [] (l ∷ lows) highs xs m n box = absurd (omega (arith, m))
-between_in (s ∷ states) [] highs xs m n box = absurd box.0
-between_in (s ∷ states) (l ∷ lows) [] [] m n box = absurd box.0
-between_in (s ∷ states) (l ∷ lows) [] (x ∷ xs) m n box = absurd box.1
 between_in (s ∷ states) (l ∷ lows) (h ∷ highs) [] m n box = absurd box.0
 between_in (s ∷ states) (l ∷ lows) (h ∷ highs) (x ∷ xs) m n box =
     ((box.0.0, box.1.0), between_in states lows highs xs (omega (arith, m)) (omega (arith, n)) (box.0.1, box.1.1))
+between_in _ _ _ xs m n box = absurd (omega (arith, m, n))
 
 -- ---- all variables
 
@@ -90,9 +82,8 @@ part_self (i ∷ area) = ((same i.lo, same i.hi), part_self area)
 
 parts_append : (is js area wider : List Interval) → ArePartsOf is js → ArePartsOf area wider → ArePartsOf (is ++ area) (js ++ wider)
 parts_append [] [] area wider h k = k
-parts_append [] (j ∷ js) area wider h k = absurd h
-parts_append (i ∷ is) [] area wider h k = absurd h
 parts_append (i ∷ is) (j ∷ js) area wider h k = (h.0, parts_append is js area wider h.1 k)
+parts_append _ _ area wider h k = absurd h
 
 module _ (p : Description) (c u : ℕ) where
   pub low_count : length (low_of (axes_of p) c) ≡ length p.states

@@ -1,9 +1,10 @@
 -- The range of a variable over a cell depends on its value at the cell's centre.
-use Rattle.std.proofs.Common.{◌≡◌, ℕ, zero, suc, ◌+◌, ◌-◌, ◌/◌, ◌%◌, ◌<◌, ◌≤◌, Some, List, [], ◌∷◌, ◌++◌, length, map, take, get_or, refl, sym, ap, ap₂, ◌∙◌, arith}
+use Rattle.std.proofs.Common.{◌≡◌, ℕ, zero, suc, ◌+◌, ◌-◌, ◌/◌, ◌%◌, ◌<◌, ◌≤◌, Some, List, [], ◌∷◌, ◌++◌, length, map, take, get_or, refl, sym, ap, ap₂, ◌∙◌, arith, inl, inr}
 use Rattle.std.specs.Prelude.{ℤ, pos, neg_ℤ, ◌+ℤ◌, ◌-ℤ◌, ◌*ℤ◌, slice_get}
 use Rattle.std.specs.Option.{option_map}
+use Rattle.std.proofs.lemmas.Bool.{cases_lt}
 use Rattle.std.proofs.lemmas.Int.{ints}
-use Rattle.std.proofs.lemmas.List.{length-append, length-map, length-take-le, get_or-map}
+use Rattle.std.proofs.lemmas.List.{length-append, length-map, length-take-le, get_or-map, get_or_past}
 use Rattle.fixed_expr.specs.DivExpr.{floor_div}
 use Rattle.interval_eval.specs.declared.interval.Interval.{Interval}
 use Rattle.grid_quantiser.specs.declared.axis.Axis.{Axis}
@@ -13,10 +14,11 @@ use Rattle.plant_record.specs.declared.variables.StateVariable.{StateVariable}
 use Rattle.plant_record.specs.declared.variables.NoiseVariable.{NoiseVariable}
 use Rattle.plant_record.specs.Description.{Description, axis_of, axes_of, vector_of}
 use Rattle.successor_box.specs.SuccessorBoxes.{noise_centre, ranges_between, cell_area_of, central_values}
-use Rattle.successor_box.specs.inside.Area.{no_range, variables_of, offsets_of, shifted_to}
+use Rattle.successor_box.specs.inside.Area.{no_range, variables_of, noise_offset, offsets_of, shifted_to}
+use Rattle.successor_box.proofs.CellAreas.{low_count, high_count}
 use Rattle.successor_box.proofs.CellValues.{vector_count}
 use Rattle.successor_box.proofs.Centres.{centre_count}
-use Rattle.successor_box.proofs.Ranges.{in_first, in_second, in_third, noise_told}
+use Rattle.successor_box.proofs.Ranges.{in_first, in_second, in_third, between_count}
 
 -- ---- intervals shifted by numbers, one for each
 
@@ -28,9 +30,8 @@ shifted_all (x ∷ xs) (o ∷ os) = shifted_to x o ∷ shifted_all xs os
 shifted_append : (xs ys : List ℤ) (os ps : List Interval) → length xs ≡ length os → shifted_all (xs ++ ys) (os ++ ps) ≡ shifted_all xs os ++ shifted_all ys ps
 unfolding shifted_all
 shifted_append [] ys [] ps long = refl
-shifted_append [] ys (o ∷ os) ps long = absurd (omega (arith, long))
-shifted_append (x ∷ xs) ys [] ps long = absurd (omega (arith, long))
 shifted_append (x ∷ xs) ys (o ∷ os) ps long = ap (λ (is : List Interval). shifted_to x o ∷ is) (shifted_append xs ys os ps (omega (arith, long)))
+shifted_append _ ys _ ps long = absurd (omega (arith, long))
 
 shifted_at : (xs : List ℤ) (os : List Interval) (k : ℕ) → k < length xs → k < length os → get_or (shifted_all xs os) k no_range ≡ shifted_to (get_or xs k (pos 0)) (get_or os k no_range)
 unfolding shifted_all
@@ -39,22 +40,10 @@ shifted_at (x ∷ xs) [] k first second = absurd (omega (arith, second))
 shifted_at (x ∷ xs) (o ∷ os) zero first second = refl
 shifted_at (x ∷ xs) (o ∷ os) (suc k) first second = shifted_at xs os k (omega (arith, first)) (omega (arith, second))
 
-same_shifted : (xs ys : List ℤ) (os : List Interval) (k : ℕ) → length xs ≡ length ys → get_or xs k (pos 0) ≡ get_or ys k (pos 0) → get_or (shifted_all xs os) k no_range ≡ get_or (shifted_all ys os) k no_range
-unfolding shifted_all
-same_shifted [] [] os k long same = refl
-same_shifted [] (y ∷ ys) os k long same = absurd (omega (arith, long))
-same_shifted (x ∷ xs) [] os k long same = absurd (omega (arith, long))
-same_shifted (x ∷ xs) (y ∷ ys) [] k long same = refl
-same_shifted (x ∷ xs) (y ∷ ys) (o ∷ os) zero long same = ap (λ (z : ℤ). shifted_to z o) same
-same_shifted (x ∷ xs) (y ∷ ys) (o ∷ os) (suc k) long same = same_shifted xs ys os k (omega (arith, long)) same
-
 -- ---- states, inputs and noises
 
 abbrev pub axis_offset : Axis → Interval
 axis_offset a = record { lo = neg_ℤ (radius_of a); hi = (a.width -ℤ pos 1) -ℤ radius_of a }
-
-abbrev pub noise_offset : NoiseVariable → Interval
-noise_offset w = record { lo = w.low -ℤ noise_centre w; hi = w.high -ℤ noise_centre w }
 
 between : (x y : ℤ) (i : Interval) → i.lo ≡ x → i.hi ≡ y → ◌≡◌ {A = Interval} i (record { lo = x; hi = y })
 between x y i low high = ap₂ (λ (l h : ℤ). record { lo = l; hi = h }) low high
@@ -126,21 +115,14 @@ module _ (p : Description) (c u : ℕ) where
   pub cell_range : (k : ℕ) → k < variables_of p → get_or (cell_area_of p c u) k no_range ≡ shifted_to (get_or (central_values p c u) k (pos 0)) (get_or (offsets_of p u) k no_range)
   cell_range k lt = ap (λ (area : List Interval). get_or area k no_range) cell_area_is ∙ shifted_at (central_values p c u) (offsets_of p u) k (omega (arith, lt, central_count)) (omega (arith, lt, offset_count))
 
-shifted_count : (xs : List ℤ) (os : List Interval) (n : ℕ) → length xs ≡ n → length os ≡ n → length (shifted_all xs os) ≡ n
-unfolding shifted_all
-shifted_count [] os n first second = first
-shifted_count (x ∷ xs) [] n first second = absurd (omega (arith, first, second))
-shifted_count (x ∷ xs) (o ∷ os) n first second = omega (arith, first, second, shifted_count xs os (length xs) refl (omega (arith, first, second)))
-
 pub cell_area_long : (p : Description) (c u : ℕ) → length (cell_area_of p c u) ≡ variables_of p
-cell_area_long p c u = ap length (cell_area_is p c u) ∙ shifted_count (central_values p c u) (offsets_of p u) (variables_of p) (central_count p c u) (offset_count p c u)
+cell_area_long p c u = between_count p u (low_of (axes_of p) c) (high_of (axes_of p) c) (low_count p c u) (high_count p c u)
 
 -- inputs have no offset
 pub same_constants : {X : Type 0} (x : X) (ys zs : List ℤ) → length ys ≡ length zs → map (λ (_ : ℤ). x) ys ≡ map (λ (_ : ℤ). x) zs
 same_constants x [] [] long = refl
-same_constants x [] (z ∷ zs) long = absurd (omega (arith, long))
-same_constants x (y ∷ ys) [] long = absurd (omega (arith, long))
 same_constants {X} x (y ∷ ys) (z ∷ zs) long = ap (λ (xs : List X). x ∷ xs) (same_constants x ys zs (omega (arith, long)))
+same_constants x _ _ long = absurd (omega (arith, long))
 
 pub same_offsets : (p : Description) (u v : ℕ) → offsets_of p v ≡ offsets_of p u
 same_offsets p u v =
@@ -149,9 +131,10 @@ same_offsets p u v =
 
 pub same_cell_range : (p : Description) (c u d v k : ℕ) → get_or (central_values p d v) k (pos 0) ≡ get_or (central_values p c u) k (pos 0) → get_or (cell_area_of p d v) k no_range ≡ get_or (cell_area_of p c u) k no_range
 same_cell_range p c u d v k same =
-    ap (λ (area : List Interval). get_or area k no_range) (cell_area_is p d v ∙ ap (λ (os : List Interval). shifted_all (central_values p d v) os) (same_offsets p u v))
-    ∙ same_shifted (central_values p d v) (central_values p c u) (offsets_of p u) k (central_count p d v ∙ sym (central_count p c u)) same
-    ∙ sym (ap (λ (area : List Interval). get_or area k no_range) (cell_area_is p c u))
+    elim (cases_lt k (variables_of p)) [
+      | inl lt ↦ cell_range p d v k lt ∙ ap₂ (λ (x : ℤ) (os : List Interval). shifted_to x (get_or os k no_range)) same (same_offsets p u v) ∙ sym (cell_range p c u k lt)
+      | inr past ↦ get_or_past (cell_area_of p d v) k no_range (omega (arith, past, cell_area_long p d v)) ∙ sym (get_or_past (cell_area_of p c u) k no_range (omega (arith, past, cell_area_long p c u)))
+    ]
 
 -- ---- the offset of one variable
 
@@ -172,8 +155,5 @@ module _ (p : Description) (u k : ℕ) where
       sym (in_second state_offsets no_offsets (map noise_offset p.noises) k no_range (length p.states) (states_offset p 0 u) le (omega (arith, lt, inputs_offset p 0 u))
       ∙ get_or-map (λ (_ : ℤ). no_range) (vector_of p.inputs u) (k - length p.states) (pos 0) no_range (omega (arith, le, lt, vector_count p.inputs u)))
 
-  pub noise_offset_is : (r : ℤ × ℤ) → length p.states + length p.inputs ≤ k → option_map (λ (w : NoiseVariable). (w.low, w.high)) (slice_get p.noises (k - length p.states - length p.inputs)) ≡ Some r →
-      ◌≡◌ {A = Interval} (record { lo = r.0 -ℤ floor_div (r.0 +ℤ r.1) (pos 2); hi = r.1 -ℤ floor_div (r.0 +ℤ r.1) (pos 2) }) (get_or (offsets_of p u) k no_range)
-  noise_offset_is r le is =
-      noise_told Interval (λ (q : ℤ × ℤ). record { lo = q.0 -ℤ floor_div (q.0 +ℤ q.1) (pos 2); hi = q.1 -ℤ floor_div (q.0 +ℤ q.1) (pos 2) }) p.noises (k - length p.states - length p.inputs) r no_range is
-      ∙ sym (in_third state_offsets no_offsets (map noise_offset p.noises) k no_range (length p.states) (length p.inputs) (states_offset p 0 u) (inputs_offset p 0 u) le)
+  pub noise_offset_is : length p.states + length p.inputs ≤ k → get_or (map noise_offset p.noises) (k - length p.states - length p.inputs) no_range ≡ get_or (offsets_of p u) k no_range
+  noise_offset_is le = sym (in_third state_offsets no_offsets (map noise_offset p.noises) k no_range (length p.states) (length p.inputs) (states_offset p 0 u) (inputs_offset p 0 u) le)

@@ -92,10 +92,6 @@ module _ (p : Description) (c u : ℕ) (sound : IsSound p) (cell : c < cells_of 
       (parts_short (cell_area_of p c u) (area_of p u) (cell_parts p c u sound cell) (cell_intervals p c u sound) (area_short p u plant) k no_range within)
       (held_at (cell_area_of p c u) (central_values p c u) k no_range (cell_central_in p c u sound) within)
 
-  range_of_column : IsPlant p → (k : ℕ) → k < variables_of p → (x : ℤ) (offset : Interval) → x ≡ get_or (central_values p c u) k (pos 0) → offset ≡ get_or (offsets_of p u) k no_range → IsNarrowRange x offset (get_or (cell_area_of p c u) k no_range)
-  range_of_column plant k lt x offset value is =
-      subst₂ (λ (z : ℤ) (o : Interval). IsNarrowRange z o (get_or (cell_area_of p c u) k no_range)) (sym value) (sym is) (range_from plant k lt)
-
   -- no node's span over the cell leaves the range
   pub cell_stays : HasNoOverflow p → u < vectors_of p.inputs → (i : ℕ) → i < length p.equations → SpanStaysInRange (equation_at p i) (cell_area_of p c u)
   cell_stays fits input i lt =
@@ -105,7 +101,8 @@ module _ (p : Description) (c u : ℕ) (sound : IsSound p) (cell : c < cells_of 
 pub range_in : (p : Description) (cell : ℕ → ℕ) (u lane k : ℕ) (at : ValuesAlong) (centres : List ℤ) (offset : Interval) → IsPlant p → IsSound p → k < variables_of p → lane < LANES → AreValuesUnder p cell u at
     → HoldsInLanes (pos 0) (λ j. get_or (lane_of at j) k (pos 0)) centres → offset ≡ get_or (offsets_of p u) k no_range → IsNarrowRange (get_or centres lane (pos 0)) offset (get_or (cell_area_of p (cell lane) u) k no_range)
 range_in p cell u lane k at centres offset plant sound lt below are found is =
-    range_of_column p (cell lane) u sound (are.cells lane below) plant k lt (get_or centres lane (pos 0)) offset (found lane below ∙ ap (λ (values : List ℤ). get_or values k (pos 0)) (are.each lane below)) is
+    let value = found lane below ∙ ap (λ (values : List ℤ). get_or values k (pos 0)) (are.each lane below) in
+    subst₂ (λ (z : ℤ) (o : Interval). IsNarrowRange z o (get_or (cell_area_of p (cell lane) u) k no_range)) (sym value) (sym is) (range_from p (cell lane) u sound (are.cells lane below) plant k lt)
 
 -- the equation of a state, which is well-formed over as many values as there are variables
 module _ (p : Description) (i : ℕ) (e : Expr) where

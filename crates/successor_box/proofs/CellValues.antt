@@ -23,17 +23,13 @@ use Rattle.base.proofs.Integers.{up_to}
 
 near_append : (rs xs ys radii values others : List ℤ) → AreNear rs xs ys → AreNear radii values others → AreNear (rs ++ radii) (xs ++ values) (ys ++ others)
 near_append [] [] [] radii values others h k = k
-near_append [] [] (y ∷ ys) radii values others h k = absurd h
-near_append [] (x ∷ xs) ys radii values others h k = absurd h
-near_append (r ∷ rs) [] ys radii values others h k = absurd h
-near_append (r ∷ rs) (x ∷ xs) [] radii values others h k = absurd h
 near_append (r ∷ rs) (x ∷ xs) (y ∷ ys) radii values others h k = (h.0, near_append rs xs ys radii values others h.1 k)
+near_append _ _ _ radii values others h k = absurd h
 
 pub in_append : (is area : List Interval) (xs values : List ℤ) → AreIn is xs → AreIn area values → AreIn (is ++ area) (xs ++ values)
 in_append [] area [] values h k = k
-in_append [] area (x ∷ xs) values h k = absurd h
-in_append (i ∷ is) area [] values h k = absurd h
 in_append (i ∷ is) area (x ∷ xs) values h k = (h.0, in_append is area xs values h.1 k)
+in_append _ area _ values h k = absurd h
 
 states_in : (states : List StateVariable) (xs : List ℤ) → All IsFilledByCells states → IsInDomain (map axis_of states) xs → AreIn (map (λ (s : StateVariable). record { lo = s.low; hi = s.high }) states) (take (length states) xs)
 states_in [] xs whole inside = tt
@@ -43,9 +39,8 @@ states_in (s ∷ states) (x ∷ xs) whole inside =
 
 states_near : (states : List StateVariable) (xs ys : List ℤ) → AreStatesNear (map axis_of states) xs ys → AreNear (map radius_of (map axis_of states)) (take (length states) xs) (take (length states) ys)
 states_near [] xs ys near = tt
-states_near (s ∷ states) [] ys near = absurd near
-states_near (s ∷ states) (x ∷ xs) [] near = absurd near
 states_near (s ∷ states) (x ∷ xs) (y ∷ ys) near = ((near.0, near.1), states_near states xs ys near.2)
+states_near _ _ _ near = absurd near
 
 -- inputs
 pub inputs_in : (vs : List ℤ) → AreIn (map (λ v. record { lo = v; hi = v }) vs) vs

@@ -1,5 +1,5 @@
 -- Arrays that are filled from the front.
-use Rattle.std.proofs.Common.{◌≡◌, ◌≢◌, ℕ, ◌+◌, ◌*◌, ◌<◌, ◌≤◌, List, [], ◌∷◌, ◌++◌, length, Fits, w64, take, set, get_or, get_or-set_other, get_or-set_same, below_more, sym, ap₂, subst, ◌∙◌, arith}
+use Rattle.std.proofs.Common.{◌≡◌, ◌≢◌, ℕ, ◌+◌, ◌<◌, List, [], ◌∷◌, ◌++◌, length, take, set, get_or, get_or-set_other, get_or-set_same, below_more, sym, ap₂, subst, ◌∙◌, arith}
 use Rattle.std.proofs.lemmas.List.{take_more, take_more_set, take_all}
 
 pub fill_more : {X : Type 0} (filled wanted : List X) (k : ℕ) (y d : X) → k < length filled → k < length wanted → take k filled ≡ take k wanted → y ≡ get_or wanted k d → take (k + 1) (set filled k y) ≡ take (k + 1) wanted
@@ -14,15 +14,3 @@ index_more P d xs k x capacity so_far here =
     below_more (λ (i : ℕ). P i (get_or (set xs k x) i d)) k
     (λ i before. let other : i ≢ k = omega (arith, before) in subst (P i) (sym (get_or-set_other xs k i x d other)) (so_far i before))
     (subst (P k) (sym (get_or-set_same xs k x d capacity)) here)
-
--- ---- the lanes of a lane
-
-pub lane_done : (i j : ℕ) → i < 32 → 32 ≤ j → i < j
-lane_done i j lt done = omega (arith, lt, done)
-
-module _ (j : ℕ) (lt : j < 32) where
-  pub lane_in : (long : ℕ) → long ≡ 32 → j < long
-  lane_in long is = omega (arith, lt, is)
-
-  pub words_fit : Fits w64 (j * 8)
-  words_fit = omega (arith, lt)

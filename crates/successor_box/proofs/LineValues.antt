@@ -2,7 +2,7 @@
 use Rattle.std.proofs.Common.{◌≡◌, ◌≢◌, ℕ, ◌+◌, ◌-◌, ◌/◌, ◌<◌, ◌≤◌, List, length, map, take, set, eqb, get_or, get_or-set_other, get_or-set_same, refl, sym, ap, subst, ◌∙◌, arith, inl, inr}
 use Rattle.std.specs.Prelude.{ℤ, pos, min, ◌==◌}
 use Rattle.std.proofs.Math.Nat.{mod-le, div-le_self}
-use Rattle.std.proofs.lemmas.Bool.{cases_lt, cases_eq, eq-eqb, eqb-true, cond-true, cond_both, cond_below, cond_above}
+use Rattle.std.proofs.lemmas.Bool.{cases_lt, cases_eq, eq-eqb, eqb-true, cond-true, cond_both}
 use Rattle.std.proofs.lemmas.List.{length-map, length-set, length-take-le, get_or-take, ext_get_or}
 use Rattle.expr_lanes.specs.declared.lane_eval.ValuesAlong.{ValuesAlong}
 use Rattle.fixed_expr.specs.declared.lanes.TheConstants.{LANES}
@@ -21,12 +21,13 @@ use Rattle.successor_box.specs.declared.cell_line.CellLine.{CellLine}
 use Rattle.successor_box.specs.SuccessorBoxes.{noise_centre, central_values}
 use Rattle.successor_box.specs.Deviations.{HasNoOverflow}
 use Rattle.successor_box.specs.CellLines.{IsCellOn, AreCellsOn, AreCentresOf}
-use Rattle.successor_box.specs.PairExtents.{index_in, AreInputIndices}
+use Rattle.successor_box.specs.PairExtents.{AreInputIndices}
 use Rattle.successor_box.specs.inside.Additive.{IsNoInput, DifferInInputs}
 use Rattle.successor_box.specs.inside.Area.{variables_of}
 use Rattle.successor_box.specs.inside.Lines.{HasIndexIn, AreValuesUnder}
-use Rattle.successor_box.proofs.AlikePairs.{central_state, central_input, central_noise}
-use Rattle.successor_box.proofs.Below.{centres_are_near, centres_depend_on_their_indices}
+use Rattle.successor_box.proofs.AlikePairs.{central_state, central_middle, central_input, central_noise}
+pub use Rattle.successor_box.proofs.AlikePairs.{state_slot, among_slot}
+use Rattle.successor_box.proofs.Below.{centres_are_near}
 use Rattle.successor_box.proofs.CellOffsets.{central_count}
 use Rattle.successor_box.proofs.CellValues.{centres_are_noise}
 use Rattle.successor_box.proofs.Centres.{central_list}
@@ -37,32 +38,22 @@ use Rattle.successor_box.proofs.Steps.{step_stays}
 -- ---- the central values of a pair
 
 module _ (p : Description) (c u : ℕ) where
-  centre_value : IsSound p → c < cells_of (axes_of p) → (k : ℕ) → k < length p.states → middle_of (get_or (axes_of p) k no_axis) (index_along (axes_of p) k c) ≡ get_or (central_values p c u) k (pos 0)
-  centre_value sound cell k lt = sym (central_state p c u k lt ∙ centres_depend_on_their_indices (axes_of p) c k sound.axes cell (omega (arith, lt, length-map p.states axis_of)))
-
   pub noise_value : (k : ℕ) → length p.states + length p.inputs ≤ k → k < variables_of p → get_or (map noise_centre p.noises) (k - length p.states - length p.inputs) (pos 0) ≡ get_or (central_values p c u) k (pos 0)
   noise_value k past lt = sym (central_noise p c u k past ∙ get_or-take (length p.noises) (map noise_centre p.noises) (k - length p.states - length p.inputs) (pos 0) (omega (arith, past, lt)))
-
-  -- the index of a pair by its kind
-  pub state_slot : (k : ℕ) → k < length p.states → index_along (axes_of p) k c ≡ index_in p c u k
-  state_slot k lt = cond_below k (length p.states) (index_along (axes_of p) k c) (value_index p.inputs (k - length p.states) u) lt
-
-  pub among_slot : (k : ℕ) → length p.states ≤ k → value_index p.inputs (k - length p.states) u ≡ index_in p c u k
-  among_slot k past = cond_above k (length p.states) (index_along (axes_of p) k c) (value_index p.inputs (k - length p.states) u) (value_index p.inputs (k - length p.states) u) past refl
 
   -- an index is that of a state, below its count, or that of a value
   module _ (indices : List ℕ) (k : ℕ) (has : HasIndexIn p indices k c u) where
     here : k < length p.states → index_along (axes_of p) k c ≡ get_or indices k 0
-    here lt = state_slot k lt ∙ has.index (omega (arith, lt))
+    here lt = state_slot p c u k lt ∙ has.index (omega (arith, lt))
 
     pub index_within : IsSound p → k < length p.states → get_or indices k 0 < (get_or (axes_of p) k no_axis).count
     index_within sound lt = omega (arith, here lt, index_along_below (axes_of p) k c sound.axes.each (omega (arith, lt, length-map p.states axis_of)))
 
     pub state_value : IsSound p → k < length p.states → middle_of (get_or (axes_of p) k no_axis) (get_or indices k 0) ≡ get_or (central_values p c u) k (pos 0)
-    state_value sound lt = ap (middle_of (get_or (axes_of p) k no_axis)) (sym (here lt)) ∙ centre_value sound has.cell k lt
+    state_value sound lt = ap (middle_of (get_or (axes_of p) k no_axis)) (sym (here lt)) ∙ sym (central_middle p sound c u k has.cell lt)
 
     pub index_of_value : length p.states ≤ k → k < length p.states + length p.inputs → value_index p.inputs (k - length p.states) u ≡ get_or indices k 0
-    index_of_value past lt = among_slot k past ∙ has.index lt
+    index_of_value past lt = among_slot p c u k past ∙ has.index lt
 
   -- what is no input has its value under every input
   pub same_centre : (v k : ℕ) → IsNoInput p k → get_or (central_values p c v) k (pos 0) ≡ get_or (central_values p c u) k (pos 0)
@@ -192,7 +183,7 @@ centres_of_new p indices along cells line cell sound few lt new are =
         elim (cases_eq k along) [
           | inl same ↦
               set_at line.values along k x same (omega (arith, lt, few, new.long)) ∙ new.column lane below
-              ∙ ap (middle_of (get_or (axes_of p) along no_axis)) (sym (index_of_own p indices along _ c is lt)) ∙ centre_value p c line.input sound is.cell along lt
+              ∙ ap (middle_of (get_or (axes_of p) along no_axis)) (sym (index_of_own p indices along _ c is lt)) ∙ sym (central_middle p sound c line.input along is.cell lt)
               ∙ ap (λ (n : ℕ). get_or (central_values p c line.input) n (pos 0)) (sym same)
           | inr apart ↦ get_or-set_other line.values along k x (pos 0) apart ∙ new.each k within c line.input (indices_there p indices along _ c is line.input new.inputs k (λ same. absurd (apart same)))
         ]

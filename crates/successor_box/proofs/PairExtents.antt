@@ -21,9 +21,6 @@ extents_of_box p c u extents sound each = record {
   each = λ i lt. each i (omega (arith, lt, length-map p.states axis_of, sound.one_each));
 }
 
-box_is : (p : Description) (c u : ℕ) (found : Option CellBox) → IsBoxMeeting (axes_of p) (low_corner p c u) (high_corner p c u) found → IsBoxOf p c u found
-box_is p c u found box = record { inside = box.inside; corners = box.corners }
-
 pub box_more : (p : Description) (k c u : ℕ) (found : Option CellBox) (extent : Option Extent) → IsSound p → k < length p.equations →
     IsBoxAlong p k c u found → IsExtentAt p c u k extent → IsBoxAlong p (k + 1) c u (with_extent (get_or (axes_of p) k no_axis) found extent)
 box_more p k c u found extent sound lt box is =
@@ -31,5 +28,5 @@ box_more p k c u found extent sound lt box is =
 
 pub box_on_all : (p : Description) (c u : ℕ) (found : Option CellBox) → IsSound p → IsBoxAlong p (length p.equations) c u found → IsBoxOf p c u found
 box_on_all p c u found sound box =
-    box_is p c u found
-    (subst (λ (axes : List Axis). IsBoxMeeting axes (low_corner p c u) (high_corner p c u) found) (take_all (length p.equations) (axes_of p) (omega (arith, length-map p.states axis_of, sound.one_each))) box)
+    let whole = subst (λ (axes : List Axis). IsBoxMeeting axes (low_corner p c u) (high_corner p c u) found) (take_all (length p.equations) (axes_of p) (omega (arith, length-map p.states axis_of, sound.one_each))) box in
+    record { inside = whole.inside; corners = whole.corners }

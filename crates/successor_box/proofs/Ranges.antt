@@ -17,10 +17,11 @@ use Rattle.plant_record.specs.Variables.{IsNoiseVariable}
 use Rattle.plant_record.specs.Soundness.{IsSound, IsFilledByCells}
 use Rattle.plant_record.specs.Description.{Description, axis_of, axes_of, vector_of}
 use Rattle.successor_box.specs.SuccessorBoxes.{noise_centre, area_of, ranges_between, area_between, radii_of}
-use Rattle.successor_box.specs.inside.Area.{variables_of}
+use Rattle.successor_box.specs.inside.Area.{variables_of, no_range, noise_offset}
 use Rattle.successor_box.proofs.Below.{domain_has_ends}
 use Rattle.successor_box.proofs.CellAreas.{ranges_long}
-use Rattle.successor_box.proofs.CellValues.{vector_count}
+use Rattle.successor_box.proofs.CellValues.{middle, vector_count}
+use Rattle.successor_box.proofs.Middles.{between_literals}
 
 -- ---- the least and the greatest number of each state
 
@@ -44,23 +45,31 @@ noise_told T F [] k r d is = absurd (none-some r is)
 noise_told T F (w ∷ noises) zero r d is = ap F (sym (same_Some (w.low, w.high) r is))
 noise_told T F (w ∷ noises) (suc k) r d is = noise_told T F noises k r d is
 
-pub noise_centre_at : (noises : List NoiseVariable) (k : ℕ) (r : ℤ × ℤ) (d : ℤ) → option_map (λ (w : NoiseVariable). (w.low, w.high)) (slice_get noises k) ≡ Some r →
-    floor_div (r.0 +ℤ r.1) (pos 2) ≡ get_or (map noise_centre noises) k d
-noise_centre_at noises k r d is = noise_told ℤ (λ (q : ℤ × ℤ). floor_div (q.0 +ℤ q.1) (pos 2)) noises k r d is
-
--- the range of a noise of a plant
-pub record IsNoiseRange (r : ℤ × ℤ) : Type 0 where
+-- The range of a noise of a plant, and where it lies from its centre.
+pub record IsNoiseAt (noises : List NoiseVariable) (k : ℕ) (r : ℤ × ℤ) : Type 0 where
   pub low : nat_abs r.0 < 10 ^ 18
   pub high : nat_abs r.1 < 10 ^ 18
-  pub ordered : r.0 ≤ℤ r.1
+  pub short : nat_abs (floor_div (r.0 +ℤ r.1) (pos 2)) < 10 ^ 18
+  pub centre : floor_div (r.0 +ℤ r.1) (pos 2) ≡ get_or (map noise_centre noises) k (pos 0)
+  pub offset : ◌≡◌ {A = Interval} (record { lo = r.0 -ℤ floor_div (r.0 +ℤ r.1) (pos 2); hi = r.1 -ℤ floor_div (r.0 +ℤ r.1) (pos 2) }) (get_or (map noise_offset noises) k no_range)
 
-pub noise_bounds : (noises : List NoiseVariable) (k : ℕ) (r : ℤ × ℤ) → All IsNoiseVariable noises → option_map (λ (w : NoiseVariable). (w.low, w.high)) (slice_get noises k) ≡ Some r → IsNoiseRange r
-noise_bounds [] k r each is = absurd (none-some r is)
-noise_bounds (w ∷ noises) zero r each is =
-    let e : (w.low, w.high) ≡ r = same_Some (w.low, w.high) r is in
-    let here = All-head IsNoiseVariable w noises each in
-    subst IsNoiseRange e (record { low = here.low; high = here.high; ordered = here.ordered })
-noise_bounds (w ∷ noises) (suc k) r each is = noise_bounds noises k r (All-tail IsNoiseVariable w noises each) is
+pub noise_at : (noises : List NoiseVariable) (k : ℕ) (r : ℤ × ℤ) → All IsNoiseVariable noises → option_map (λ (w : NoiseVariable). (w.low, w.high)) (slice_get noises k) ≡ Some r → IsNoiseAt noises k r
+noise_at [] k r each is = absurd (none-some r is)
+noise_at (w ∷ noises) zero r each is =
+    let h = All-head IsNoiseVariable w noises each in
+    let same : w.low ≤ℤ w.low = omega (arith, ints) in
+    let m = middle w.low w.high w.low same h.ordered in
+    subst (IsNoiseAt (w ∷ noises) zero) (same_Some (w.low, w.high) r is)
+    (record { low = h.low; high = h.high; short = between_literals w.low w.high (noise_centre w) h.low h.high m.above_low m.below_high; centre = refl; offset = refl })
+noise_at (w ∷ noises) (suc k) r each is =
+    let h = noise_at noises k r (All-tail IsNoiseVariable w noises each) is in
+    record { low = h.low; high = h.high; short = h.short; centre = h.centre; offset = h.offset }
+
+-- the greatest offset is the radius
+radius_at : (noises : List NoiseVariable) (k : ℕ) (d : ℤ) → k < length noises → (get_or (map noise_offset noises) k no_range).hi ≡ get_or (map (λ (w : NoiseVariable). w.high -ℤ noise_centre w) noises) k d
+radius_at [] k d lt = absurd (omega (arith, lt))
+radius_at (w ∷ noises) zero d lt = refl
+radius_at (w ∷ noises) (suc k) d lt = radius_at noises k d (omega (arith, lt))
 
 -- an element of one of three lists
 module _ {X : Type 0} (xs ys zs : List X) (k : ℕ) (d : X) where
@@ -189,9 +198,8 @@ module _ (p : Description) (u : ℕ) where
       ∙ get_or-map (λ _. pos 0) (vector_of p.inputs u) (k - length p.states) (pos 0) d below)
 
   -- the radius of a noise
-  pub noise_radius : (k : ℕ) (r : ℤ × ℤ) (d : ℤ) → length p.states + length p.inputs ≤ k → option_map (λ (w : NoiseVariable). (w.low, w.high)) (slice_get p.noises (k - length p.states - length p.inputs)) ≡ Some r →
-      r.1 -ℤ floor_div (r.0 +ℤ r.1) (pos 2) ≡ get_or (radii_of p u) k d
-  noise_radius k r d le is = noise_told ℤ (λ (q : ℤ × ℤ). q.1 -ℤ floor_div (q.0 +ℤ q.1) (pos 2)) p.noises (k - length p.states - length p.inputs) r d is ∙ sym (in_third cell_radii input_radii noise_radii k d (length p.states) (length p.inputs) radii_count zeros_count le)
+  pub noise_radius : (k : ℕ) (d : ℤ) → length p.states + length p.inputs ≤ k → k < variables_of p → (get_or (map noise_offset p.noises) (k - length p.states - length p.inputs) no_range).hi ≡ get_or (radii_of p u) k d
+  noise_radius k d le lt = radius_at p.noises (k - length p.states - length p.inputs) d (omega (arith, le, lt)) ∙ sym (in_third cell_radii input_radii noise_radii k d (length p.states) (length p.inputs) radii_count zeros_count le)
 
   pub all_radii_count : length (radii_of p u) ≡ variables_of p
   all_radii_count = omega (arith, length-append (cell_radii ++ input_radii) noise_radii, length-append cell_radii input_radii, radii_count, zeros_count, length-map p.noises (λ (w : NoiseVariable). w.high -ℤ noise_centre w))

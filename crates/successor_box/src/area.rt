@@ -8,7 +8,7 @@ ghost use Rattle.plant_record.specs.Description.{axes_of, vectors_of};
 ghost use Rattle.successor_box.specs.SuccessorBoxes.{cell_area_of, radii_of};
 ghost use Rattle.successor_box.specs.inside.Area.{IsArea, area_from, AreRadii, offsets_of, no_range, variables_of, axis_along};
 
-use crate::noise_centres::{noise_offset, noise_radius};
+use crate::noise_centres::noise_offset;
 use base::limits::VARIABLES_LIMIT;
 use grid_quantiser::Point;
 use interval_eval::Interval;
@@ -78,6 +78,7 @@ fn range(p: &Plant, low: &Point, high: &Point, input: u32, k: u32) -> Interval
 }
 
 /// How far the ends of a variable's range over a cell lie from its value at the centre.
+#[tactic(auto, using(crate::proofs::CellOffsets::state_offset, crate::proofs::CellOffsets::input_offset, crate::proofs::CellOffsets::noise_offset_is))]
 pub(crate) fn offset(p: &Plant, k: u32) -> Interval
     requires plant { IsWithinLimits p.now }
     requires variable { k < variables_of p.now }
@@ -91,8 +92,7 @@ pub(crate) fn offset(p: &Plant, k: u32) -> Interval
     if k - states < inputs {
         return NO_RANGE;
     }
-    let (low, high) = p.noise_range(k - states - inputs);
-    noise_offset(low, high)
+    noise_offset(p, k - states - inputs)
 }
 
 /// The same of a state.
@@ -122,6 +122,7 @@ pub(crate) fn radii(p: &Plant) -> [i128; VARIABLES_LIMIT]
 }
 
 /// How far a variable is at most from its centre: an input not at all.
+#[tactic(auto, using(crate::proofs::Ranges::state_radius, crate::proofs::Ranges::input_radius, crate::proofs::Ranges::noise_radius))]
 fn radius(p: &Plant, k: u32) -> i128
     requires plant { IsWithinLimits p.now }
     requires variable { k < variables_of p.now }
@@ -135,6 +136,5 @@ fn radius(p: &Plant, k: u32) -> i128
     if k - states < inputs {
         return 0;
     }
-    let (low, high) = p.noise_range(k - states - inputs);
-    noise_radius(low, high)
+    noise_offset(p, k - states - inputs).hi
 }

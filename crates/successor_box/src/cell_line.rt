@@ -63,6 +63,7 @@ impl CellLine {
     }
 
     /// The values in the lanes.
+    #[tactic(auto, using(crate::proofs::LineValues::lanes_of))]
     pub(crate) fn lanes(&self, p: &Plant) -> ValuesAlong<'_>
         ensures { (cell : ℕ → ℕ) → AreCentresOf p.now cell self.now → AreValuesUnder p.now cell self.now.input result }
     {

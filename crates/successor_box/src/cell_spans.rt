@@ -21,6 +21,7 @@ use interval_eval::{Interval, IntervalColumn, NO_INTERVALS, span, span_lanes};
 
 impl Sampled<'_> {
     /// The span of an equation over each cell in the first lanes, so many.
+    #[tactic(auto, using(crate::proofs::CellRanges::cell_stays, crate::proofs::CellRanges::equation_is, crate::proofs::CellRanges::formed_at, crate::proofs::CellRanges::area_lane_is))]
     pub(crate) fn spans(
         &self,
         input: u32,

@@ -1,9 +1,9 @@
 //! The values of the variables at the centre of a cell, one by one.
-ghost use Rattle.std.specs.Prelude.{◌≡◌, ℕ, ◌*ℤ◌, ◌+ℤ◌, ◌<◌, pos, length, map, slice_index_or};
+ghost use Rattle.std.specs.Prelude.{◌≡◌, ℕ, ◌*ℤ◌, ◌+ℤ◌, ◌<◌, pos, length, slice_index_or};
 ghost use Rattle.base.specs.Narrow.{IsNarrow};
 ghost use Rattle.grid_quantiser.specs.Indices.{middle_of};
 ghost use Rattle.plant_record.specs.Limits.{IsWithinLimits};
-ghost use Rattle.successor_box.specs.SuccessorBoxes.{noise_centre, central_values};
+ghost use Rattle.successor_box.specs.SuccessorBoxes.{central_values};
 ghost use Rattle.successor_box.specs.inside.Area.{variables_of, axis_along};
 ghost use Rattle.successor_box.specs.inside.Lines.{HasIndexIn};
 
@@ -29,10 +29,11 @@ pub(crate) fn central_value(p: &Plant, indices: &[u32; INDICES_LIMIT], k: u32) -
     if k - states < inputs {
         return p.value_at(k - states, indices[k as usize]) as i64;
     }
-    noise_middle(p, k - states - inputs)
+    noise_centre(p, k - states - inputs) as i64
 }
 
 /// The middle of the first index along the axis of a state, and how far one index is from the next.
+#[tactic(auto, using(crate::proofs::Middles::state_room))]
 pub(crate) fn first_middle(p: &Plant, state: u32) -> (i64, i64)
     requires plant { IsWithinLimits p.now }
     requires state { state < length p.now.states }
@@ -51,14 +52,4 @@ pub(crate) fn middle(first: i64, width: i64, index: u32) -> i64
     ensures { result ≡ first +ℤ (width *ℤ pos index) }
 {
     first + width * i64::from(index)
-}
-
-/// The middle of a noise's range.
-fn noise_middle(p: &Plant, k: u32) -> i64
-    requires plant { IsWithinLimits p.now }
-    requires noise { k < length p.now.noises }
-    ensures { result ≡ slice_index_or (map noise_centre p.now.noises) k (pos 0) }
-{
-    let (low, high) = p.noise_range(k);
-    noise_centre(low, high) as i64
 }

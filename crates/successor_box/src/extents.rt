@@ -28,6 +28,7 @@ impl Sampled<'_> {
     }
 
     /// Where an equation leads from a cell.
+    #[tactic(auto, using(crate::proofs::NextIntervals::growth_is))]
     fn next_interval(&self, c: u32, input: u32, state: u32) -> Interval
         requires pair { IsPair self.now.plant.now c input }
         requires state { state < length self.now.plant.now.equations }
@@ -57,6 +58,7 @@ impl Sampled<'_> {
     }
 
     /// The span of an equation over a cell.
+    #[tactic(auto, using(crate::proofs::CellRanges::cell_stays, crate::proofs::CellRanges::equation_is, crate::proofs::CellRanges::formed_at, crate::proofs::CellOffsets::cell_area_long))]
     fn cell_span(&self, c: u32, input: u32, state: u32) -> Interval
         requires pair { IsPair self.now.plant.now c input }
         requires state { state < length self.now.plant.now.equations }

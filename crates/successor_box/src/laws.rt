@@ -8,16 +8,19 @@ pub fn steps_lie_in_the_boxes()
 {}
 
 /// Without an overflow no step from the domain leaves the range.
+#[tactic(auto, using(crate::proofs::Steps::step_stays))]
 pub fn steps_stay_in_range()
     ensures { StepsStayInRange }
 {}
 
 /// The cells of a pair's box are its successors.
+#[tactic(auto, using(crate::proofs::Enabled::box_successors))]
 pub fn boxes_hold_the_successors()
     ensures { BoxesHoldTheSuccessors }
 {}
 
 /// A pair has a successor exactly where its box lies in the domain.
+#[tactic(auto, using(crate::proofs::Enabled::enabled_exactly))]
 pub fn enabled_pairs_have_successors()
     ensures { EnabledPairsHaveSuccessors }
 {}

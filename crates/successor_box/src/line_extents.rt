@@ -32,6 +32,7 @@ impl Sampled<'_> {
     /// The extents of successor boxes along the axis of a state extended by its own length below, from which `Grid::shifted_extent`
     /// goes on, each None where one of the box's ends leaves that too: of the first cells of a line, under its input vector. It takes
     /// no memory. With what `additive_line` gives of the line the equation isn't evaluated again.
+    #[tactic(auto, using(crate::proofs::AdditiveInputs::gives_values))]
     pub fn extents_under(
         &self,
         state: u32,
@@ -56,6 +57,7 @@ impl Sampled<'_> {
     }
 
     /// The extents between the ends of the growth bounds: at once from values in 64 bits, which most equations never leave.
+    #[tactic(auto, using(crate::proofs::CellRanges::equation_is, crate::proofs::CellRanges::formed_at, crate::proofs::CellRanges::value_in))]
     fn growth_extents(
         &self,
         input: u32,
@@ -82,6 +84,7 @@ impl Sampled<'_> {
     }
 
     /// The extents between the ends of the growth bounds around these values.
+    #[tactic(auto, using(crate::proofs::DeviationLanes::lane_count, crate::proofs::DeviationLanes::deviation_is, crate::proofs::ExtentEnds::extent_of_growth, crate::proofs::ExtentEnds::deviation_some))]
     fn narrow_extents(
         &self,
         input: u32,
@@ -149,6 +152,7 @@ impl Sampled<'_> {
     }
 
     /// The value of an equation at the centre of each cell in the first lanes, less and plus how far it moves within the cell.
+    #[tactic(auto, using(crate::proofs::CellRanges::few_variables, crate::proofs::CellRanges::value_in, crate::proofs::NextIntervals::growth_is))]
     fn growth_intervals(
         &self,
         input: u32,

@@ -12,6 +12,7 @@ use plant_record::Plant;
 
 /// The cells that a cell's points can be in one sample later, under an input vector: None where the
 /// successor box leaves the domain. It takes no memory.
+#[tactic(auto, using(crate::proofs::DeviationLanes::equations_count, crate::proofs::PairExtents::extents_of_box))]
 pub fn successors(p: &Plant, s: &Slopes, c: u32, input: u32) -> Option<CellBox>
     requires slopes { s.now ≡ deviations_of p.now }
     requires fits { HasNoOverflow p.now }

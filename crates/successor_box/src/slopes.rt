@@ -48,6 +48,7 @@ impl Slopes {
 
 /// The deviations of a plant's equations. It takes memory for a number for each equation and input
 /// vector, and none for what lies between.
+#[tactic(auto, using(crate::proofs::DeviationLanes::equations_count))]
 pub fn find_slopes(alloc: Global, p: &Plant) -> Result<Slopes, SlopeFault>
     ensures found { IfOk result (λ s. s ≡ deviations_of p.now) }
     ensures fits { IfOk result (λ _. HasNoOverflow p.now) }
@@ -86,6 +87,7 @@ fn deviations_along(
 }
 
 /// How far an equation moves under an input vector: None where a number leaves the range.
+#[tactic(auto, using(crate::proofs::CellRanges::equation_is, crate::proofs::Steps::formed_over, crate::proofs::Radii::radii_not_negative))]
 fn deviation_at(
     p: &Plant,
     radii: &[i128; VARIABLES_LIMIT],

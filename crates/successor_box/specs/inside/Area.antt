@@ -31,12 +31,16 @@ IsArea p u area = take (variables_of p) area ≡ area_of p u
 abbrev pub area_from : Description → List ℤ → List ℤ → ℕ → List Interval
 area_from p low high u = area_between p (take (length p.states) low) (take (length p.states) high) u
 
+-- the ends of a noise's range, less its centre
+abbrev pub noise_offset : NoiseVariable → Interval
+noise_offset w = record { lo = w.low -ℤ noise_centre w; hi = w.high -ℤ noise_centre w }
+
 -- the ends of the ranges over a cell, less the values at its centre
 abbrev pub offsets_of : Description → ℕ → List Interval
 offsets_of p u =
     map (λ (a : Axis). record { lo = neg_ℤ (radius_of a); hi = (a.width -ℤ pos 1) -ℤ radius_of a }) (axes_of p)
     ++ map (λ _. no_range) (vector_of p.inputs u)
-    ++ map (λ (w : NoiseVariable). record { lo = w.low -ℤ noise_centre w; hi = w.high -ℤ noise_centre w }) p.noises
+    ++ map noise_offset p.noises
 
 -- an interval shifted by a number
 abbrev pub shifted_to : ℤ → Interval → Interval

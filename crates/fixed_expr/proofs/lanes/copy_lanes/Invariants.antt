@@ -1,7 +1,6 @@
-use Rattle.std.proofs.Common.{◌≡◌, length}
 use Rattle.fixed_expr.specs.Lanes.{at}
 use Rattle.fixed_expr.specs.inside.Progress.{AreDone}
 use Rattle.fixed_expr.proofs.lanes.copy_lanes.Given as goal
 
 abbrev pub invariant-lanes : goal.invariant-lanes
-invariant-lanes l = (length l.found ≡ 32) × AreDone l.k l.initial.found l.found (λ k. at l.column k)
+invariant-lanes l = AreDone l.k l.initial.found l.found (λ k. at l.column k)

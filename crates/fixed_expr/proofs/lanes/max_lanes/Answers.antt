@@ -1,9 +1,6 @@
 use Rattle.std.proofs.Common.{rules}
-use Rattle.std.specs.Int.{int_max}
-use Rattle.fixed_expr.specs.Lanes.{at}
 use Rattle.fixed_expr.proofs.LaneSteps.{one_lane_more}
 use Rattle.fixed_expr.proofs.lanes.max_lanes.Goals as goal
 
 pub lanes-preserved : goal.lanes-preserved
-lanes-preserved c =
-    one_lane_more c.args.found.now c.lanes.found (λ k. int_max (at c.args.found.now k) (at c.args.other.now k)) c.lanes.k c.max.result c.lanes.invariant.0 (search rules) c.lanes.invariant.1 (search rules) (search rules)
+lanes-preserved c = one_lane_more _ _ _ _ c.max.result c.lanes-test.true c.lanes.invariant (search rules) (search rules)

@@ -1,4 +1,4 @@
-use Rattle.std.proofs.Common.{refl, rules, arith}
+use Rattle.std.proofs.Common.{rules, arith}
 use Rattle.std.specs.Prelude.{pos, FitsSigned}
 use Rattle.std.specs.Int.{w128}
 use Rattle.std.proofs.lemmas.Int.{to_z-of_z}
@@ -6,9 +6,6 @@ use Rattle.successor_box.specs.SuccessorBoxes.{radii_of}
 use Rattle.successor_box.proofs.Filling.{fill_more, fill_all}
 use Rattle.successor_box.proofs.Ranges.{all_radii_count}
 use Rattle.successor_box.proofs.area.radii.Goals as goal
-
-pub loop-k-init : goal.loop-k-init
-loop-k-init c = record { count = refl; filled = λ u. refl }
 
 pub loop-k-preserved : goal.loop-k-preserved
 loop-k-preserved c =

@@ -1,12 +1,10 @@
-use Rattle.std.proofs.Common.{ℕ, ◌<◌, ◌∙◌, length, sym, ap, subst, arith}
+use Rattle.std.proofs.Common.{ℕ, ◌<◌, ◌∙◌, length, sym, arith}
 use Rattle.std.proofs.lemmas.List.{length-map, length-set, get_or-map}
-use Rattle.fixed_expr.specs.Expression.{expression_of}
 use Rattle.interval_eval.specs.declared.interval.Interval.{Interval}
 use Rattle.interval_eval.specs.declared.columns.IntervalColumn.{IntervalColumn}
 use Rattle.interval_eval.specs.LaneSpans.{interval_in, area_in}
-use Rattle.interval_eval.specs.Span.{SpanStaysInRange, span_of}
 use Rattle.successor_box.specs.inside.Area.{no_range}
-use Rattle.successor_box.proofs.Filling.{fill_more, fill_all}
+use Rattle.successor_box.proofs.Filling.{fill_more}
 use Rattle.successor_box.proofs.cell_spans.span_in_lane.Goals as goal
 
 pub loop-k-preserved : goal.loop-k-preserved
@@ -21,15 +19,3 @@ loop-k-preserved c =
       long = length-set c.loop-k.area k x ∙ c.loop-k.invariant.long;
       filled = fill_more c.loop-k.area (area_in columns j) k x no_range (omega arith) (omega (arith, lt, length-map columns at)) c.loop-k.invariant.filled (c.interval_at.ensures ∙ sym (get_or-map at columns k _ no_range lt));
     }
-
-pub unreachable-requires : goal.unreachable-requires
-unreachable-requires c =
-    let columns = c.args.columns.now in
-    let lane = fill_all c.loop-k.area (area_in columns c.args.j) c.loop-k.k (length columns) (omega arith) (length-map columns _) c.loop-k.invariant.filled in
-    c.in-None.ensures.exact (subst (SpanStaysInRange (expression_of c.args.e.now)) (sym lane) c.requires.fits)
-
-pub returns : goal.returns
-returns c =
-    let columns = c.args.columns.now in
-    let lane = fill_all c.loop-k.area (area_in columns c.args.j) c.loop-k.k (length columns) (omega arith) (length-map columns _) c.loop-k.invariant.filled in
-    c.in-Some.ensures.exact.1 ∙ ap (span_of (expression_of c.args.e.now)) lane

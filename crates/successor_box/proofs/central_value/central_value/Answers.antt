@@ -64,7 +64,13 @@ returns-then-k-states-2 c = λ d u has.
     rw (to_z-of_z w128 x wide, to_z-of_z w64 x narrow)
     (values u has.input (index_of_value p d u c.args.indices.now c.args.k has (omega arith) (omega arith)) ∙ sym (central_input p d u c.args.k (omega arith) (omega arith)))
 
+pub overflow_cast-result-2 : goal.overflow_cast-result-2
+overflow_cast-result-2 c =
+    let wide : FitsSigned w128 c.noise_centre.result = search rules in
+    rw (to_z-of_z w128 _ wide) (literal_fits _ c.noise_centre.ensures.short)
+
 pub returns : goal.returns
 returns c = λ d u has.
-    let fits : FitsSigned w64 c.noise_middle.result = search rules in
-    to_z-of_z w64 c.noise_middle.result fits ∙ (rw (c.states-states.ensures, c.input_variables-inputs.ensures) at c.noise_middle.ensures) ∙ noise_value c.args.p.now d u c.args.k (omega arith) c.requires.variable
+    let wide : FitsSigned w128 c.noise_centre.result = search rules in
+    rw (to_z-of_z w128 _ wide, to_z-of_z w64 _ (literal_fits _ c.noise_centre.ensures.short))
+    ((rw (c.states-states.ensures, c.input_variables-inputs.ensures) at c.noise_centre.ensures.centre) ∙ noise_value c.args.p.now d u c.args.k (omega arith) c.requires.variable)

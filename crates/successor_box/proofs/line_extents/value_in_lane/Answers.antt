@@ -3,26 +3,12 @@ use Rattle.std.specs.Prelude.{ℤ, pos, FitsSigned}
 use Rattle.std.specs.Int.{w128}
 use Rattle.std.proofs.Math.Seq.{take-set-lt}
 use Rattle.std.proofs.lemmas.Int.{to_z-of_z}
-use Rattle.std.proofs.lemmas.List.{length-set}
 use Rattle.expr_lanes.specs.declared.lane_eval.ValuesAlong.{ValuesAlong}
 use Rattle.fixed_expr.specs.Expression.{expression_of}
 use Rattle.expr_lanes.specs.LaneEval.{lane_of}
 use Rattle.fixed_expr.specs.Value.{value_of}
-use Rattle.successor_box.proofs.Filling.{fill_more, fill_all}
+use Rattle.successor_box.proofs.Filling.{fill_all}
 use Rattle.successor_box.proofs.line_extents.value_in_lane.Goals as goal
-
-pub loop-k-preserved : goal.loop-k-preserved
-loop-k-preserved c =
-    let values = c.args.at.now.values.now in
-    let k : ℕ = c.loop-k.k in
-    let x : ℤ = c.from.result in
-    let fits : FitsSigned w128 x = search rules in
-    let narrow : FitsSigned w64 (get_or values k (pos 0)) = search rules in
-    rw (to_z-of_z w128 x fits)
-    (record {
-      long = length-set c.loop-k.values k x ∙ c.loop-k.invariant.long;
-      filled = fill_more c.loop-k.values values k x (pos 0) (omega arith) c.loop-k-test.true c.loop-k.invariant.filled (c.from.ensures ∙ to_z-of_z w64 _ narrow);
-    })
 
 -- the values in the lane, once that from the column stands there
 lane_is : (at : ValuesAlong) (filled : List ℤ) (k lane : ℕ) (x : ℤ) → at.along < length at.values.now → k ≡ length at.values.now → take k filled ≡ take k at.values.now → x ≡ get_or at.column.now lane (pos 0)

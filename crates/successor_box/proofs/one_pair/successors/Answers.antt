@@ -6,12 +6,6 @@ use Rattle.successor_box.proofs.DeviationLanes.{equations_count}
 use Rattle.successor_box.proofs.PairExtents.{extents_of_box}
 use Rattle.successor_box.proofs.one_pair.successors.Goals as goal
 
-pub extent-requires-clause-state : goal.extent-requires-clause-state
-extent-requires-clause-state c = let each = equations_count _ _ c.equations-state-end.ensures.same in rw c.new-sampled.ensures.plant (omega (arith, each))
-
-pub extent-requires-clause-pair : goal.extent-requires-clause-pair
-extent-requires-clause-pair c = rw c.new-sampled.ensures.plant (c.requires.cell, c.requires.input)
-
 pub loop-state-preserved : goal.loop-state-preserved
 loop-state-preserved c =
     let so_far = c.loop-state.invariant in

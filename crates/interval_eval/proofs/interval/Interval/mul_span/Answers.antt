@@ -5,20 +5,6 @@ use Rattle.interval_eval.specs.Span.{EndsFit, mul_span}
 use Rattle.interval_eval.proofs.Corners.{corners_fit}
 use Rattle.interval_eval.proofs.interval.Interval.mul_span.Goals as goal
 
-pub returns-in_err-first : goal.returns-in_err-first
-returns-in_err-first c =
-    let left : FitsSigned w128 c.args.self.lo = search rules in
-    let right : FitsSigned w128 c.args.other.lo = search rules in
-    let out = simp to_z-of_z at c.in_err-first.ensures in
-    rw c.from_residual.ensures (λ (fits : EndsFit (mul_span c.args.self c.args.other)). out ((corners_fit c.args.self c.args.other fits).first))
-
-pub returns-in_err-second : goal.returns-in_err-second
-returns-in_err-second c =
-    let left : FitsSigned w128 c.args.self.lo = search rules in
-    let right : FitsSigned w128 c.args.other.hi = search rules in
-    let out = simp to_z-of_z at c.in_err-second.ensures in
-    rw c.from_residual-in_err-second.ensures (λ (fits : EndsFit (mul_span c.args.self c.args.other)). out ((corners_fit c.args.self c.args.other fits).second))
-
 pub returns-in_err-third : goal.returns-in_err-third
 returns-in_err-third c =
     let low : FitsSigned w128 c.args.other.lo = search rules in

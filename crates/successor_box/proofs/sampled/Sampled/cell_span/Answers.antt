@@ -1,5 +1,3 @@
-use Rattle.std.proofs.Common.{ℕ, ◌∙◌, take, ap, ap₂}
-use Rattle.interval_eval.specs.Span.{span_of}
 use Rattle.plant_record.proofs.lemmas.SoundPlants.{sound as sound_plant}
 use Rattle.successor_box.proofs.CellOffsets.{cell_area_long}
 use Rattle.successor_box.proofs.CellRanges.{cell_stays, equation_is, formed_at}
@@ -17,9 +15,3 @@ unreachable-requires c =
     let sound = sound_plant p c.variables-count.ensures.limits.plant in
     let is = equation_is p c.args.state c.equation.result.now c.equation.ensures in
     c.in-None.ensures.exact (rw (c.variables-count.ensures.count, c.cell_area.ensures, is) (cell_stays p c.args.c c.args.input sound c.requires.pair.0 c.args.self.now.fits c.requires.pair.1 c.args.state c.requires.state))
-
-pub returns : goal.returns
-returns c =
-    let p = c.args.self.now.plant.now in
-    let is = equation_is p c.args.state c.equation.result.now c.equation.ensures in
-    c.in-Some.ensures.exact.1 ∙ ap₂ span_of is (ap (λ (n : ℕ). take n c.cell_area.result) c.variables-count.ensures.count ∙ c.cell_area.ensures)

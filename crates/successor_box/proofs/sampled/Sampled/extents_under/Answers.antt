@@ -1,20 +1,10 @@
-use Rattle.successor_box.proofs.AdditiveInputs.{gives_values}
 use Rattle.successor_box.proofs.sampled.Sampled.extents_under.Goals as goal
-
-pub growth_extents-requires-clause-input : goal.growth_extents-requires-clause-input
-growth_extents-requires-clause-input c = c.requires.line.1.input
 
 pub growth_extents-requires-clause-values : goal.growth_extents-requires-clause-values
 growth_extents-requires-clause-values c = (c.requires.line.0, c.lanes-at.ensures c.requires.line.0 c.requires.line.1)
 
-pub growth_extents-requires-clause-line : goal.growth_extents-requires-clause-line
-growth_extents-requires-clause-line c = gives_values c.args.self.now.plant.now c.args.line.now c.args.state c.lanes-at.result c.lanes-at.ensures c.args.additive c.requires.additive
-
 pub returns-in-One-clause-each : goal.returns-in-One-clause-each
 returns-in-One-clause-each c = λ cell centres. c.growth_extents.ensures.each cell (c.lanes-at.ensures cell centres)
-
-pub next_extents-requires-clause-input : goal.next_extents-requires-clause-input
-next_extents-requires-clause-input c = c.requires.line.1.input
 
 pub next_extents-requires-clause-values : goal.next_extents-requires-clause-values
 next_extents-requires-clause-values c = (c.requires.line.0, c.lanes-at.ensures c.requires.line.0 c.requires.line.1)

@@ -9,7 +9,7 @@ use Rattle.plant_record.proofs.lemmas.SoundPlants.{sound as sound_plant}
 use Rattle.successor_box.specs.SuccessorBoxes.{growth_of}
 use Rattle.successor_box.specs.inside.Area.{no_range}
 use Rattle.successor_box.specs.inside.Lines.{AreValuesUnder}
-use Rattle.successor_box.proofs.CellRanges.{equation_is, formed_at, few_variables, value_in}
+use Rattle.successor_box.proofs.CellRanges.{equation_is, formed_at, value_in}
 use Rattle.successor_box.proofs.Filling.{index_more}
 use Rattle.successor_box.proofs.LineValues.{stays_at}
 use Rattle.successor_box.proofs.NextIntervals.{growth_is}
@@ -19,12 +19,6 @@ pub values_in_lanes-next-requires-clause-formed : goal.values_in_lanes-next-requ
 values_in_lanes-next-requires-clause-formed c =
     let p = c.args.self.now.plant.now in
     formed_at p c.args.state c.equation.result.now _ (sound_plant p c.args.self.now.within.plant) c.requires.state c.equation.ensures c.requires.values.1.long
-
-pub values_in_lanes-next-requires-clause-few : goal.values_in_lanes-next-requires-clause-few
-values_in_lanes-next-requires-clause-few c = few_variables c.args.self.now.plant.now _ c.args.self.now.within.plant c.requires.values.1.long
-
-pub values_in_lanes-next-requires-clause-along : goal.values_in_lanes-next-requires-clause-along
-values_in_lanes-next-requires-clause-along c = c.requires.values.1.along
 
 pub values_in_lanes-next-requires-clause-fits : goal.values_in_lanes-next-requires-clause-fits
 values_in_lanes-next-requires-clause-fits c = λ lane lt.
@@ -61,6 +55,3 @@ loop-j-preserved c =
       each = index_more (λ (j : ℕ) (r : Interval). (cell : ℕ → ℕ) → AreValuesUnder p cell c.args.input c.args.at.now → r ≡ growth_of p (cell j) c.args.input e) no_range growth_intervals lane ends (omega arith) c.loop-j.invariant.each
           (λ cell are. growth_is p (cell lane) c.args.input e x ends (c.values_in_lanes-next.ensures lane c.loop-j-test.true ∙ value_in p c.args.state c.equation.result.now cell c.args.input lane c.args.at.now c.equation.ensures are below) low high);
     }
-
-pub returns : goal.returns
-returns c = λ cell are j lt. c.loop-j.invariant.each j (omega (arith, lt, c.loop-j-test.false)) cell are

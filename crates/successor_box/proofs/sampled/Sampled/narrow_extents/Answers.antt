@@ -1,26 +1,16 @@
-use Rattle.std.proofs.Common.{◌≡◌, ◌<◌, ℕ, ◌∙◌, Option, None, length, get_or, sym, ap, subst, w64, rules, arith}
+use Rattle.std.proofs.Common.{◌≡◌, ◌<◌, ℕ, ◌∙◌, Option, None, length, get_or, w64, rules, arith}
 use Rattle.std.specs.Prelude.{ℤ, pos, FitsSigned}
 use Rattle.std.specs.Int.{w128}
 use Rattle.std.proofs.lemmas.Int.{to_z-of_z}
-use Rattle.std.proofs.lemmas.List.{length-map, length-set}
+use Rattle.std.proofs.lemmas.List.{length-set}
 use Rattle.grid_quantiser.specs.declared.extents.Extent.{Extent}
-use Rattle.plant_record.specs.Description.{axis_of}
 use Rattle.plant_record.specs.Steps.{equation_at}
 use Rattle.successor_box.specs.SuccessorBoxes.{deviation_at}
 use Rattle.successor_box.specs.PairExtents.{IsExtentBeforeAt}
-use Rattle.successor_box.proofs.DeviationLanes.{lane_count, deviation_is}
+use Rattle.successor_box.proofs.DeviationLanes.{deviation_is}
 use Rattle.successor_box.proofs.Filling.{index_more}
 use Rattle.successor_box.proofs.ExtentEnds.{extent_of_growth, deviation_some}
 use Rattle.successor_box.proofs.sampled.Sampled.narrow_extents.Goals as goal
-
-pub extended_quantiser-quantiser-requires : goal.extended_quantiser-quantiser-requires
-extended_quantiser-quantiser-requires c =
-    let p = c.args.self.now.plant.now in
-    let axes : length p.equations ≡ length c.grid.result.now = c.args.self.now.within.plant.one_each ∙ sym (length-map p.states axis_of) ∙ sym (ap length c.grid.ensures) in
-    subst (λ (n : ℕ). c.args.state < n) axes c.requires.state
-
-pub of-deviation-requires-clause-input : goal.of-deviation-requires-clause-input
-of-deviation-requires-clause-input c = rw c.args.self.now.deviations (rw (lane_count c.args.self.now.plant.now c.args.state c.requires.state) c.requires.input)
 
 pub extent_around-requires : goal.extent_around-requires
 extent_around-requires c =
@@ -52,6 +42,3 @@ loop-j-preserved c =
       each = λ cell values. index_more (λ (j : ℕ) (s : Option Extent). IsExtentBeforeAt p (cell j) u i 0 s) None extents lane extent within (c.loop-j.invariant.each cell values)
           (extent_of_growth p (cell lane) u i y d extent c.requires.state c.requires.version (same ∙ values lane lane_below) by found);
     }
-
-pub returns-clause-each : goal.returns-clause-each
-returns-clause-each c = λ cell values j below. c.loop-j.invariant.each cell values j (omega (arith, below, c.loop-j-test.false, c.loop-j.invariant.long))

@@ -1,22 +1,15 @@
-use Rattle.std.proofs.Common.{◌≡◌, ◌<◌, ℕ, ◌∙◌, Option, None, length, get_or, sym, ap, subst, rules, arith}
+use Rattle.std.proofs.Common.{◌<◌, ℕ, ◌∙◌, Option, None, length, get_or, rules, arith}
 use Rattle.std.specs.Prelude.{FitsSigned}
 use Rattle.std.specs.Int.{w128}
 use Rattle.std.proofs.lemmas.Int.{to_z-of_z}
-use Rattle.std.proofs.lemmas.List.{length-map, length-set}
+use Rattle.std.proofs.lemmas.List.{length-set}
 use Rattle.interval_eval.specs.declared.interval.Interval.{Interval}
 use Rattle.grid_quantiser.specs.declared.extents.Extent.{Extent}
-use Rattle.plant_record.specs.Description.{axis_of}
 use Rattle.successor_box.specs.PairExtents.{IsExtentBeforeAt}
 use Rattle.successor_box.specs.inside.Area.{no_range}
 use Rattle.successor_box.proofs.Filling.{index_more}
 use Rattle.successor_box.proofs.ExtentEnds.{extent_of_next}
 use Rattle.successor_box.proofs.sampled.Sampled.next_extents.Goals as goal
-
-pub extended_quantiser-quantiser-requires : goal.extended_quantiser-quantiser-requires
-extended_quantiser-quantiser-requires c =
-    let p = c.args.self.now.plant.now in
-    let axes : length p.equations ≡ length c.grid.result.now = c.args.self.now.within.plant.one_each ∙ sym (length-map p.states axis_of) ∙ sym (ap length c.grid.ensures) in
-    subst (λ (n : ℕ). c.args.state < n) axes c.requires.state
 
 pub loop-j-preserved : goal.loop-j-preserved
 loop-j-preserved c =
@@ -35,6 +28,3 @@ loop-j-preserved c =
       each = λ cell are. index_more (λ (j : ℕ) (s : Option Extent). IsExtentBeforeAt p (cell j) c.args.input i 0 s) None extents lane extent within (c.loop-j.invariant.each cell are)
           (extent_of_next p (cell lane) c.args.input i next_interval extent c.requires.state (c.next_intervals-next_intervals.ensures cell are lane c.loop-j-test.true) found);
     }
-
-pub returns-clause-each : goal.returns-clause-each
-returns-clause-each c = λ cell are j below. c.loop-j.invariant.each cell are j (omega (arith, below, c.loop-j-test.false, c.loop-j.invariant.long))

@@ -1,9 +1,0 @@
-use Rattle.std.proofs.Common.{rules}
-use Rattle.std.specs.Prelude.{neg_ℤ}
-use Rattle.fixed_expr.specs.Lanes.{at}
-use Rattle.fixed_expr.proofs.LaneSteps.{one_lane_more}
-use Rattle.fixed_expr.proofs.lanes.neg_lanes.Goals as goal
-
-pub lanes-preserved : goal.lanes-preserved
-lanes-preserved c =
-    one_lane_more c.args.found.now c.lanes.found (λ k. neg_ℤ (at c.args.found.now k)) c.lanes.k c.in_ok-found.field-0 c.lanes.invariant.0 (search rules) c.lanes.invariant.1 (search rules) (search rules)
