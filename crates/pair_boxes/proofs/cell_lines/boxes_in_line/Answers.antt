@@ -9,29 +9,10 @@ use Rattle.pair_boxes.specs.inside.CellLines.{last_state, line_length, AreCellsF
 use Rattle.pair_boxes.proofs.CellLineLists.{AreCellBoxes, cell_fits, cells_are, boxes_written, boxes_from}
 use Rattle.pair_boxes.proofs.LineCells.{last_among, last_slot_few, line_step, indices_in_line, further_in_line}
 use Rattle.pair_boxes.proofs.WrittenRows.{AreRows, none_written, rows_between, rows_long, rows_wide, rows_were}
-use Rattle.plant_record.proofs.lemmas.InputVectors.{some_vectors}
 use Rattle.pair_boxes.proofs.cell_lines.boxes_in_line.Goals as goal
 use Rattle.pair_boxes.proofs.cell_lines.boxes_in_line.Goals.{After-vectors-inputs, After-copy_first, In-loop-done, After-min-end}
 
 -- ---- before the loop
-
-pub indices_of-indices-requires : goal.indices_of-indices-requires
-indices_of-indices-requires c = omega (arith, some_vectors c.args.sampled.now.plant.now.inputs c.args.sampled.now.within.plant.inputs)
-
-pub overflow_cast-inputs : goal.overflow_cast-inputs
-overflow_cast-inputs c = omega (arith, c.vectors-inputs.ensures.count, c.args.sampled.now.within.vectors)
-
-pub overflow_cast-last : goal.overflow_cast-last
-overflow_cast-last c = omega (arith, c.states.ensures, c.args.sampled.now.within.plant.states_bound)
-
-pub overflow_sub-last : goal.overflow_sub-last
-overflow_sub-last c = omega (arith, c.states.ensures, c.args.sampled.now.within.plant.some_state)
-
-pub offset_bounds-indices-last : goal.offset_bounds-indices-last
-offset_bounds-indices-last c = omega (arith, c.states.ensures, c.args.sampled.now.within.plant.states_bound)
-
-pub bounds-indices-last : goal.bounds-indices-last
-bounds-indices-last c = omega (arith, c.states.ensures, c.args.sampled.now.within.plant.states_bound)
 
 module _ (c : After-vectors-inputs) where
   -- the boxes are those of the cells from the first on
@@ -46,9 +27,6 @@ slice_bounds-add_early-end c = wide (goal.at.slice_bounds-add_early-end c).After
 
 pub slice_bounds-add_early-end-2 : goal.slice_bounds-add_early-end-2
 slice_bounds-add_early-end-2 c = sym (length-take-le c.vectors-inputs.result c.args.boxes.now (wide (goal.at.slice_bounds-add_early-end-2 c).After-vectors-inputs))
-
-pub add_early-early-requires-clause-tables : goal.add_early-early-requires-clause-tables
-add_early-early-requires-clause-tables c = c.requires.tables
 
 pub add_early-early-requires-clause-one_each : goal.add_early-early-requires-clause-one_each
 add_early-early-requires-clause-one_each c =

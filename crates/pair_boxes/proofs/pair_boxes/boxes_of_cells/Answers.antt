@@ -10,15 +10,6 @@ use Rattle.pair_boxes.proofs.WrittenRows.{AreRows, none_written, rows_between, r
 use Rattle.pair_boxes.proofs.pair_boxes.boxes_of_cells.Goals as goal
 use Rattle.pair_boxes.proofs.pair_boxes.boxes_of_cells.Goals.{In-loop-done, After-min-end}
 
-pub overflow_cast-inputs : goal.overflow_cast-inputs
-overflow_cast-inputs c = omega (arith, c.vectors-inputs.ensures.count, c.args.sampled.now.within.vectors)
-
-pub nonzero_div-cells : goal.nonzero_div-cells
-nonzero_div-cells c = c.vectors-inputs.ensures.some
-
-pub overflow_sub-states : goal.overflow_sub-states
-overflow_sub-states c = omega (arith, c.states.ensures, c.args.sampled.now.within.plant.some_state)
-
 pub count-line-requires : goal.count-line-requires
 count-line-requires c = omega (arith, c.states.ensures, c.args.sampled.now.within.plant.some_state, ap length c.grid.ensures, length-map c.args.sampled.now.plant.now.states axis_of)
 
