@@ -7,7 +7,7 @@ use Rattle.successor_box.specs.PairExtents.{index_in}
 use Rattle.pair_boxes.specs.inside.Terms.{AreIndicesOf, IsSumAlong}
 use Rattle.pair_boxes.specs.inside.CellLines.{last_state, line_length, AreCellsFrom, AreSumsOfCells}
 use Rattle.pair_boxes.proofs.CellLineLists.{AreCellBoxes, cell_fits, cells_are, boxes_written, boxes_from}
-use Rattle.pair_boxes.proofs.LineCells.{last_among, last_slot_few, line_step, indices_in_line, further_in_line}
+use Rattle.pair_boxes.proofs.LineCells.{last_among, line_step, indices_in_line, further_in_line}
 use Rattle.pair_boxes.proofs.WrittenRows.{AreRows, none_written, rows_between, rows_long, rows_wide, rows_were}
 use Rattle.pair_boxes.proofs.cell_lines.boxes_in_line.Goals as goal
 use Rattle.pair_boxes.proofs.cell_lines.boxes_in_line.Goals.{After-vectors-inputs, After-copy_first, In-loop-done, After-min-end}
@@ -81,12 +81,6 @@ module _ (c : In-loop-done) where
   first_is =
       let p = c.args.sampled.now.plant.now in
       ap (λ (k : ℕ). get_or c.indices_of-indices.result (k - 1) 0) c.states.ensures ∙ c.indices_of-indices.ensures (last_state p) (last_among p c.args.sampled.now.within.plant)
-
-pub overflow_add-indices : goal.overflow_add-indices
-overflow_add-indices c =
-    let p = c.args.sampled.now.plant.now in
-    let place = (goal.at.overflow_add-indices c).In-loop-done in
-    omega (arith, last_slot_few p c.args.sampled.now.within.plant c.args.c c.requires.line.0 _ c.requires.line.2 (first_is place), begins place, c.requires.line.2.within, c.args.sampled.now.within.cells)
 
 module _ (c : After-min-end) where
   abbrev start : ℕ

@@ -1,17 +1,13 @@
 use Rattle.std.proofs.Common.{◌≡◌, ℕ, ◌+◌, ◌-◌, ◌*◌, ◌^◌, ◌<◌, ◌≤◌, ◌∙◌, List, None, length, get_or, ap, arith}
-use Rattle.std.proofs.lemmas.List.{length-map}
 use Rattle.std.proofs.lemmas.Nat.{mod_below, row_fits}
 use Rattle.grid_quantiser.specs.declared.axis.Axis.{Axis}
 use Rattle.grid_quantiser.specs.Axes.{no_axis}
-use Rattle.plant_record.specs.Description.{axis_of, vectors_of}
+use Rattle.plant_record.specs.Description.{vectors_of}
 use Rattle.pair_boxes.specs.inside.CellLines.{line_length, AreInLine}
 use Rattle.pair_boxes.proofs.CellLineLists.{AreCellBoxes, some_line, cell_count, cells_are, boxes_few, cell_fits, line_piece, boxes_written, boxes_from}
 use Rattle.pair_boxes.proofs.WrittenRows.{AreRows, none_written, rows_between, rows_long, rows_wide, part_was}
 use Rattle.pair_boxes.proofs.pair_boxes.boxes_of_cells.Goals as goal
 use Rattle.pair_boxes.proofs.pair_boxes.boxes_of_cells.Goals.{In-loop-done, After-min-end}
-
-pub count-line-requires : goal.count-line-requires
-count-line-requires c = omega (arith, c.states.ensures, c.args.sampled.now.within.plant.some_state, ap length c.grid.ensures, length-map c.args.sampled.now.plant.now.states axis_of)
 
 pub loop-done-init : goal.loop-done-init
 loop-done-init c = record { within = omega arith; written = none_written _ None _ c.args.boxes.now }
