@@ -3,4 +3,3 @@ pub mod Draws
 pub mod Lines
 pub mod Ends
 pub mod Steps
-pub mod Starts

@@ -1,6 +1,6 @@
 ghost use Rattle.std.specs.Prelude.{◌≡◌, ◌≤◌, ◌∷◌, [], IfSome, IfNone, SomeIff};
 ghost use Rattle.successor_box.specs.Deviations.{HasNoOverflow, deviations_of};
-ghost use Rattle.loop_sim.specs.Trace.{HasSomeRowAt, trace_from};
+ghost use Rattle.loop_sim.specs.Trace.{HasSomeRowAt, trace_lines, trace_from};
 ghost use Rattle.base.specs.declared.limits.TheConstants.{SAMPLES_LIMIT};
 
 use crate::closed_loop::{Sample, Stage, first_line, row_at};
@@ -42,18 +42,27 @@ impl<'a> Sim<'a> {
         requires steps { steps ≤ SAMPLES_LIMIT }
         ensures { SomeIff result (HasSomeRowAt t.now x.now) (trace_from t.now seed steps x.now) }
     {
-        every_table_fits(t);
         row_at(t, x)?;
-        Some(Sim {
+        Some(Sim::begin(t, t.plant().state_point(x), seed, steps))
+    }
+
+    /// The trace from a state on, whether the table has a row there or not.
+    pub(crate) fn begin(t: &'a Table, x: Point, seed: u64, steps: u32) -> Sim<'a>
+        requires fits { HasNoOverflow t.now.plant }
+        requires steps { steps ≤ SAMPLES_LIMIT }
+        ensures { result ≡ trace_lines t.now.plant t.now.rows seed steps 0 x }
+    {
+        every_table_fits(t);
+        Sim {
             table: t,
             stage: Stage::Due(Sample {
                 time: 0,
-                x: t.plant().state_point(x),
+                x,
                 left: steps,
                 state: seed,
                 seed,
             }),
-        })
+        }
     }
 
     /// The next line of the trace.

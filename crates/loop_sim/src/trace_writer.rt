@@ -4,6 +4,7 @@ ghost use Rattle.loop_sim.specs.Trace.{HasSomeRowAt};
 ghost use Rattle.loop_sim.specs.TraceText.{trace_text};
 ghost use Rattle.base.specs.declared.limits.TheConstants.{SAMPLES_LIMIT};
 
+use crate::closed_loop::row_at;
 use crate::sim::Sim;
 use crate::trace_line::{write_first, write_line};
 use controller_table::Table;
@@ -34,7 +35,7 @@ impl<'a> Model for TraceWriter<'a> {
 }
 
 impl<'a> TraceWriter<'a> {
-    /// The writer of the trace from a state, as `Sim::new` begins it.
+    /// The writer of the trace from a state: None where the table has no row there.
     pub fn new(
         t: &'a Table,
         s: &'a Slopes,
@@ -47,13 +48,13 @@ impl<'a> TraceWriter<'a> {
         requires steps { steps ≤ SAMPLES_LIMIT }
         ensures { SomeIff result (HasSomeRowAt t.now x.now) (trace_text t.now.plant t.now.rows x.now seed steps) }
     {
-        let sim = Sim::new(t, s, x, seed, steps)?;
+        row_at(t, x)?;
         let mut line = LineText::empty();
         write_first(&mut line);
         Some(TraceWriter {
             table: t,
             line,
-            sim,
+            sim: Sim::begin(t, *x, seed, steps),
         })
     }
 }

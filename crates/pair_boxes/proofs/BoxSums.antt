@@ -3,19 +3,21 @@ use Rattle.std.proofs.Common.{◌≡◌, ℕ, ◌+◌, ◌*◌, ◌/◌, ◌^◌
 use Rattle.std.specs.Prelude.{ℤ, ◌≤ℤ◌, IfSome}
 use Rattle.std.proofs.Math.Nat.{mul_assoc, mul_comm, add-mul}
 use Rattle.std.proofs.lemmas.List.{length-map, drop_more, drop_all}
-use Rattle.std.proofs.lemmas.List.Elements.{All-get_or}
 use Rattle.std.proofs.lemmas.Nat.{div-mul-add, mul-le}
 use Rattle.grid_quantiser.specs.declared.axis.Axis.{Axis}
 use Rattle.grid_quantiser.specs.declared.boxes.CellBox.{CellBox}
 use Rattle.grid_quantiser.specs.declared.extents.Extent.{Extent}
-use Rattle.grid_quantiser.specs.Axes.{IsAxis, no_axis, cells_of}
+use Rattle.grid_quantiser.specs.Axes.{no_axis, cells_of}
 use Rattle.grid_quantiser.specs.ExtentBoxes.{one_cell, with_extent}
 use Rattle.grid_quantiser.specs.Extents.{IsExtentOf}
 use Rattle.grid_quantiser.proofs.Suffixes.{cells_of-drop}
 use Rattle.plant_record.specs.Description.{Description, axis_of, axes_of}
+use Rattle.plant_record.specs.Limits.{IsWithinLimits}
 use Rattle.plant_record.specs.Soundness.{IsSound}
+use Rattle.plant_record.proofs.lemmas.SoundPlants.{sound as sound_plant}
 use Rattle.successor_box.specs.SuccessorBoxes.{IsBoxOf, low_corner, high_corner}
 use Rattle.successor_box.proofs.Below.{boxes_grow_by_extents}
+use Rattle.successor_box.proofs.Middles.{axis_at}
 use Rattle.successor_box.proofs.PairExtents.{box_more, box_on_all}
 use Rattle.pair_box.specs.Sums.{term, plus}
 use Rattle.pair_boxes.specs.inside.TermSums.{enlarged}
@@ -70,7 +72,11 @@ plus_ends n m None b by_n by_m = tt
 plus_ends n m (Some a) None by_n by_m = tt
 plus_ends n m (Some a) (Some b) by_n by_m = omega (arith, by_n, by_m)
 
-pub ends_fit : (i : ℕ) (b : Option CellBox) → i ≤ 7 → EndsBy (i * 2 ^ 20) b → IfSome b (λ (b : CellBox). b.last < 2 ^ 28)
+-- it is below the limit of sums
+abbrev pub Fits28 : Option CellBox → Type 0
+Fits28 b = IfSome b (λ (b : CellBox). b.last < 2 ^ 28)
+
+ends_fit : (i : ℕ) (b : Option CellBox) → i ≤ 7 → EndsBy (i * 2 ^ 20) b → Fits28 b
 ends_fit i None few by = tt
 ends_fit i (Some b) few by = omega (arith, few, by)
 
@@ -80,39 +86,45 @@ term_ends m count cells (Some s) le below = omega (arith, le, mul-le s.last m co
 
 -- ---- the sums of a plant
 
-module _ (p : Description) (sound : IsSound p) (i : ℕ) (lt : i < length p.equations) where
+module _ (p : Description) (limits : IsWithinLimits p) (i : ℕ) (lt : i < length p.equations) where
+  sound : IsSound p
+  sound = sound_plant p limits.plant
+
   abbrev axis : Axis
   axis = get_or (axes_of p) i no_axis
 
   axis_within : i < length (axes_of p)
   axis_within = omega (arith, lt, sound.one_each, length-map p.states axis_of)
 
-  pub stride_step : cells_of (drop i (axes_of p)) ≡ axis.count * stride_of p i
+  stride_step : cells_of (drop i (axes_of p)) ≡ axis.count * stride_of p i
   stride_step = ap cells_of (drop_more (axes_of p) i no_axis axis_within)
 
-  pub stride_few : axis.count * stride_of p i ≤ cells_of (axes_of p)
+  stride_few : axis.count * stride_of p i ≤ cells_of (axes_of p)
   stride_few = omega (arith, stride_step, cells_of-drop i (axes_of p) sound.axes.each)
 
   -- the later axes make a cell
   pub stride_next : (n count : ℕ) → n ≡ cells_of (drop i (axes_of p)) → count ≡ axis.count → n / count ≡ stride_of p i
   stride_next n count is count_is =
-      let some : 0 < count = omega (arith, count_is, (All-get_or IsAxis (axes_of p) i no_axis axis_within sound.axes.each).some_cell) in
+      let some : 0 < count = omega (arith, count_is, (axis_at p sound i (omega (arith, lt, sound.one_each))).some_cell) in
       let whole : n ≡ stride_of p i * count + 0 = omega (arith, is, stride_step, mul_comm axis.count (stride_of p i), ap (λ (k : ℕ). stride_of p i * k) count_is) in
       ap (λ (k : ℕ). k / count) whole ∙ div-mul-add (stride_of p i) count 0 some
 
   -- the term of an extent fits
-  pub extent_term_fits : (stride : ℕ) (extent : Option Extent) (low high : ℤ) → cells_of (axes_of p) ≤ 2 ^ 20 → stride ≡ stride_of p i → low ≤ℤ high → IsExtentOf axis low high extent →
+  pub extent_term_fits : (stride : ℕ) (extent : Option Extent) (low high : ℤ) → stride ≡ stride_of p i → low ≤ℤ high → IsExtentOf axis low high extent →
       IfSome extent (λ (s : Extent). (s.first ≤ s.last) × (s.last * stride < 2 ^ 28))
-  extent_term_fits stride extent low high limit is order of = by extent (extent_ordered axis low high extent (All-get_or IsAxis (axes_of p) i no_axis axis_within sound.axes.each) order of) of.on_axis
+  extent_term_fits stride extent low high is order of = by extent (extent_ordered axis low high extent (axis_at p sound i (omega (arith, lt, sound.one_each))) order of) of.on_axis
     where
       by : (extent : Option Extent) → IfSome extent (λ (s : Extent). s.first ≤ s.last) → IfSome extent (λ (s : Extent). (s.first < axis.count) × (s.last < axis.count)) → IfSome extent (λ (s : Extent). (s.first ≤ s.last) × (s.last * stride < 2 ^ 28))
       by None ordered below = tt
       by (Some s) ordered below =
-          (ordered, omega (arith, limit, stride_few, mul-le s.last (stride_of p i) axis.count (stride_of p i) (omega (arith, below.1)) (omega arith), ap (λ (k : ℕ). s.last * k) is))
+          (ordered, omega (arith, limits.cells, stride_few, mul-le s.last (stride_of p i) axis.count (stride_of p i) (omega (arith, below.1)) (omega arith), ap (λ (k : ℕ). s.last * k) is))
 
-  module _ (limit : cells_of (axes_of p) ≤ 2 ^ 20) (c u : ℕ) (x : Option CellBox) (is : IsTermAt p c u i x) where
-    pub term_few : EndsBy (2 ^ 20) x
-    term_few = ends_later (cells_of (axes_of p)) (2 ^ 20) x limit (subst (EndsBy (cells_of (axes_of p))) (sym is.2) (term_ends (stride_of p i) axis.count (cells_of (axes_of p)) is.0 stride_few is.1.on_axis))
+  module _ (c u : ℕ) (x : Option CellBox) (is : IsTermAt p c u i x) where
+    term_few : EndsBy (2 ^ 20) x
+    term_few = ends_later (cells_of (axes_of p)) (2 ^ 20) x limits.cells (subst (EndsBy (cells_of (axes_of p))) (sym is.2) (term_ends (stride_of p i) axis.count (cells_of (axes_of p)) is.0 stride_few is.1.on_axis))
+
+    pub term_fits : Fits28 x
+    term_fits = ends_fit 1 x (omega arith) term_few
 
     module _ (base rest : Option CellBox) (so_far : IsSumAlong p i c u base rest) where
       more : plus (plus base rest) x ≡ enlarged (stride_of p i) (with_extent axis so_far.found is.0)
@@ -143,6 +155,12 @@ module _ (p : Description) (sound : IsSound p) (i : ℕ) (lt : i < length p.equa
         base_few = later base so_far.base_few;
         rest_few = with_term rest so_far.rest_few;
       }
+
+-- the sums on the axes of some states fit
+pub sums_fit : (p : Description) (limits : IsWithinLimits p) (i c u : ℕ) (base rest : Option CellBox) → i ≤ length p.equations → IsSumAlong p i c u base rest → Fits28 base × Fits28 rest
+sums_fit p limits i c u base rest le so_far =
+    let few : i ≤ 7 = omega (arith, le, limits.plant.one_each, limits.plant.states_bound) in
+    (ends_fit i base few so_far.base_few, ends_fit i rest few so_far.rest_few)
 
 -- the sum on no axis
 pub sum_start : (p : Description) (c u : ℕ) → IsSumAlong p 0 c u one_cell one_cell

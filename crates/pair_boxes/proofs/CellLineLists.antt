@@ -1,19 +1,19 @@
 -- The boxes of cells, some cells after others.
-use Rattle.std.proofs.Common.{◌≡◌, ℕ, ◌+◌, ◌-◌, ◌*◌, ◌/◌, ◌%◌, ◌^◌, ◌<◌, ◌≤◌, List, Option, None, length, min, take, drop, ◌++◌, get_or, sym, ap, subst, ◌∙◌, arith, inl, inr}
+use Rattle.std.proofs.Common.{◌≡◌, ℕ, ◌+◌, ◌-◌, ◌*◌, ◌/◌, ◌%◌, ◌^◌, ◌<◌, ◌≤◌, List, Option, None, length, min, take, drop, get_or, sym, ap, subst, ◌∙◌, arith, inl, inr}
+use borrow.Rule.Slice.PartMut.{put_mid}
 use Rattle.std.proofs.Math.Nat.{add-mul, min-le_left, min-le_right}
 use Rattle.std.proofs.lemmas.Bool.{cases_lt}
-use Rattle.std.proofs.lemmas.List.{length-map, length-append, length-take-le, length-drop, get_or-take, get_or-drop, get_or_default}
-use Rattle.std.proofs.lemmas.List.Elements.{All-get_or}
-use Rattle.std.proofs.lemmas.Nat.{mul-le, mod_below}
+use Rattle.std.proofs.lemmas.Nat.{mul-le, mod_below, div-mul-add}
 use Rattle.grid_quantiser.specs.declared.boxes.CellBox.{CellBox}
-use Rattle.grid_quantiser.specs.Axes.{IsAxis, no_axis, cells_of}
-use Rattle.plant_record.specs.Description.{Description, axis_of, axes_of, vectors_of}
+use Rattle.grid_quantiser.specs.Axes.{cells_of}
+use Rattle.plant_record.specs.Description.{Description, axes_of, vectors_of}
 use Rattle.plant_record.specs.Limits.{IsWithinLimits}
 use Rattle.plant_record.proofs.lemmas.SoundPlants.{sound as sound_plant}
 use Rattle.successor_box.specs.SuccessorBoxes.{IsBoxOf}
+use Rattle.successor_box.proofs.Middles.{axis_at}
+use Rattle.pair_boxes.specs.CellsFrom.{AreBoxesFrom}
 use Rattle.pair_boxes.specs.inside.CellLines.{last_state, line_length, AreInLine}
-use Rattle.pair_boxes.proofs.LineBoxes.{cell_count}
-use Rattle.pair_boxes.proofs.WrittenTerms.{written_long, written_before, written_in, written_after}
+use Rattle.pair_boxes.proofs.WrittenRows.{AreRows, AreWrittenBelow, among, rows_long, rows_written}
 use Rattle.base.proofs.Products.{part_fits}
 
 -- the boxes of the cells from one on to another
@@ -30,10 +30,16 @@ cell_before k cells v u lt =
       | inr past ↦ absurd (omega (arith, lt, mul-le cells v k v past (omega arith)))
     ]
 
+-- how many cells there are
+pub cell_count : (boxes n v w : ℕ) → boxes ≡ n * w → v ≡ w → 0 < v → boxes / v ≡ n
+cell_count boxes n v w long same some =
+    let whole : boxes ≡ n * v + 0 = omega (arith, long, ap (λ (m : ℕ). n * m) same) in
+    ap (λ (b : ℕ). b / v) whole ∙ div-mul-add n v 0 some
+
 -- a line has a cell
 pub some_line : (p : Description) → IsWithinLimits p → 1 ≤ line_length p
 some_line p limits =
-    (All-get_or IsAxis (axes_of p) (last_state p) no_axis (omega (arith, limits.plant.some_state, length-map p.states axis_of)) (sound_plant p limits.plant).axes.each).some_cell
+    (axis_at p (sound_plant p limits.plant) (last_state p) (omega (arith, limits.plant.some_state))).some_cell
 
 -- Boxes of so many of a plant's cells from one on, as many for each as there are inputs.
 pub record AreCellBoxes (p : Description) (c n v boxes : ℕ) : Type 0 where
@@ -57,15 +63,6 @@ module _ {p : Description} {c n v boxes : ℕ} (are : AreCellBoxes p c n v boxes
   pub cell_fits : (k : ℕ) → k < n → (c + k < 2 ^ 20) × (k * v + v ≤ boxes)
   cell_fits k lt = (omega (arith, are.within, are.limits.cells, lt), omega (arith, long_by, part_fits k n v lt))
 
-  -- the first cell's boxes, written anew
-  pub first_written : 1 ≤ n → (new old : List (Option CellBox)) → length old ≡ boxes → length new ≡ length (take v old) →
-      (length new ≡ v) × (length (new ++ drop v old) ≡ boxes) × (length (new ++ drop v old) / v ≡ n)
-  first_written any new old all is =
-      let wide : v ≤ length old = omega (arith, all, (cell_fits 0 any).1) in
-      let long : length new ≡ v = is ∙ length-take-le v old wide in
-      let same : length (new ++ drop v old) ≡ boxes = omega (arith, length-append new (drop v old), long, length-drop v old, wide, all) in
-      (long, same, ap (λ (m : ℕ). m / v) same ∙ cells_are)
-
   -- the cells of a line from one on, to its end or to the last cell
   pub line_piece : (start end line : ℕ) → start < boxes / v → line ≡ line_length p → end ≡ min (boxes / v) (start + line - (c + start) % line) →
       (start < end) × (end ≤ n) × AreInLine p (c + start) (end - start)
@@ -83,42 +80,19 @@ module _ {p : Description} {c n v boxes : ℕ} (are : AreCellBoxes p c n v boxes
         },
       )
 
-  -- the boxes of the cells from one on to another, among all
-  module _ (start end : ℕ) (some : start < end) (le : end ≤ n) (old : List (Option CellBox)) (long : length old ≡ boxes) where
-    inside : start * v + (end * v - start * v) ≤ length old
-    inside = omega (arith, long, long_by, part_fits start end v some, mul-le end v n v le (omega arith))
+-- ---- boxes of cells, some cells after others
 
-    abbrev pub part : List (Option CellBox)
-    part = take (end * v - start * v) (drop (start * v) old)
+-- the box of a cell, as many from one on, under an input
+abbrev pub BoxFrom : Description → ℕ → ℕ → ℕ → Option CellBox → Type 0
+BoxFrom p c k u b = IsBoxOf p (c + k) u b
 
-    pub part_long : length part ≡ end * v - start * v
-    part_long = length-take-le (end * v - start * v) (drop (start * v) old) (omega (arith, length-drop (start * v) old, inside))
+module _ {p : Description} (c : ℕ) {start end at wide : ℕ} {before now : List (Option CellBox)} (rows : AreRows (vectors_of p.inputs) start end at wide (length now)) where
+  pub boxes_written : AreWrittenBelow (BoxFrom p c) (vectors_of p.inputs) None start before now → (new : List (Option CellBox)) → length new ≡ length (take wide (drop at now)) → AreBoxesFrom p (c + start) new →
+      AreWrittenBelow (BoxFrom p c) (vectors_of p.inputs) None end before (put_mid at wide now new)
+  boxes_written so_far new long each =
+      let as_long = long ∙ rows_long now rows in
+      rows_written now rows so_far new as_long (λ k u lt input.
+      subst (λ (cell : ℕ). IsBoxOf p cell u (get_or new (k * vectors_of p.inputs + u) None)) (let e : c + start + k ≡ c + (start + k) = omega arith in e) (each k u input (omega (arith, as_long, among now rows k u lt input))))
 
-    pub part_read : (i : ℕ) (d : Option CellBox) → i < end * v - start * v → get_or part i d ≡ get_or old (start * v + i) None
-    part_read i d lt = get_or-take (end * v - start * v) (drop (start * v) old) i d lt ∙ get_or-drop (start * v) old i d ∙ get_or_default old (start * v + i) d None (omega (arith, lt, inside))
-
-    -- written anew
-    module _ (new : List (Option CellBox)) (new_long : length new ≡ end * v - start * v) where
-      abbrev after : List (Option CellBox)
-      after = take (start * v) old ++ (new ++ drop (end * v - start * v) (drop (start * v) old))
-
-      pub after_long : length after ≡ length old
-      after_long = written_long (start * v) (end * v - start * v) old new None inside new_long
-
-      pub left_before : (i : ℕ) → i < start * v → get_or after i None ≡ get_or old i None
-      left_before i lt = written_before (start * v) (end * v - start * v) old new None inside new_long i lt
-
-      pub left_after : (i : ℕ) → end * v ≤ i → get_or after i None ≡ get_or old i None
-      left_after i from = written_after (start * v) (end * v - start * v) old new None inside new_long i (omega (arith, from, part_fits start end v some))
-
-      pub found_in : ((k u : ℕ) → u < v → k * v + u < length new → IsBoxOf p (c + start + k) u (get_or new (k * v + u) None)) → (k u : ℕ) → start ≤ k → k < end → u < v → IsBoxOf p (c + k) u (get_or after (k * v + u) None)
-      found_in each k u from lt input =
-          let j : ℕ = k - start in
-          let cell : start + j ≡ k = omega (arith, from) in
-          let place : k * v + u ≡ start * v + (j * v + u) = omega (arith, add-mul start j v, ap (λ (n : ℕ). n * v) cell) in
-          let among : j * v + u < end * v - start * v = omega (arith, range start end v some, part_fits j (end - start) v (omega (arith, lt, from)), input) in
-          let there : c + start + j ≡ c + k = omega (arith, cell) in
-          let read : get_or after (k * v + u) None ≡ get_or new (j * v + u) None =
-          ap (λ (i : ℕ). get_or after i None) place ∙ written_in (start * v) (end * v - start * v) old new None inside new_long (j * v + u) among
-          in
-          subst (IsBoxOf p (c + k) u) (sym read) (subst (λ (cell : ℕ). IsBoxOf p cell u (get_or new (j * v + u) None)) there (each j u input (omega (arith, among, new_long))))
+pub boxes_from : (p : Description) (c n m : ℕ) (before now : List (Option CellBox)) → AreWrittenBelow (BoxFrom p c) (vectors_of p.inputs) None m before now → length before ≡ n * vectors_of p.inputs → n ≤ m → AreBoxesFrom p c now
+boxes_from p c n m before now so_far long all k u input short = so_far.each k u (omega (arith, all, cell_before k n (vectors_of p.inputs) u (omega (arith, short, so_far.long, long)))) input

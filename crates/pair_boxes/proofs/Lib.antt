@@ -8,9 +8,7 @@ mod ExtentTables
 mod TermTables
 mod LineCells
 mod LaneCells
-mod WrittenTerms
-mod LineBoxes
-mod CellBlocks
+mod WrittenRows
 mod CellLineLists
 mod ChangedElements
 mod BoxSums

@@ -155,12 +155,6 @@ module _ (p : Description) (plant : IsPlant p) where
   pub last_among : last_state p < length p.states + length p.inputs
   last_among = omega (arith, plant.some_state)
 
-  -- the index along the last state is at most the cell
-  pub last_slot_few : (c n first : ℕ) → AreInLine p c n → first ≡ index_in p c 0 (last_state p) → first ≤ c
-  last_slot_few c n first row is =
-      let last : last_state p < length p.states = omega (arith, plant.some_state) in
-      omega (arith, is, state_slot p c 0 (last_state p) last, last_slot (axes_of p) (last_state p) c long, div-add-mod' c (line_length p))
-
   -- a cell further along the line is in the line
   pub further_in_line : (c k n : ℕ) → AreInLine p c n → k < n → IsInLineOf p c (c + k)
   further_in_line c k n row lt = (omega (arith, row.within, lt), (line_step c k (line_length p) (omega (arith, row.row, lt))).0)

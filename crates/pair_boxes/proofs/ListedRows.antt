@@ -1,6 +1,5 @@
 -- Terms that are listed, added to the boxes of a cell.
-use Rattle.std.proofs.Common.{◌≡◌, ℕ, ◌+◌, ◌-◌, ◌^◌, ◌<◌, ◌≤◌, List, All, Option, None, take, drop, length, get_or, refl, sym, ap, subst, ◌∙◌, arith}
-use Rattle.std.specs.Prelude.{IfSome}
+use Rattle.std.proofs.Common.{◌≡◌, ℕ, ◌+◌, ◌-◌, ◌<◌, ◌≤◌, List, All, Option, None, take, drop, length, get_or, refl, sym, ap, subst, ◌∙◌, arith}
 use Rattle.std.specs.Global.{Vec}
 use Rattle.std.proofs.lemmas.List.{length-take-le, length-drop, get_or-take, get_or-drop, get_or_default}
 use Rattle.grid_quantiser.specs.declared.boxes.CellBox.{CellBox}
@@ -12,13 +11,9 @@ use Rattle.pair_boxes.specs.declared.terms.Terms.TheVariants.{Listed}
 use Rattle.pair_boxes.specs.declared.terms.TermTable.{TermTable}
 use Rattle.pair_box.specs.Sums.{plus}
 use Rattle.pair_boxes.specs.inside.Terms.{count_of, HasTermAt, IsTermAt, Brings, IsSumAlong, AreSumsAlong, IsTermTableOf}
-use Rattle.pair_boxes.proofs.BoxSums.{ends_fit, term_few, rest_more}
+use Rattle.pair_boxes.proofs.BoxSums.{Fits28, sums_fit, term_fits, rest_more}
 use Rattle.plant_record.proofs.lemmas.InputVectors.{some_vectors}
 use Rattle.pair_boxes.proofs.TermTables.{has_term, slot_within}
-
--- the last cell of a box is below this
-abbrev Fits28 : Option CellBox → Type 0
-Fits28 b = IfSome b (λ (b : CellBox). b.last < 2 ^ 28)
 
 -- The terms of a state are listed.
 pub record FindsTerms (p : Description) (i : ℕ) (t : TermTable) (terms : List (Option CellBox)) : Type 0 where
@@ -63,15 +58,15 @@ module _ {p : Description} {i : ℕ} {t : TermTable} {terms : List (Option CellB
     terms_fit k d short =
         let input : k < vectors_of p.inputs = omega (arith, short, f.held.inputs) in
         subst (λ (n : ℕ). Fits28 (get_or found n None)) (get_or_default t.inputs.items k 0 d short)
-        (ends_fit 1 (get_or found (get_or t.inputs.items k 0) None) (omega arith) (term_few p (sound_plant p f.limits.plant) i f.state f.limits.cells c k (get_or found (get_or t.inputs.items k 0) None) (term_found k input)))
+        (term_fits p f.limits i f.state c k (get_or found (get_or t.inputs.items k 0) None) (term_found k input))
 
     module _ (base : Option CellBox) (boxes : List (Option CellBox)) (long : length boxes ≡ vectors_of p.inputs) (before : AreSumsAlong p i c base boxes) where
       pub boxes_fit : All Fits28 boxes
       boxes_fit k d short =
           subst Fits28 (get_or_default boxes k None d short)
-          (ends_fit i (get_or boxes k None) (omega (arith, f.state, f.limits.plant.one_each, f.limits.plant.states_bound)) (before k (omega (arith, short, long))).rest_few)
+          (sums_fit p f.limits i c k base (get_or boxes k None) (omega (arith, f.state)) (before k (omega (arith, short, long)))).1
 
       pub listed_added : (after : List (Option CellBox)) → ((u : ℕ) → u < length boxes → get_or after u None ≡ plus (get_or boxes u None) (get_or found (get_or t.inputs.items u 0) None)) → AreSumsAlong p (i + 1) c base after
       listed_added after each u input =
           subst (IsSumAlong p (i + 1) c u base) (sym (each u (omega (arith, input, long))))
-          (rest_more p (sound_plant p f.limits.plant) i f.state f.limits.cells c u (get_or found (get_or t.inputs.items u 0) None) (term_found u input) base (get_or boxes u None) (before u input))
+          (rest_more p f.limits i f.state c u (get_or found (get_or t.inputs.items u 0) None) (term_found u input) base (get_or boxes u None) (before u input))

@@ -1,19 +1,20 @@
 -- Terms that are listed, for each own slot of a cell along the axis one slot of an extent after another.
-use Rattle.std.proofs.Common.{◌≡◌, ℕ, ◌+◌, ◌*◌, ◌/◌, ◌^◌, ◌<◌, ◌≤◌, List, [], ◌∷◌, ◌++◌, All, Option, None, Bool, true, false, length, get_or, sym, ap, subst, ◌∙◌, arith, inl, inr}
+use Rattle.std.proofs.Common.{◌≡◌, ℕ, ◌+◌, ◌*◌, ◌/◌, ◌^◌, ◌<◌, ◌≤◌, List, [], ◌∷◌, ◌++◌, All, Option, None, Bool, true, false, length, get_or, sym, ap, subst, ◌∙◌, arith}
 use Rattle.std.specs.Prelude.{if◌then◌else◌}
 use Rattle.std.proofs.Math.Nat.{mul_comm, div-mul-le_self}
-use Rattle.std.proofs.lemmas.Bool.{cases_lt, cond_both}
+use Rattle.std.proofs.lemmas.Bool.{cond_both}
 use Rattle.std.proofs.lemmas.List.{length-map}
-use Rattle.std.proofs.lemmas.List.Elements.{All-get_or, All-append, All-cons}
+use Rattle.std.proofs.lemmas.List.Elements.{All-append, All-cons}
 use Rattle.std.proofs.lemmas.List.Sums.{sum_by-append, sum_by-cons}
 use Rattle.std.proofs.lemmas.Nat.{mul-le, mul-add-lt}
 use Rattle.grid_quantiser.specs.declared.boxes.CellBox.{CellBox}
-use Rattle.grid_quantiser.specs.Axes.{IsAxis, no_axis, cells_of}
+use Rattle.grid_quantiser.specs.Axes.{no_axis, cells_of}
 use Rattle.grid_quantiser.specs.Indices.{index_along}
 use Rattle.grid_quantiser.proofs.OwnIndices.{index_along_below}
 use Rattle.plant_record.specs.Description.{Description, axis_of, axes_of, vectors_of}
 use Rattle.plant_record.specs.Soundness.{IsSound}
 use Rattle.successor_box.specs.PairExtents.{index_in, shifts_along, shifted_by}
+use Rattle.successor_box.proofs.Middles.{axis_at}
 use Rattle.pair_boxes.specs.declared.digits.Digit.{Digit}
 use Rattle.pair_boxes.specs.declared.extent_table.ExtentTable.{ExtentTable}
 use Rattle.pair_boxes.specs.inside.ExtentTables.{first_of, IsExtentTableOf}
@@ -28,7 +29,7 @@ module _ (p : Description) (sound : IsSound p) (i : ℕ) (lt : i < length p.equa
   count = (get_or (axes_of p) i no_axis).count
 
   some_count : 1 ≤ count
-  some_count = (All-get_or IsAxis (axes_of p) i no_axis (omega (arith, lt, sound.one_each, length-map p.states axis_of)) sound.axes.each).some_cell
+  some_count = (axis_at p sound i (omega (arith, lt, sound.one_each))).some_cell
 
   pub own_some : 1 ≤ own_count p i
   own_some = cond_both (shifts_along p i) count 1 (λ (n : ℕ). 1 ≤ n) (λ shifts. some_count) (λ fixed. omega arith)
@@ -86,10 +87,3 @@ pub listed_few : (own extents pairs : ℕ) → pairs ≤ 2 ^ 22 → extents ≤ 
 listed_few own extents pairs few le =
     let eighth : pairs / 8 ≤ pairs = omega arith in
     omega (arith, few, eighth, div-mul-le_self (pairs / 8) own, mul-le extents own (pairs / 8 / own) own le (omega arith), mul_comm own extents)
-
-pub some_factor : (n own extents : ℕ) → n < own * extents → 0 < extents
-some_factor n own extents lt =
-    elim (cases_lt 0 extents) [
-      | inl some ↦ some
-      | inr none ↦ let zero : extents ≡ 0 = omega (arith, none) in absurd (omega (arith, lt, ap (λ (k : ℕ). own * k) zero))
-    ]

@@ -5,13 +5,14 @@ use Rattle.std.proofs.Math.Nat.{mod-le, div-le_self}
 use Rattle.std.proofs.lemmas.Bool.{cases_lt, cond_both}
 use Rattle.std.proofs.lemmas.List.{length-map, get_or_append_left, get_or-append_right}
 use Rattle.std.proofs.lemmas.List.Elements.{All-get_or, All-weaker}
-use Rattle.grid_quantiser.specs.Axes.{IsAxis, no_axis, cells_of}
+use Rattle.grid_quantiser.specs.Axes.{no_axis, cells_of}
 use Rattle.grid_quantiser.specs.Indices.{index_along}
 use Rattle.grid_quantiser.proofs.OwnIndices.{index_along_is, index_along_below}
 use Rattle.plant_record.specs.Description.{Description, axis_of, axes_of, vectors_of}
 use Rattle.plant_record.specs.Plants.{IsPlant}
 use Rattle.plant_record.specs.Soundness.{IsSound}
 use Rattle.successor_box.specs.PairExtents.{shifts_along, shifted_by}
+use Rattle.successor_box.proofs.Middles.{axis_at}
 use Rattle.pair_boxes.specs.declared.digits.Digit.{Digit}
 use Rattle.pair_boxes.specs.declared.terms.StateTerms.{StateTerms}
 use Rattle.pair_boxes.specs.declared.terms.TermTable.{TermTable}
@@ -42,7 +43,7 @@ pub shifted_below : (p : Description) → IsSound p → (i c : ℕ) → i < leng
 shifted_below p sound i c lt =
     let count : ℕ = (get_or (axes_of p) i no_axis).count in
     let within : i < length (axes_of p) = omega (arith, lt, sound.one_each, length-map p.states axis_of) in
-    let some : 0 < count = (All-get_or IsAxis (axes_of p) i no_axis within sound.axes.each).some_cell in
+    let some : 0 < count = (axis_at p sound i (omega (arith, lt, sound.one_each))).some_cell in
     cond_both (shifts_along p i) (index_along (axes_of p) i c) 0 (λ (n : ℕ). n < count) (λ shifts. index_along_below (axes_of p) i c sound.axes.each within) (λ fixed. some)
 
 -- what the indices of a cell bring is what the cell brings

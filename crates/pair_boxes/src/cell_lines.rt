@@ -1,6 +1,6 @@
 //! The boxes of the cells in a line.
 ghost use Rattle.std.specs.Prelude.{◌≡◌, ℕ, ◌*◌, ◌<◌, ◌≤◌, length, replicate, slice_index_or, None, IsTrue, IfSome};
-ghost use Rattle.std.specs.List.{All, SameBelow, SameFrom};
+ghost use Rattle.std.specs.List.{All};
 ghost use Rattle.fixed_expr.specs.declared.lanes.TheConstants.{LANES};
 ghost use Rattle.grid_quantiser.specs.Axes.{cells_of};
 ghost use Rattle.grid_quantiser.specs.ExtentBoxes.{one_cell};
@@ -8,7 +8,7 @@ ghost use Rattle.plant_record.specs.Description.{axes_of, vectors_of};
 ghost use Rattle.pair_box.specs.Sums.{plus};
 ghost use Rattle.pair_boxes.specs.CellsFrom.{AreBoxesFrom};
 ghost use Rattle.pair_boxes.specs.inside.TermSums.{term_under, AreChangedBy};
-ghost use Rattle.pair_boxes.specs.inside.CellLines.{AreInputsOfLine, AreSumsOfLine, AreCopiedTo, AreSumsOfCells, HaveCells, AddsToCells, BecomeWhole, BecomeBoxes};
+ghost use Rattle.pair_boxes.specs.inside.CellLines.{AreInputsOfLine, AreSumsOfLine, AreCopiesOfFirst, AreSumsOfCells, HaveCells, AddsToCells, BecomeWhole, BecomeBoxes};
 ghost use Rattle.pair_boxes.specs.inside.Terms.{AreIndicesOf, HasSums, HasSumsWith, AddsTerms, AddsState, IsTermTableOf, AreTermTablesOf};
 ghost use Rattle.pair_box.specs.declared.pair_box.TheConstants.{SUMS_LIMIT};
 
@@ -24,7 +24,7 @@ use successor_box::{INDICES_LIMIT, Sampled};
 const PAIRS_AT_ONCE: usize = 256;
 
 /// The boxes of cells in a line, one for each input, which differ in the index along the last state alone. What the
-/// first states bring is the same along the line, and is found once: the first cell's boxes keep it for the others.
+/// first states bring is the same along the line, and is found once, for the first cell.
 pub(crate) fn boxes_in_line(
     sampled: &Sampled<'_>,
     tables: &[StateTerms],
@@ -43,15 +43,16 @@ pub(crate) fn boxes_in_line(
     let mut indices = indices_of(sampled, c, 0);
     let first = indices[last];
     let early = add_early(sampled, tables, &indices, &mut boxes[..inputs]);
+    copy_first(inputs, boxes);
     let cells = boxes.len() / inputs;
     let size = cells_at_once(inputs, &tables[early..]);
-    for block in (0..cells.div_ceil(size)).rev() {
-        let start = block * size;
-        let end = cells.min(start + size);
-        indices[last] = first + start as u32;
-        copy_first(inputs, start, end, boxes);
-        let block = &mut boxes[start * inputs..end * inputs];
+    let mut done: usize = 0;
+    while done < cells {
+        let end = cells.min(done + size);
+        indices[last] = first + done as u32;
+        let block = &mut boxes[done * inputs..end * inputs];
         add_late(sampled, tables, early, &indices, block);
+        done = end;
     }
 }
 
@@ -105,17 +106,13 @@ fn cells_at_once(inputs: usize, late: &[StateTerms]) -> usize
     (PAIRS_AT_ONCE / inputs).max(1).min(LANES)
 }
 
-/// Copies the boxes of the first cell to the cells from one up to another.
-fn copy_first(inputs: usize, start: usize, end: usize, boxes: &mut [PairBox])
-    requires some { start ≤ end }
-    requires first { inputs ≤ length boxes.old }
-    requires cells { end * inputs ≤ length boxes.old }
+/// Copies the boxes of the first cell to all others.
+fn copy_first(inputs: usize, boxes: &mut [PairBox])
+    requires { 0 < inputs }
     ensures long { length boxes.new ≡ length boxes.old }
-    ensures copied { AreCopiedTo inputs start end boxes.old boxes.new }
-    ensures before { SameBelow boxes.old boxes.new (start * inputs) }
-    ensures after { SameFrom boxes.old boxes.new (end * inputs) }
+    ensures copied { AreCopiesOfFirst inputs boxes.old boxes.new }
 {
-    for cell in start..end {
+    for cell in 1..boxes.len() / inputs {
         boxes.copy_within(..inputs, cell * inputs);
     }
 }

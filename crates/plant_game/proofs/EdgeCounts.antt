@@ -1,5 +1,5 @@
 -- A plant has one number of edges, since each pair has one list of successors.
-use Rattle.std.proofs.Common.{◌≡◌, ℕ, zero, suc, ◌+◌, ◌*◌, ◌/◌, ◌%◌, ◌<◌, ◌≤◌, List, [], ◌∷◌, length, get_or, Contains, arith, refl, sym, ap, subst, ◌∙◌}
+use Rattle.std.proofs.Common.{◌≡◌, ℕ, zero, suc, ◌+◌, ◌*◌, ◌/◌, ◌%◌, ◌<◌, ◌≤◌, List, [], ◌∷◌, length, get_or, Contains, arith, refl, sym, ap, ap₂, subst, ◌∙◌}
 use Rattle.std.specs.Prelude.{sum_by, slice_index_or, AllPairs}
 use Rattle.std.proofs.lemmas.List.Kept.{AllPairs-from_increasing}
 use Rattle.std.proofs.lemmas.List.{ext_get_or}
@@ -24,49 +24,26 @@ Rises xs = AllPairs (λ x y. x < y) xs
 rising_tail : (x : ℕ) (xs : List ℕ) → Rises (x ∷ xs) → Rises xs
 rising_tail x xs rising = λ i j d lt below. rising (suc i) (suc j) d (omega (arith, lt)) (omega (arith, below))
 
-least_first : (x : ℕ) (xs : List ℕ) → Rises (x ∷ xs) → (k : ℕ) → k < length xs → x < get_or xs k 0
-least_first x xs rising k lt = rising 0 (suc k) 0 (omega arith) (omega (arith, lt))
+least_first : (x c : ℕ) (xs : List ℕ) → Rises (x ∷ xs) → Contains xs c → x < c
+least_first x c xs rising h = omega (arith, rising 0 (suc h.0) c (omega arith) (omega (arith, h.1)), h.2)
 
-contains_at : (xs : List ℕ) (c : ℕ) → Contains xs c → (k : ℕ) × (k < length xs) × (get_or xs k 0 ≡ c)
-contains_at xs c h = (h.0, h.1, same_at xs h.0 c 0 h.1 ∙ h.2)
-  where
-    same_at : (xs : List ℕ) (k d e : ℕ) → k < length xs → get_or xs k e ≡ get_or xs k d
-    same_at [] k d e lt = absurd (omega (arith, lt))
-    same_at (x ∷ xs) zero d e lt = refl
-    same_at (x ∷ xs) (suc k) d e lt = same_at xs k d e (omega (arith, lt))
+above_first : (x c : ℕ) (xs : List ℕ) → Rises (x ∷ xs) → Contains (x ∷ xs) c → x ≤ c
+above_first x c xs rising (zero, lt, e) = omega (arith, e)
+above_first x c xs rising (suc k, lt, e) = omega (arith, least_first x c xs rising (k, omega (arith, lt), e))
 
-above_first : (x : ℕ) (xs : List ℕ) (c : ℕ) → Rises (x ∷ xs) → Contains (x ∷ xs) c → x ≤ c
-above_first x xs c rising h = at (contains_at (x ∷ xs) c h)
-  where
-    at : (k : ℕ) × (k < length (x ∷ xs)) × (get_or (x ∷ xs) k 0 ≡ c) → x ≤ c
-    at (zero, lt, e) = omega (arith, e)
-    at (suc k, lt, e) = let above = least_first x xs rising k (omega (arith, lt)) in omega (arith, above, e)
-
-first_contained : (x : ℕ) (xs : List ℕ) → Contains (x ∷ xs) x
-first_contained x xs = (0, omega arith, refl)
-
-later_contained : (x c : ℕ) (xs : List ℕ) → Contains xs c → Contains (x ∷ xs) c
-later_contained x c xs h = (suc h.0, omega (arith, h.1), h.2)
-
-in_tail : (x : ℕ) (xs : List ℕ) (c : ℕ) → x < c → Contains (x ∷ xs) c → Contains xs c
-in_tail x xs c lt h = at h
-  where
-    at : Contains (x ∷ xs) c → Contains xs c
-    at (zero, below, e) = absurd (let same : x ≡ c = e in omega (arith, lt, same))
-    at (suc k, below, e) = (k, omega (arith, below), e)
+in_tail : (x c : ℕ) (xs : List ℕ) → x < c → Contains (x ∷ xs) c → Contains xs c
+in_tail x c xs lt (zero, below, e) = absurd (omega (arith, lt, e))
+in_tail x c xs lt (suc k, below, e) = (k, omega (arith, below), e)
 
 same_rising : (xs ys : List ℕ) → Rises xs → Rises ys → ((c : ℕ) → Contains xs c → Contains ys c) → ((c : ℕ) → Contains ys c → Contains xs c) → xs ≡ ys
 same_rising [] [] hx hy to from = refl
-same_rising [] (y ∷ ys) hx hy to from = absurd (let h = from y (first_contained y ys) in omega (arith, h.1))
-same_rising (x ∷ xs) [] hx hy to from = absurd (let h = to x (first_contained x xs) in omega (arith, h.1))
+same_rising [] (y ∷ ys) hx hy to from = absurd (omega (arith, (from y (0, omega arith, refl)).1))
+same_rising (x ∷ xs) [] hx hy to from = absurd (omega (arith, (to x (0, omega arith, refl)).1))
 same_rising (x ∷ xs) (y ∷ ys) hx hy to from =
-    let below : y ≤ x = above_first y ys x hy (to x (first_contained x xs)) in
-    let above : x ≤ y = above_first x xs y hx (from y (first_contained y ys)) in
-    let head : x ≡ y = omega (arith, below, above) in
-    let tail : xs ≡ ys = same_rising xs ys (rising_tail x xs hx) (rising_tail y ys hy)
-    (λ c h. let lt : x < c = (let at = contains_at xs c h in let l = least_first x xs hx at.0 at.1 in omega (arith, l, at.2)) in in_tail y ys c (omega (arith, lt, head)) (to c (later_contained x c xs h)))
-    (λ c h. let lt : y < c = (let at = contains_at ys c h in let l = least_first y ys hy at.0 at.1 in omega (arith, l, at.2)) in in_tail x xs c (omega (arith, lt, head)) (from c (later_contained y c ys h))) in
-    ap (λ (z : ℕ). z ∷ xs) head ∙ ap (λ (z : List ℕ). y ∷ z) tail
+    let head : x ≡ y = omega (arith, above_first y x ys hy (to x (0, omega arith, refl)), above_first x y xs hx (from y (0, omega arith, refl))) in
+    ap₂ (λ (z : ℕ) (zs : List ℕ). z ∷ zs) head (same_rising xs ys (rising_tail x xs hx) (rising_tail y ys hy)
+    (λ c h. in_tail y c ys (omega (arith, least_first x c xs hx h, head)) (to c (suc h.0, omega (arith, h.1), h.2)))
+    (λ c h. in_tail x c xs (omega (arith, least_first y c ys hy h, head)) (from c (suc h.0, omega (arith, h.1), h.2))))
 
 -- ---- one list for each pair
 

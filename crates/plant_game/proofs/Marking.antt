@@ -1,9 +1,9 @@
 -- Cells that are given a mark, segment by segment and box by box.
-use Rattle.std.proofs.Common.{◌≡◌, ◌⊎◌, ◌↔◌, ℕ, suc, ◌+◌, ◌-◌, ◌*◌, ◌/◌, ◌%◌, ◌<◌, ◌≤◌, arith, refl, sym, ap, ◌∙◌, List, [], ◌∷◌, ◌++◌, All, map, length, take, drop, replicate, get_or, Option, None, Some, inl, inr, subst, append_assoc, length-append, length-take, length-drop}
+use Rattle.std.proofs.Common.{◌≡◌, ◌⊎◌, ◌↔◌, ℕ, suc, ◌+◌, ◌-◌, ◌*◌, ◌/◌, ◌%◌, ◌<◌, ◌≤◌, arith, rules, refl, sym, ap, ◌∙◌, List, [], ◌∷◌, ◌++◌, All, map, length, replicate, get_or, Option, None, Some, inl, inr, subst, append_assoc, length-append}
 use borrow.Rule.Slice.PartMut.{put_mid}
 use Rattle.std.specs.List.{Contains, flat_map, range_with_len}
 use Rattle.std.proofs.lemmas.Bool.{cases_lt, false≢true}
-use Rattle.std.proofs.lemmas.List.{get_or_append_left, get_or-append_right, get_or-take, get_or-drop, get_or-replicate, length-replicate}
+use Rattle.std.proofs.lemmas.List.{places}
 use Rattle.std.proofs.lemmas.List.Elements.{All-nil, All-cons, All-head, All-tail, All-append, All-map, All-weaker, Contains-append_left, Contains-append_right, Contains-append_cases}
 use Rattle.std.proofs.lemmas.List.FromFn.{length-range_with_len, get_or-range_with_len}
 use Rattle.std.proofs.lemmas.Nat.{mul-add-lt}
@@ -50,37 +50,7 @@ more_marked mark P Q before between after first second = record {
 
 -- ---- a segment
 
--- marks of which those from one on are overwritten
-abbrev pub overwritten : ℕ → ℕ → List Mark → Mark → List Mark
-overwritten first len marks mark = take first marks ++ (replicate len mark ++ drop len (drop first marks))
-
 module _ (mark : Mark) (marks : List Mark) (first len : ℕ) (within : first + len ≤ length marks) where
-  long_front : length (take first marks) ≡ first
-  long_front = omega (arith, length-take first marks)
-
-  before_segment : (c : ℕ) → c < first → get_or (overwritten first len marks mark) c Plain ≡ get_or marks c Plain
-  before_segment c below =
-      let short : c < length (take first marks) = omega (arith, below, long_front) in
-      get_or_append_left (take first marks) (replicate len mark ++ drop len (drop first marks)) Plain c short ∙ get_or-take first marks c Plain below
-
-  in_segment : (c : ℕ) → first ≤ c → c < first + len → get_or (overwritten first len marks mark) c Plain ≡ mark
-  in_segment c above below =
-      let short : c - first < len = omega arith in
-      let there : c - first < length (replicate len mark) = omega (arith, short, length-replicate len mark) in
-      get_or-append_right (take first marks) (replicate len mark ++ drop len (drop first marks)) first c Plain long_front above
-      ∙ get_or_append_left (replicate len mark) (drop len (drop first marks)) Plain (c - first) there
-      ∙ get_or-replicate len (c - first) mark Plain short
-
-  after_segment : (c : ℕ) → first + len ≤ c → get_or (overwritten first len marks mark) c Plain ≡ get_or marks c Plain
-  after_segment c above =
-      let past : first ≤ c = omega arith in
-      let later : len ≤ c - first = omega arith in
-      get_or-append_right (take first marks) (replicate len mark ++ drop len (drop first marks)) first c Plain long_front past
-      ∙ get_or-append_right (replicate len mark) (drop len (drop first marks)) len (c - first) Plain (length-replicate len mark) later
-      ∙ get_or-drop len (drop first marks) (c - first - len) Plain
-      ∙ get_or-drop first marks (len + (c - first - len)) Plain
-      ∙ ap (λ (k : ℕ). get_or marks k Plain) (let e : first + (len + (c - first - len)) ≡ c = omega arith in e)
-
   in_range : (c : ℕ) → first ≤ c → c < first + len → Contains (range_with_len first len) c
   in_range c above below =
       let short : c - first < len = omega arith in
@@ -92,23 +62,22 @@ module _ (mark : Mark) (marks : List Mark) (first len : ℕ) (within : first + l
       let is : first + has.0 ≡ c = sym (get_or-range_with_len first len has.0 c short) ∙ has.2 in
       (omega (arith, is), omega (arith, is, short))
 
-  pub segment_marked : AreMarked mark (Contains (range_with_len first len)) marks (overwritten first len marks mark)
+  segment_marked : AreMarked mark (Contains (range_with_len first len)) marks (put_mid first len marks (replicate len mark))
   segment_marked = record {
-    long = omega (arith, length-append (take first marks) (replicate len mark ++ drop len (drop first marks)), length-append (replicate len mark) (drop len (drop first marks)), long_front, length-replicate len mark, length-drop len (drop first marks), length-drop first marks);
+    long = search (rules, places);
     each = λ c below. elim (cases_lt c first) [
-      | inl front ↦ inr (λ has. omega (arith, front, (range_in c has).0), before_segment c front)
+      | inl front ↦ inr (λ has. omega (arith, front, (range_in c has).0), search (rules, places))
       | inr past ↦ elim (cases_lt c (first + len)) [
-        | inl here ↦ inl (in_range c past here, in_segment c past here)
-        | inr later ↦ inr (λ has. omega (arith, later, (range_in c has).1), after_segment c later)
+        | inl here ↦ inl (in_range c past here, search (rules, places))
+        | inr later ↦ inr (λ has. omega (arith, later, (range_in c has).1), search (rules, places))
       ]
     ];
   }
 
--- the same by the part of the slice that is filled, which has k marks
+-- the part of a slice that is filled
 pub segment_filled : (mark : Mark) (marks filled : List Mark) (first len k : ℕ) → first + len ≤ length marks → k ≡ len → filled ≡ replicate k mark →
     AreMarked mark (Contains (range_with_len first len)) marks (put_mid first k marks filled)
-segment_filled mark marks filled first len k within is all =
-    rw (all, is) (segment_marked mark marks first len within)
+segment_filled mark marks filled first len k within is all = rw (all, is) (segment_marked mark marks first len within)
 
 -- the cells that are done, and the next segment
 pub cells_marked : (mark : Mark) (cells segment : List ℕ) (before between after : List Mark) → AreMarked mark (Contains cells) before between → AreMarked mark (Contains segment) between after →

@@ -75,9 +75,9 @@ BecomeWhole p bases old new = (c n : ℕ) → AreSumsOfCells p (length p.equatio
 abbrev pub BecomeBoxes : Description → ℕ → List ℕ → List (Option CellBox) → List (Option CellBox) → Type 0
 BecomeBoxes p states indices old new = (c n : ℕ) → AreCellsFrom p indices c n → AreSumsOfCells p states c n (replicate LANES one_cell) old → AreBoxesFrom p c new
 
--- the boxes of the cells from one up to another are what the first cell's were
-abbrev pub AreCopiedTo : ℕ → ℕ → ℕ → List (Option CellBox) → List (Option CellBox) → Type 0
-AreCopiedTo inputs start end old new = (k u : ℕ) → start ≤ k → k < end → u < inputs → slice_index_or new (k * inputs + u) None ≡ slice_index_or old u None
+-- the boxes of each cell are what the first cell's were
+abbrev pub AreCopiesOfFirst : ℕ → List (Option CellBox) → List (Option CellBox) → Type 0
+AreCopiesOfFirst inputs old new = (k u : ℕ) → k < length old / inputs → u < inputs → slice_index_or new (k * inputs + u) None ≡ slice_index_or old u None
 
 -- extents along an axis, under an input, of the cells from one on
 abbrev pub AreExtentsUnder : Description → ℕ → ℕ → ℕ → List (Option Extent) → Type 0

@@ -1,7 +1,6 @@
 -- The sums of terms.
-use Rattle.std.specs.Prelude.{◌≡◌, ℕ, ◌+◌, ◌-◌, ◌*◌, ◌^◌, ◌<◌, List, length, slice_index, slice_index_or, Option, None, Some}
+use Rattle.std.specs.Prelude.{◌≡◌, ℕ, ◌*◌, ◌<◌, List, length, slice_index, slice_index_or, Option, None, Some}
 use Rattle.grid_quantiser.specs.declared.boxes.CellBox.{CellBox}
-use Rattle.grid_quantiser.specs.declared.extents.Extent.{Extent}
 
 -- the term at an input's slot
 abbrev pub term_under : List (Option CellBox) → List ℕ → ℕ → Option CellBox

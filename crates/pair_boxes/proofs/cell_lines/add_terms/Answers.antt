@@ -1,7 +1,6 @@
-use Rattle.std.proofs.Common.{◌≡◌, ℕ, ◌^◌, ◌<◌, ◌∙◌, All, List, length, None, get_or, sym, ap, subst}
-use Rattle.std.specs.Prelude.{IfSome}
-use Rattle.grid_quantiser.specs.declared.boxes.CellBox.{CellBox}
+use Rattle.std.proofs.Common.{◌≡◌, ℕ, ◌<◌, ◌∙◌, All, List, length, None, get_or, sym, ap, subst}
 use Rattle.pair_box.specs.Sums.{plus}
+use Rattle.pair_boxes.proofs.BoxSums.{Fits28}
 use Rattle.pair_boxes.proofs.ListedRows.{FindsTerms, found, first_within, inputs_within, terms_fit, boxes_fit, listed_added}
 use Rattle.pair_boxes.proofs.cell_lines.add_terms.Goals as goal
 use Rattle.pair_boxes.proofs.cell_lines.add_terms.Goals.{After-deref-in-Listed}
@@ -32,7 +31,7 @@ pub add_listed-requires-clause-terms : goal.add_listed-requires-clause-terms
 add_listed-requires-clause-terms c =
     let cell = c.requires.cell in
     let terms = finds (goal.at.add_listed-requires-clause-terms c).After-deref-in-Listed in
-    subst (All (λ (n : ℕ). IfSome (get_or (found terms c.args.first c.args.own) n None) (λ (b : CellBox). b.last < 2 ^ 28))) (sym c.deref.ensures.value) (terms_fit terms c.args.first c.args.own cell.0 cell.2)
+    subst (All (λ (n : ℕ). Fits28 (get_or (found terms c.args.first c.args.own) n None))) (sym c.deref.ensures.value) (terms_fit terms c.args.first c.args.own cell.0 cell.2)
 
 pub add_listed-requires-clause-boxes : goal.add_listed-requires-clause-boxes
 add_listed-requires-clause-boxes c =

@@ -1,9 +1,8 @@
-use Rattle.std.proofs.Common.{◌≡◌, ℕ, ◌+◌, ◌-◌, ◌<◌, ◌≤◌, ◌∙◌, Option, None, length, drop, get_or, sym, ap, subst, subst₂, arith, inl, inr}
+use Rattle.std.proofs.Common.{◌≡◌, ℕ, ◌+◌, ◌-◌, ◌<◌, ◌≤◌, ◌∙◌, None, length, take, drop, get_or, sym, subst, subst₂, arith, rules, inl, inr}
+use borrow.Rule.Slice.PartMut.{put_mid}
 use Rattle.std.proofs.lemmas.Bool.{cases_lt}
-use Rattle.std.proofs.lemmas.List.{length-take-le, length-drop}
-use Rattle.grid_quantiser.specs.declared.extents.Extent.{Extent}
+use Rattle.std.proofs.lemmas.List.{places}
 use Rattle.pair_boxes.specs.inside.ExtentTables.{IsExtentFor}
-use Rattle.pair_boxes.proofs.WrittenTerms.{written, written_long, written_before, written_in}
 use Rattle.pair_boxes.proofs.extent_lines.fill_chunk.Goals as goal
 
 pub loop-done-preserved : goal.loop-done-preserved
@@ -17,19 +16,22 @@ loop-done-preserved c =
     let so_far = c.loop-done.invariant in
     let up_to : c.min-end.result ≤ length chunk = omega (arith, c.min-end.ensures) in
     let within : done + size ≤ length chunk = omega (arith, up_to, so_far.within) in
-    let long : length found ≡ size = c.fill_line.ensures.long ∙ length-take-le size (drop done chunk) (omega (arith, within, length-drop done chunk)) in
-    let all = written_long done size chunk found None within long in
+    let part : length (take size (drop done chunk)) ≡ size = search (rules, places) in
+    let long : length found ≡ size = c.fill_line.ensures.long ∙ part in
+    let all : length (put_mid done size chunk found) ≡ length chunk = search (rules, places) in
     record {
       long = all ∙ so_far.long;
       within = omega (arith, up_to, all);
       each = λ j lt. elim (cases_lt j done) [
-        | inl before ↦ subst (IsExtentFor p c.args.of.now.state digits (c.args.slot + j)) (sym (written_before done size chunk found None within long j before)) (so_far.each j before)
+        | inl before ↦
+            let same : get_or (put_mid done size chunk found) j None ≡ get_or chunk j None = search (rules, places) in subst (IsExtentFor p c.args.of.now.state digits (c.args.slot + j)) (sym same) (so_far.each j before)
         | inr past ↦
             let i : ℕ = j - done in
-            let at : done + i ≡ j = omega (arith, past) in
-            let slot : c.args.slot + done + i ≡ c.args.slot + j = omega (arith, past) in
             let inside : i < size = omega (arith, past, lt) in
-            subst₂ (λ (n : ℕ) (extent : Option Extent). IsExtentFor p c.args.of.now.state digits n extent) slot
-            (sym (written_in done size chunk found None within long i inside) ∙ ap (λ (m : ℕ). get_or (written done size chunk found None within long) m None) at) (c.fill_line.ensures.each i (omega (arith, inside, long)))
+            let read : get_or (put_mid done size chunk found) (done + i) None ≡ get_or found i None = search (rules, places) in
+            let at : done + i ≡ j = omega (arith, past) in
+            let slot : c.args.slot + done + i ≡ c.args.slot + (done + i) = omega arith in
+            subst (λ (n : ℕ). IsExtentFor p c.args.of.now.state digits (c.args.slot + n) (get_or (put_mid done size chunk found) n None)) at
+            (subst₂ (IsExtentFor p c.args.of.now.state digits) slot (sym read) (c.fill_line.ensures.each i (omega (arith, inside, long))))
       ];
     }

@@ -1,11 +1,11 @@
 use Rattle.std.proofs.Common.{◌≡◌, ℕ, ◌+◌, ◌*◌, ◌/◌, ◌%◌, ◌∙◌, All, None, length, replicate, ap, subst, arith}
 use Rattle.std.proofs.lemmas.List.{length-replicate, get_or-replicate}
+use Rattle.std.proofs.lemmas.Nat.{row_fits}
 use Rattle.grid_quantiser.specs.Axes.{cells_of}
 use Rattle.grid_quantiser.specs.ExtentBoxes.{one_cell}
 use Rattle.plant_record.specs.Description.{axes_of, vectors_of}
 use Rattle.pair_box.specs.PlantBoxes.{pairs_of, pair_of}
 use Rattle.pair_boxes.specs.CellsFrom.{AreBoxesFrom}
-use Rattle.pair_boxes.proofs.CellBlocks.{among}
 use Rattle.pair_boxes.proofs.IfOks.{IfOk-both}
 use Rattle.pair_boxes.proofs.PairBoxes.{box_in_chunk, chunk_cells}
 use Rattle.pair_boxes.proofs.pair_boxes.build_boxes.Goals as goal
@@ -40,7 +40,7 @@ returns g c =
     record {
       one_each = len ∙ pairs;
       each = λ cell u within input.
-          let found = (by_index (pair_of p cell u) None (omega (arith, among cell (cells_of (axes_of p)) (vectors_of p.inputs) u within input, pairs, long))).1 in
+          let found = (by_index (pair_of p cell u) None (omega (arith, row_fits cell (vectors_of p.inputs) (cells_of (axes_of p)) (vectors_of p.inputs) within (omega arith), input, pairs, long))).1 in
           let multiple : found.start % (m * vectors_of p.inputs) ≡ 0 = subst (λ (n : ℕ). found.start % (m * n) ≡ 0) v found.argument_is.start_is_multiple in
           box_in_chunk p m found.start found.offset cell u found.after_call.now _ input multiple found.start_plus_offset (omega (arith, found.offset_in_chunk, found.call.0))
           (subst (λ (n : ℕ). AreBoxesFrom p (found.start / n) found.after_call.now) v found.call.1) found.new_element;

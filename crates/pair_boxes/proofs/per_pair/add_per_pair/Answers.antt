@@ -1,4 +1,4 @@
-use Rattle.std.proofs.Common.{◌≡◌, ◌≢◌, ℕ, ◌+◌, ◌-◌, ◌*◌, ◌/◌, ◌<◌, ◌^◌, ◌∙◌, List, Option, Some, None, Bor, length, get_or, below_more, refl, sym, ap, subst, arith}
+use Rattle.std.proofs.Common.{◌≡◌, ◌≢◌, ℕ, ◌+◌, ◌-◌, ◌*◌, ◌/◌, ◌<◌, ◌∙◌, List, Option, Some, None, Bor, length, get_or, below_more, refl, sym, ap, subst, arith}
 use Rattle.std.specs.Prelude.{IfSome}
 use Rattle.std.specs.Option.{option_copied}
 use Rattle.successor_box.specs.declared.additive.AdditiveLine.{AdditiveLine}
@@ -7,14 +7,13 @@ use Rattle.grid_quantiser.specs.declared.boxes.CellBox.{CellBox}
 use Rattle.grid_quantiser.specs.declared.extents.Extent.{Extent}
 use Rattle.std.proofs.lemmas.List.{length-take-le}
 use Rattle.plant_record.specs.Description.{Description, vectors_of}
-use Rattle.plant_record.proofs.lemmas.SoundPlants.{sound as sound_plant}
 use Rattle.successor_box.specs.CellLines.{AreCellsOn, LiesInGrid, HaveCentresOf, AreCentresOf, HoldExtentsAtCentres}
 use Rattle.successor_box.proofs.AdditiveInputs.{additive_at}
 use Rattle.pair_boxes.specs.inside.CellLines.{last_state, AreCellsFrom, AreExtentsUnder}
 use Rattle.pair_box.specs.Sums.{plus}
 use Rattle.pair_boxes.specs.inside.Terms.{IsTermAt, IsSumAlong}
-use Rattle.pair_boxes.proofs.BoxSums.{ends_fit, rest_more}
-use Rattle.pair_boxes.proofs.LineBoxes.{cell_count}
+use Rattle.pair_boxes.proofs.BoxSums.{Fits28, sums_fit, rest_more}
+use Rattle.pair_boxes.proofs.CellLineLists.{cell_count}
 use Rattle.pair_boxes.proofs.LaneCells.{cell_in, cells_on, cells_in_grid, first_input, extents_here}
 use Rattle.base.proofs.Products.{nothing_below}
 use Rattle.pair_boxes.proofs.per_pair.add_per_pair.Goals as goal
@@ -125,19 +124,17 @@ add_extents-requires-clause-one_each c =
 pub add_extents-requires-clause-boxes : goal.add_extents-requires-clause-boxes
 add_extents-requires-clause-boxes c = λ k below.
     let p = c.args.of.now.sampled.plant.now in
-    let plant = c.args.of.now.sampled.within.plant in
     let v : ℕ = vectors_of p.inputs in
     let input : ℕ = c.loop-input.input in
     let cells = c.requires.cells.1 in
     let lt : k < cells.1 = omega (arith, below, c.extents_under.ensures.long, one_each (goal.at.add_extents-requires-clause-boxes c).In-loop-input cells.1 cells.3.one_each) in
     let within : input < v = omega (arith, c.loop-input-test.true, c.vectors-inputs.ensures.count) in
-    subst (λ (b : Option CellBox). IfSome b (λ (b : CellBox). b.last < 2 ^ 28)) (sym (c.loop-input.invariant.left k input (omega arith) within))
-    (ends_fit c.args.of.now.state (get_or c.args.boxes.now (k * v + input) None) (omega (arith, c.args.of.now.equation, plant.one_each, plant.states_bound)) (cells.3.each k input lt within).rest_few)
+    subst Fits28 (sym (c.loop-input.invariant.left k input (omega arith) within))
+    (sums_fit p c.args.of.now.sampled.within c.args.of.now.state _ input _ (get_or c.args.boxes.now (k * v + input) None) (omega (arith, c.args.of.now.equation)) (cells.3.each k input lt within)).1
 
 pub loop-input-preserved : goal.loop-input-preserved
 loop-input-preserved c =
     let p = c.args.of.now.sampled.plant.now in
-    let limits = c.args.of.now.sampled.within in
     let v : ℕ = vectors_of p.inputs in
     let i : ℕ = c.args.of.now.state in
     let input : ℕ = c.loop-input.input in
@@ -155,7 +152,7 @@ loop-input-preserved c =
           let below : k < length c.extents_under.new.extents = omega (arith, lt, count, c.extents_under.ensures.long) in
           let change = c.add_extents.ensures.added k below in
           let term : IsTermAt p (d + k) input i change.0 = change.1 (d + k) input (here k below) in
-          let more = rest_more p (sound_plant p limits.plant) i c.args.of.now.equation limits.cells (d + k) input change.0 term (get_or bases k None) (get_or c.args.boxes.now (k * v + input) None) (sums.each k input lt within) in
+          let more = rest_more p c.args.of.now.sampled.within i c.args.of.now.equation (d + k) input change.0 term (get_or bases k None) (get_or c.args.boxes.now (k * v + input) None) (sums.each k input lt within) in
           below_more (λ (u : ℕ). IsSumAlong p (i + 1) (d + k) u (get_or bases k None) (get_or new (k * v + u) None)) input
           (λ u earlier. let other : u ≢ input = omega (arith, earlier) in
           subst (IsSumAlong p (i + 1) (d + k) u (get_or bases k None)) (sym (c.add_extents.ensures.others k u (omega (arith, earlier, within)) other)) (so_far.added bases d n from sums k u lt earlier))

@@ -1,10 +1,10 @@
 use Rattle.std.proofs.Common.{◌≡◌, ℕ, ◌<◌, ◌∙◌, [], ◌∷◌, List, length, get_or, ap, arith}
-use Rattle.std.proofs.lemmas.List.{length-append, length-map}
-use Rattle.std.proofs.lemmas.List.Elements.{All-get_or}
+use Rattle.std.proofs.lemmas.List.{length-append}
 use Rattle.grid_quantiser.specs.declared.axis.Axis.{Axis}
-use Rattle.grid_quantiser.specs.Axes.{IsAxis, no_axis}
-use Rattle.plant_record.specs.Description.{axis_of, axes_of}
+use Rattle.grid_quantiser.specs.Axes.{no_axis}
+use Rattle.plant_record.specs.Description.{axes_of}
 use Rattle.plant_record.proofs.lemmas.SoundPlants.{sound as sound_plant}
+use Rattle.successor_box.proofs.Middles.{axis_at}
 use Rattle.pair_boxes.specs.declared.terms.StateTerms.{StateTerms}
 use Rattle.pair_boxes.proofs.BoxSums.{stride_next}
 use Rattle.pair_boxes.proofs.TermTables.{tables_more}
@@ -22,7 +22,7 @@ loop-state-preserved g c =
     rw c.in_ok-push.ensures.items
     (record {
       count = omega (arith, length-append c.loop-state.tables.items (t ∷ []), so_far.count);
-      stride = stride_next p (sound_plant p plant) state equation c.loop-state.stride c.count.result so_far.stride count;
+      stride = stride_next p c.args.sampled.now.within state equation c.loop-state.stride c.count.result so_far.stride count;
       each = tables_more p c.loop-state.tables.items state t so_far.count so_far.each c.in_ok-build_state.ensures;
     })
 
@@ -33,7 +33,7 @@ invariant_of-of g c =
     let plant = c.args.sampled.now.within.plant in
     let equation : state < length p.equations = omega (arith, c.loop-state-test.true, c.states-state-end.ensures, plant.one_each) in
     let count : c.count.result ≡ (get_or (axes_of p) state no_axis).count = c.count.ensures ∙ ap (λ (axes : List Axis). (get_or axes state no_axis).count) c.grid-in-loop-state.ensures in
-    record { equation = equation; stride_is = stride_next p (sound_plant p plant) state equation c.loop-state.stride c.count.result c.loop-state.invariant.stride count }
+    record { equation = equation; stride_is = stride_next p c.args.sampled.now.within state equation c.loop-state.stride c.count.result c.loop-state.invariant.stride count }
 
 pub nonzero_div-stride : goal.nonzero_div-stride
 nonzero_div-stride g c =
@@ -41,7 +41,7 @@ nonzero_div-stride g c =
     let state : ℕ = c.loop-state.state in
     let plant = c.args.sampled.now.within.plant in
     let count : c.count.result ≡ (get_or (axes_of p) state no_axis).count = c.count.ensures ∙ ap (λ (axes : List Axis). (get_or axes state no_axis).count) c.grid-in-loop-state.ensures in
-    omega (arith, count, (All-get_or IsAxis (axes_of p) state no_axis (omega (arith, c.loop-state-test.true, c.states-state-end.ensures, length-map p.states axis_of)) (sound_plant p plant).axes.each).some_cell)
+    omega (arith, count, (axis_at p (sound_plant p plant) state (omega (arith, c.loop-state-test.true, c.states-state-end.ensures))).some_cell)
 
 pub returns : goal.returns
 returns g c =

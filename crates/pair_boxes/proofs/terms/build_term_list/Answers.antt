@@ -4,14 +4,15 @@ use Rattle.std.proofs.lemmas.Nat.{div-mul-add, mod-mul-add, mul-add-lt, div_belo
 use Rattle.grid_quantiser.specs.declared.boxes.CellBox.{CellBox}
 use Rattle.plant_record.proofs.lemmas.SoundPlants.{sound as sound_plant}
 use Rattle.pair_boxes.specs.inside.Terms.{IsTermFrom}
-use Rattle.pair_boxes.proofs.ListedTerms.{own_few, some_factor}
+use Rattle.pair_boxes.proofs.ListedTerms.{own_few}
+use Rattle.base.proofs.Products.{some_factor}
 use Rattle.pair_boxes.proofs.terms.build_term_list.Goals as goal
 
 pub term_of-requires-clause-indices : goal.term_of-requires-clause-indices
 term_of-requires-clause-indices c =
     let p = c.args.of.now.sampled.plant.now in
     let below : c.loop-n.n < c.args.own * length c.args.extents.now = c.loop-n-test.true in
-    let some : 0 < length c.args.extents.now = some_factor c.loop-n.n c.args.own (length c.args.extents.now) below in
+    let some : 0 < length c.args.extents.now = some_factor c.args.own (length c.args.extents.now) c.loop-n.n below in
     omega (arith, div_below c.loop-n.n (length c.args.extents.now) c.args.own some below, c.requires.own, own_few p (sound_plant p c.args.of.now.sampled.within.plant) c.args.of.now.state c.args.of.now.equation)
 
 pub loop-n-preserved : goal.loop-n-preserved

@@ -24,7 +24,7 @@ term-requires c =
     let within = c.args.of.now.sampled.within in
     let shifted = rw c.grid-grid.ensures at c.shifted_extent.ensures in
     let range = shifted_range (get_or (axes_of p) c.args.of.now.state no_axis) c.args.indices c.args.extent c.requires.extent in
-    extent_term_fits p (sound_plant p within.plant) c.args.of.now.state c.args.of.now.equation c.args.of.now.stride c.shifted_extent.result range.0 range.1 within.cells c.args.of.now.stride_is range.2 (shifted range.0 range.1 range.2 range.3)
+    extent_term_fits p within c.args.of.now.state c.args.of.now.equation c.args.of.now.stride c.shifted_extent.result range.0 range.1 c.args.of.now.stride_is range.2 (shifted range.0 range.1 range.2 range.3)
 
 pub returns : goal.returns
 returns c = λ cell u is.
