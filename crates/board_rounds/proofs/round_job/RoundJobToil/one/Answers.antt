@@ -28,7 +28,6 @@ pub cut-requires-clause-enabled : goal.cut-requires-clause-enabled
 cut-requires-clause-enabled g c =
     let pairs = c.sources-sources.result.now in
     let has = ((c.sources-sources.ensures.exactly (get_or pairs c.loop-pair.pair-index 0)).0 (Contains-get_or pairs c.loop-pair.pair-index 0 c.loop-pair-test.true)).1 in
-    let lt = has.1 in
     omega arith
 
 pub loop-pair-init : goal.loop-pair-init
