@@ -97,7 +97,6 @@ module _ (g : Game) (a : IsGraph g) where
   full_after rank list accounts new was next some' =
       let c = get_or list 0 0 in
       let lt = was.within 0 0 some' in
-      let once = was.cells c lt in
       let there = first_counted list some' in
       let row = row_of_rank (row_of (decoded_rows g accounts) c) (omega arith) in
       inr (c, row.0, next.stays c row.0 row.1, ap suc row.2)

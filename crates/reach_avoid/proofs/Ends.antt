@@ -23,8 +23,6 @@ module _ (g : Game) (a : IsGraph g) where
   pub low_ranks : (accounts : List Account) → IsAtEnd g.cells (IsReachInvariant g) accounts → (c : ℕ) (row : Row) → row_of (decoded_rows g accounts) c ≡ Some row → row.rank < 2 ^ 32
   low_ranks accounts end c row e =
       let le = end.stood.reached.highest c row e in
-      let few = end.in_time in
-      let b = a.cells_bound in
       omega arith
 
   -- the game is solved
@@ -40,8 +38,6 @@ module _ (g : Game) (a : IsGraph g) where
       let offers = offers_count g a rank accounts was in
       let few = few_cuts g a rank accounts was in
       let few' = few_offers g a rank accounts was in
-      let told = r.tallied.cuts in
-      let told' = r.tallied.offers in
       let counts : IsReachTally g rows s.tally = record { cuts = omega arith; offers = omega arith; rounds = rounds_count g a rank accounts was r.stood.full } in
       record {
         solution = subst (IsReachSolution g) (sym answer) solution;

@@ -110,7 +110,6 @@ module _ (g : Game) (rank : ℕ) (rows new : List (Option Row)) (next : IsNext r
   done_stays pair e =
       let was = done_parts g rows rank pair e in
       let some' = was.0 in
-      let all = was.1 in
       let more = taken_more pair in
       let most = count_by-le-length (λ s. below_in (suc rank) (row_of new s)) (successors_at g pair) in
       done_from g new (suc rank) pair some' (omega arith)

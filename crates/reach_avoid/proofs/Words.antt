@@ -49,7 +49,6 @@ least_from-keeps start xs h =
     elim (least_from-among start xs) [
       | inl e ↦ e
       | inr has ↦
-          let le = All-contains (λ v. start ≤ v) xs (least_from start xs) h has in
           let most = least_from-le start xs in
           omega arith
     ]
@@ -69,9 +68,6 @@ pub least_from-range : (start low high : ℕ) (xs : List ℕ) → high ≤ start
 least_from-range start low high [] above h some' = absurd (omega arith)
 least_from-range start low high (x ∷ xs) above h some' =
     let first = All-head (λ v. (low ≤ v) × (v < high)) x xs h in
-    let low' = first.0 in
-    let high' = first.1 in
-    let most = least_from-le (min start x) xs in
     elim (least_from-among (min start x) xs) [
       | inl e ↦ (omega arith, omega arith)
       | inr has ↦ let in' = All-contains (λ v. (low ≤ v) × (v < high)) xs (least_from (min start x) xs) (All-tail (λ v. (low ≤ v) × (v < high)) x xs h) has in in'
