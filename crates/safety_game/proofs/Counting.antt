@@ -24,8 +24,6 @@ any_counts p (x ∷ xs) = by_test (p x) refl (any_counts p xs)
 
 pub times_single : (n x : ℕ) → times n (x ∷ []) ≡ one_if (x == n)
 times_single n x =
-    let a = count-cons (λ x. x == n) x [] in
-    let z : times n [] ≡ 0 = refl in
     omega arith
 
 -- a sum over a range in two parts
@@ -46,8 +44,6 @@ range_split f a (suc n) m =
 pub count_more : (p : ℕ → Bool) (a n : ℕ) → count_by p (range_with_len a (n + 1)) ≡ count_by p (range_with_len a n) + one_if (p (a + n))
 count_more p a n =
     let parts = range_split (λ x. one_if (p x)) a n 1 in
-    let last = count-cons p (a + n) [] in
-    let none' : count_by p [] ≡ 0 = refl in
     omega arith
 
 -- a range that begins later

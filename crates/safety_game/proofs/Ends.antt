@@ -20,7 +20,6 @@ module _ (g : Game) (a : IsGraph g) where
   -- no pair is cut too often
   pub few_each : (accounts : List Account) → IsAtEnd g.cells (IsKeepInvariant g) accounts → AreFewCuts g accounts
   few_each accounts end pair lt =
-      let e = end.stood.falling.cuts pair lt in
       let le = gone_few g end.rounds pair in
       omega arith
 

@@ -149,7 +149,6 @@ module _ (g : Game) (some' : 0 < g.inputs) (pair left : ℕ) (lt : pair < pairs_
           ∙ (ap (λ f. cond f (times pair (pairs_at g c)) 0) h
           ∙ away g some' pair c (λ same.
           let clear : is_obstacle (mark_of g (pair / g.inputs)) ≡ false = ap (λ c. is_obstacle (mark_of g c)) same ∙ e in
-          let first_cut : is_first_cut g pair left ≡ true = ap (λ f. f && not (is_obstacle (mark_of g (pair / g.inputs)))) h ∙ ap not clear in
           cc))
 
   pub quiet_in_step : is_first_cut g pair left ≡ false → IsInStep g (cut pair left ∷ []) []

@@ -35,7 +35,6 @@ module _ (g : Game) (a : IsGraph g) (d : ℕ) (list : List ℕ) (accounts more :
   new_cuts : (pair : ℕ) → pair < pairs_of g → cut_count pair more + gone_in g d pair ≡ gone_in g (suc d) pair
   new_cuts pair lt =
       let below = successors_within g a pair lt in
-      let added = r.cuts pair lt in
       let both = counts_agree.added (λ s. times s list) (λ s. one_if (fell_before g d s)) (successors_at g pair) in
       let alike = counts_agree.alike (λ s. times s list + one_if (fell_before g d s)) (λ s. one_if (fell_before g (suc d) s)) (successors_at g pair) (λ i e li. was.cells (get_or (successors_at g pair) i e) (below i e li)) in
       omega arith
@@ -43,7 +42,6 @@ module _ (g : Game) (a : IsGraph g) (d : ℕ) (list : List ℕ) (accounts more :
   pub cuts : (pair : ℕ) → pair < pairs_of g → cut_count pair (accounts ++ more) ≡ gone_in g (suc d) pair
   cuts pair lt =
       let e = cut_count-append pair accounts more in
-      let before = was.cuts pair lt in
       let now = new_cuts pair lt in
       omega arith
 
@@ -123,7 +121,6 @@ module _ (g : Game) (a : IsGraph g) (d : ℕ) (list : List ℕ) (accounts more :
   pub cell_cuts : (c : ℕ) → c < g.cells → cut_count (pairs_of g + c) (accounts ++ more) ≡ cell_cuts_at g (suc d) c
   cell_cuts c lt =
       let e = cut_count-append (pairs_of g + c) accounts more in
-      let before = was.cell_cuts c lt in
       let now = new_cell_cuts c lt in
       omega arith
 

@@ -9,5 +9,4 @@ returns g c =
     let game = g.G.Forward.game c.args.g.now in
     let pairs : c.cells.result * c.inputs.result ≡ pairs_of game = ap₂ ◌*◌ c.cells.ensures c.inputs.ensures in
     let many = starts_many game (g.met.G.Forward.lawful c.args.g.now) in
-    let cells = c.cells-2.ensures in
     omega arith
