@@ -31,7 +31,6 @@ pub range_split : (f : ℕ → ℕ) (a n m : ℕ) → sum_by f (range_with_len a
 range_split f a zero m =
     let all : sum_by f (range_with_len a (zero + m)) ≡ sum_by f (range_with_len a m) = ap (λ k. sum_by f (range_with_len a k)) {x = zero + m} {y = m} (omega arith) in
     let rest : sum_by f (range_with_len (a + zero) m) ≡ sum_by f (range_with_len a m) = ap (λ k. sum_by f (range_with_len k m)) {x = a + zero} {y = a} (omega arith) in
-    let none' : sum_by f (range_with_len a zero) ≡ 0 = refl in
     omega arith
 range_split f a (suc n) m =
     let all : sum_by f (range_with_len a (suc n + m)) ≡ sum_by f (range_with_len a (suc (n + m))) = ap (λ k. sum_by f (range_with_len a k)) {x = suc n + m} {y = suc (n + m)} (omega arith) in
@@ -63,7 +62,6 @@ range_rows f k b (suc n) =
     let first = sum_by-cons (λ c. sum_by f (range_with_len (c * k) k)) b (range_with_len (b + 1) n) in
     let rest = range_rows f k (b + 1) n in
     let next = suc-mul b k in
-    let many = suc-mul n k in
     let from : sum_by f (range_with_len ((b + 1) * k) (n * k)) ≡ sum_by f (range_with_len (b * k + k) (n * k)) = ap (λ m. sum_by f (range_with_len m (n * k))) {x = (b + 1) * k} {y = b * k + k} (ap (λ m. m * k) {x = b + 1} {y = suc b} (omega arith) ∙ next) in
     let all : sum_by f (range_with_len (b * k) (suc n * k)) ≡ sum_by f (range_with_len (b * k) (k + n * k)) = ap (λ m. sum_by f (range_with_len (b * k) m)) {x = suc n * k} {y = k + n * k} (omega arith) in
     let parts = range_split f (b * k) k (n * k) in

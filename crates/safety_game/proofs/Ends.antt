@@ -33,8 +33,6 @@ module _ (g : Game) (a : IsGraph g) where
       let solution = stable_rows_are_the_keep_solution g rows a.game (settled g a d accounts was rows r.told) in
       let cuts = cuts_count g a d accounts was rows r.told in
       let few = few_cuts g a d accounts was rows r.told in
-      let told_cuts = r.tallied.cuts in
-      let told_offers = r.tallied.offers in
       let no_offers : length (offers_in accounts) ≡ 0 = ap length was.no_offer in
       let counts : IsKeepTally g rows k.tally = record {
         cuts = omega arith;

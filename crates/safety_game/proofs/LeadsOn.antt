@@ -205,7 +205,6 @@ module _ (g : Game) (a : IsGraph g) (d : ℕ) (list : List ℕ) (accounts more :
     no_offer = offers_in-append accounts more ∙ ap₂ ◌++◌ was.no_offer (none_offered g more r.each);
     came = λ c lt.
         let both = ap (times c) (logged_cells-append accounts more) ∙ times-append c (logged_cells (all_logs accounts)) (logged_cells (all_logs more)) in
-        let before = was.came c lt in
         let now = falls c lt in
         omega arith;
     logged = subst (λ l. All (λ c. c < g.cells) l) (sym (logged_cells-append accounts more)) (All-append (λ c. c < g.cells) (logged_cells (all_logs accounts)) (logged_cells (all_logs more)) was.logged logged_within);

@@ -1,6 +1,5 @@
 -- What a board of a game is: its numbers are the game's.
-use Rattle.std.proofs.Common.{inl, inr, ◌≡◌, ℕ, ◌+◌, ◌-◌, ◌<◌, ◌≤◌, ◌==◌, ◌&&◌, nat_lt, true, false, eq-eqb, ne_eqb, List, [], ◌++◌, map, length, slice_index, arith, refl, sym, ◌∙◌, ap, subst}
-use Rattle.std.specs.List.{range_with_len}
+use Rattle.std.proofs.Common.{inl, inr, ◌≡◌, ℕ, ◌+◌, ◌-◌, ◌<◌, ◌≤◌, ◌==◌, ◌&&◌, nat_lt, true, false, eq-eqb, ne_eqb, List, [], ◌++◌, length, slice_index, arith, refl, sym, ◌∙◌, ap, subst}
 use Rattle.std.proofs.lemmas.Bool.{cases_eq, lt-ltb, le-ltb}
 use Rattle.std.proofs.lemmas.List.{get_or-append-add}
 use Rattle.std.proofs.lemmas.List.FromFn.{get_or-map-range_with_len}

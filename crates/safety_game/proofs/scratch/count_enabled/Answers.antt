@@ -28,7 +28,6 @@ loop-input-preserved g c =
           let one : one_if (nat_lt 0 (length (successors_at game pair))) ≡ 1 = ap one_if (lt-ltb 0 (length (successors_at game pair)) (omega arith)) in
           omega arith
       | else-fan-gt0 w ↦
-          let is = w.count-is in
           let test = w.if-fan-gt0.false in
           let none : one_if (nat_lt 0 (length (successors_at game pair))) ≡ 0 = ap one_if (le-ltb 0 (length (successors_at game pair)) (omega arith)) in
           omega arith

@@ -1,6 +1,5 @@
-use Rattle.std.proofs.Common.{◌≡◌, ◌*◌, sym, ap₂, arith}
-use Rattle.game_core.specs.Game.{IsGraph, pairs_of}
-use Rattle.safety_game.specs.KeepBoards.{counters_of}
+use Rattle.std.proofs.Common.{◌≡◌, ◌*◌, ap₂, arith}
+use Rattle.game_core.specs.Game.{pairs_of}
 use Rattle.safety_game.proofs.OnBoards.{starts_many}
 use Rattle.safety_game.proofs.scratch.KeepStartStart.count_counters.Goals as goal
 
