@@ -91,8 +91,7 @@ module _ (g : Game) (head : ℕ) (p : FallingProgress) (h : IsFalling g g.cells 
   capacity =
       let within : All (λ d. d < g.cells) (cell ∷ p.queue) = All-cons (λ d. d < g.cells) cell p.queue parts.cell (λ i d li. (elsewhere (get_or p.queue i d) (Contains-get_or p.queue i d li)).0) in
       let apart : AllPairs (λ a b. a ≢ b) (cell ∷ p.queue) = AllPairs-cons (λ a b. a ≢ b) cell p.queue (λ i d li e. (elsewhere (get_or p.queue i d) (Contains-get_or p.queue i d li)).2 (sym e)) h.fallen.once in
-      let few = length_of_distinct_below g.cells (cell ∷ p.queue) apart within in
-      omega arith
+      omega (arith, length_of_distinct_below g.cells (cell ∷ p.queue) apart within)
 
   module _ (s : ℕ) (leads : Contains (successors_at g pair) s) (gone : Contains p.queue s) where
     safe_after : AreSafe g q

@@ -10,9 +10,7 @@ use Rattle.game_core.specs.Solution.{row_of, HasRowBelow, IsReachRow, IsChosenIn
 -- a cell has one rank
 pub same_rank : (g : Game) (c j k : ℕ) → IsRank g c j → IsRank g c k → j ≡ k
 same_rank g c j k a b =
-    let s = a.reached in
-    let t = b.reached in
-    omega arith
+    omega (arith, a.reached, b.reached)
 
 -- the row of a cell is that of the solution
 pub row_at : (g : Game) (rows : List (Option Row)) → IsReachSolution g rows → (c : ℕ) (row : Row) → row_of rows c ≡ Some row → IsReachRow g c (Some row)

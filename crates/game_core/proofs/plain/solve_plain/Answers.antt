@@ -14,8 +14,7 @@ solution_from_searched g a p head long h = solution_from_consistent g p.rows a (
 -- a cell is left for each step to come
 nearer : (g : Game) (head : ℕ) (p q : SearchProgress) → IsSearched g head p → IsSearched g (head + 1) q → head < length q.queue → length q.rows - (head + 1) < length p.rows - head
 nearer g head p q h k lt =
-    let most = count_by-le-length is_some q.rows in
-    omega arith
+    omega (arith, count_by-le-length is_some q.rows)
 
 pub loop-head-init : goal.loop-head-init
 loop-head-init g c = (searched_none (g.G.Graph.game c.args.g.now) (g.met.G.Graph.lawful c.args.g.now).game c.gather.new.self c.gather.ensures, omega arith)

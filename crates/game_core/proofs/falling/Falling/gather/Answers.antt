@@ -13,8 +13,7 @@ left_of-requires g c = let n = c.loop-c.invariant.safe.one_number_each in let e 
 pub fall-requires : goal.fall-requires
 fall-requires g c =
     let game = g.G.Graph.game c.args.g.now in
-    let few = queue_below game c.loop-c.c c.loop-c.self c.loop-c.invariant.fallen in
-    omega arith
+    omega (arith, queue_below game c.loop-c.c c.loop-c.self c.loop-c.invariant.fallen)
 
 pub loop-c-preserved : goal.loop-c-preserved
 loop-c-preserved g c =

@@ -17,10 +17,7 @@ cell_below g head p h lt c e =
 -- its rank is below the number of cells
 rank_below : (g : Game) → IsGraph g → (head : ℕ) (p : SearchProgress) → IsSearched g head p → head < length p.queue → (c : ℕ) → c ≡ get_or p.queue head 0 → rank_at p.rows c < 2 ^ 20
 rank_below g a head p h lt c e =
-    let q = h.search.queue in
-    let same : rank_at p.rows c ≡ rank_at p.rows (get_or p.queue head 0) = ap (rank_at p.rows) e in
-    let most = count_by-le-length is_some p.rows in
-    omega arith
+    omega (arith, h.search.queue, ap (rank_at p.rows) e, count_by-le-length is_some p.rows)
 
 pub rank_of-rank-requires : goal.rank_of-rank-requires
 rank_of-rank-requires g c = cell_below (g.G.Graph.game c.args.g.now) c.args.head c.args.self.now c.requires.searched c.requires.at c.cell_at-c.result c.cell_at-c.ensures
@@ -65,6 +62,4 @@ returns-clause-searched g c =
 pub returns-clause-at : goal.returns-clause-at
 returns-clause-at g c =
     let grows = c.loop-pair.invariant.grows in
-    let same : length c.loop-pair.self.queue ≡ length (c.args.self.now.queue ++ grows.more) = ap length grows.is in
-    let sum = length-append c.args.self.now.queue grows.more in
-    omega arith
+    omega (arith, ap length grows.is, length-append c.args.self.now.queue grows.more)
