@@ -11,8 +11,7 @@ use Rattle.board_rounds.proofs.round_job.RoundJobToil.one.Goals as goal
 -- the pairs that lead to a cell have counters
 have_counters : (game : Game) (cell : ℕ) (starts pairs : List ℕ) → pairs_of game ≤ length starts → AreSources game cell pairs → All (λ pair. pair < length starts) pairs
 have_counters game cell starts pairs many h k d lt =
-    let pair = ((h.exactly (get_or pairs k d)).0 (Contains-get_or pairs k d lt)).0 in
-    omega arith
+    omega (arith, ((h.exactly (get_or pairs k d)).0 (Contains-get_or pairs k d lt)).0)
 
 pub prefetch_list-requires : goal.prefetch_list-requires
 prefetch_list-requires g c =

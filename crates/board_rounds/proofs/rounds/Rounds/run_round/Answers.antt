@@ -47,8 +47,7 @@ read_log-self-requires-clause-slots g c =
 
 pub read_log-self-requires-clause-few : goal.read_log-self-requires-clause-few
 read_log-self-requires-clause-few g c =
-    let few = (read_log-self-requires-clause-slots g c).0 in
-    omega arith
+    omega (arith, (read_log-self-requires-clause-slots g c).0)
 
 pub returns : goal.returns
 returns g c =
