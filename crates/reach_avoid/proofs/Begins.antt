@@ -127,8 +127,7 @@ module _ (g : Game) (a : IsGraph g) where
       let one = at_most_one (word_at (mark_of g c)) c (lawful.cells c (in' i d lt)) in
       let e = firsts_are c accounts in
       omega arith) in
-      let len = length-range_with_len 0 g.cells in
-      omega arith
+      omega (arith, length-range_with_len 0 g.cells)
     where
       at_most_one : (start c : ℕ) → (now : ℕ) × IsLawfulLeast accounts c start now → first_count (all_offers c accounts) ≤ 1
       at_most_one start c (now, h) =
@@ -138,7 +137,6 @@ module _ (g : Game) (a : IsGraph g) where
                 elim (cases_lt 0 (length (all_offers c accounts))) [
                   | inl some' ↦ let e = h.one_first free some' in omega arith
                   | inr none' ↦
-                      let le = count_by-le-length (λ (o : Offer). o.first) (all_offers c accounts) in
-                      omega arith
+                      omega (arith, count_by-le-length (λ (o : Offer). o.first) (all_offers c accounts))
                 ]
           ]

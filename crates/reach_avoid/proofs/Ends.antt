@@ -22,8 +22,7 @@ module _ (g : Game) (a : IsGraph g) where
   -- ranks are small
   pub low_ranks : (accounts : List Account) → IsAtEnd g.cells (IsReachInvariant g) accounts → (c : ℕ) (row : Row) → row_of (decoded_rows g accounts) c ≡ Some row → row.rank < 2 ^ 32
   low_ranks accounts end c row e =
-      let le = end.stood.reached.highest c row e in
-      omega arith
+      omega (arith, end.stood.reached.highest c row e)
 
   -- the game is solved
   pub solved : (board : BoardModel) → IsBoardOf g board → (s : SolvedGame) → IsSolvedByRule g.cells (IsReachInvariant g) (λ accounts c row. row ≡ row_in (word_after g accounts c)) board s → IsSolved g s

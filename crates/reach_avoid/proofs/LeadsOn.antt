@@ -121,8 +121,7 @@ module _ (g : Game) (a : IsGraph g) (rank : ℕ) (small : rank < 2 ^ 31) (list :
               | inl some' ↦
                   let f = falls c lt free some' in
                   let same : Some f.0 ≡ Some row = sym f.1 ∙ is in
-                  let e : f.0.rank ≡ row.rank = ap rank_in same in
-                  omega arith
+                  omega (arith, ap rank_in same)
             ]
       ]
 
@@ -136,9 +135,7 @@ module _ (g : Game) (a : IsGraph g) (rank : ℕ) (small : rank < 2 ^ 31) (list :
       by_row None e = let k = comes c row e is in omega arith
       by_row (Some old) e =
           let same : Some old ≡ Some row = sym (stays c old e) ∙ is in
-          let k : old.rank ≡ row.rank = ap rank_in same in
-          let le = was.highest c old e in
-          omega arith
+          omega (arith, ap rank_in same, was.highest c old e)
 
   -- the cuts
   new_cuts : (pair : ℕ) → pair < pairs_of g → cut_count pair more ≡ count_by (λ s. rank_is rank (row_of rows s)) (successors_at g pair)
@@ -149,10 +146,7 @@ module _ (g : Game) (a : IsGraph g) (rank : ℕ) (small : rank < 2 ^ 31) (list :
 
   cuts : (pair : ℕ) → pair < pairs_of g → cut_count pair (accounts ++ more) ≡ count_ranked_below g new (suc rank) pair
   cuts pair lt =
-      let e = cut_count-append pair accounts more in
-      let now = new_cuts pair lt in
-      let after = taken_after g rank rows new next_rows pair in
-      omega arith
+      omega (arith, cut_count-append pair accounts more, new_cuts pair lt, taken_after g rank rows new next_rows pair)
 
   -- a pair is used up in this round exactly where it is done now and wasn't before
   once : (pair : ℕ) → pair < pairs_of g → times pair last + one_if (is_done g rows rank pair) ≡ one_if (is_done g new (suc rank) pair)

@@ -49,8 +49,7 @@ least_from-keeps start xs h =
     elim (least_from-among start xs) [
       | inl e ↦ e
       | inr has ↦
-          let most = least_from-le start xs in
-          omega arith
+          omega (arith, least_from-le start xs)
     ]
 
 -- the number of which a board speaks
@@ -142,9 +141,7 @@ module _ (g : Game) (accounts : List Account) where
 
   pub word_after-le : (c : ℕ) → word_after g accounts c ≤ NONE
   word_after-le c =
-      let a = least_from-le (word_at (mark_of g c)) (values (all_offers c accounts)) in
-      let b = word_at-le (mark_of g c) in
-      omega arith
+      omega (arith, least_from-le (word_at (mark_of g c)) (values (all_offers c accounts)), word_at-le (mark_of g c))
 
   pub word_of_row : (c : ℕ) (row : Row) → row_of (decoded_rows g accounts) c ≡ Some row → IsWordOf row (word_after g accounts c)
   word_of_row c row e = word_from_row (word_after g accounts c) row (word_after-le c) (sym (decoded_row c (cell_of_row c row e)) ∙ e)
