@@ -95,5 +95,4 @@ module _ (g : Game) where
           let c = get_or (range_with_len 0 g.cells) i e in
           let most = one_if_most (has_fallen g d c) in
           omega arith) in
-          let len = length-range_with_len 0 g.cells in
-          omega arith
+          omega (arith, length-range_with_len 0 g.cells)

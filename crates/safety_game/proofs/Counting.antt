@@ -42,8 +42,7 @@ range_split f a (suc n) m =
 
 pub count_more : (p : ℕ → Bool) (a n : ℕ) → count_by p (range_with_len a (n + 1)) ≡ count_by p (range_with_len a n) + one_if (p (a + n))
 count_more p a n =
-    let parts = range_split (λ x. one_if (p x)) a n 1 in
-    omega arith
+    omega (arith, range_split (λ x. one_if (p x)) a n 1)
 
 -- a range that begins later
 pub range_shift : (f : ℕ → ℕ) (n b m : ℕ) → sum_by (λ c. f (n + c)) (range_with_len b m) ≡ sum_by f (range_with_len (n + b) m)

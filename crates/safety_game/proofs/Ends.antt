@@ -20,8 +20,7 @@ module _ (g : Game) (a : IsGraph g) where
   -- no pair is cut too often
   pub few_each : (accounts : List Account) → IsAtEnd g.cells (IsKeepInvariant g) accounts → AreFewCuts g accounts
   few_each accounts end pair lt =
-      let le = gone_few g end.rounds pair in
-      omega arith
+      omega (arith, gone_few g end.rounds pair)
 
   -- the game is solved
   pub solved : (board : BoardModel) → IsBoardOf g board → (k : SolvedGame) → IsSolvedByRule g.cells (IsKeepInvariant g) (IsRowDecoded g) board k → IsKeepSolved g k

@@ -85,15 +85,9 @@ module _ (g : Game) where
   pub in_step-append : (xs ys : List Cut) (ls ms : List ℕ) → IsInStep g xs ls → IsInStep g ys ms → IsInStep g (xs ++ ys) (ls ++ ms)
   in_step-append xs ys ls ms x y = record {
     cells = λ c lt.
-        let both = times_counters (pairs_of g + c) xs ys in
-        let cell_cuts = cell_cuts-append xs ys c in
-        omega arith;
+        omega (arith, times_counters (pairs_of g + c) xs ys, cell_cuts-append xs ys c);
     logs = λ c.
-        let both = times-append c ls ms in
-        let cuts = times_cut_to (pairs_of g + c) 0 xs ys in
-        let a = x.logs c in
-        let b = y.logs c in
-        omega arith;
+        omega (arith, times-append c ls ms, times_cut_to (pairs_of g + c) 0 xs ys, x.logs c, y.logs c);
     no_other_cut = All-append (λ (c : Cut). c.counter < pairs_of g + g.cells) xs ys x.no_other_cut y.no_other_cut;
   }
 

@@ -41,9 +41,7 @@ module _ (g : Game) (a : IsGraph g) (d : ℕ) (list : List ℕ) (accounts more :
 
   pub cuts : (pair : ℕ) → pair < pairs_of g → cut_count pair (accounts ++ more) ≡ gone_in g (suc d) pair
   cuts pair lt =
-      let e = cut_count-append pair accounts more in
-      let now = new_cuts pair lt in
-      omega arith
+      omega (arith, cut_count-append pair accounts more, new_cuts pair lt)
 
   -- a pair has its first cut in this round exactly where it has a cut now and had none before
   first : (pair : ℕ) → pair < pairs_of g → firsts_in g (cuts_in more) pair + one_if (nat_lt 0 (gone_in g d pair)) ≡ one_if (nat_lt 0 (gone_in g (suc d) pair))
@@ -70,8 +68,7 @@ module _ (g : Game) (a : IsGraph g) (d : ℕ) (list : List ℕ) (accounts more :
                   let e = (law (omega arith)).0 (omega arith) (omega arith) in
                   omega arith
               | inr none'' ↦
-                  let n : one_if (nat_lt 0 (gone_in g (suc d) pair)) ≡ 0 = ap one_if (le-ltb 0 (gone_in g (suc d) pair) none'') in
-                  omega arith
+                  omega (arith, ap one_if (le-ltb 0 (gone_in g (suc d) pair) none''))
             ]
       ]
     where
@@ -120,9 +117,7 @@ module _ (g : Game) (a : IsGraph g) (d : ℕ) (list : List ℕ) (accounts more :
 
   pub cell_cuts : (c : ℕ) → c < g.cells → cut_count (pairs_of g + c) (accounts ++ more) ≡ cell_cuts_at g (suc d) c
   cell_cuts c lt =
-      let e = cut_count-append (pairs_of g + c) accounts more in
-      let now = new_cell_cuts c lt in
-      omega arith
+      omega (arith, cut_count-append (pairs_of g + c) accounts more, new_cell_cuts c lt)
 
   -- a cell is logged in this round exactly where it has fallen now and hadn't before
   falls : (c : ℕ) → c < g.cells → times c (logged_cells (all_logs more)) + one_if (has_fallen g d c) ≡ one_if (has_fallen g (suc d) c)

@@ -25,10 +25,7 @@ loop-input-preserved g c =
     let fan : length (successors_at game pair) ≡ c.fan.result = ap (λ n. length (successors_at game (c.args.c * n + c.loop-input.input))) (sym c.inputs.ensures) ∙ sym c.fan.ensures in
     elim c.if-fan-gt0.branch [
       | then-fan-gt0 w ↦
-          let one : one_if (nat_lt 0 (length (successors_at game pair))) ≡ 1 = ap one_if (lt-ltb 0 (length (successors_at game pair)) (omega arith)) in
-          omega arith
+          omega (arith, ap one_if (lt-ltb 0 (length (successors_at game pair)) (omega arith)))
       | else-fan-gt0 w ↦
-          let test = w.if-fan-gt0.false in
-          let none : one_if (nat_lt 0 (length (successors_at game pair))) ≡ 0 = ap one_if (le-ltb 0 (length (successors_at game pair)) (omega arith)) in
-          omega arith
+          omega (arith, w.if-fan-gt0.false, ap one_if (le-ltb 0 (length (successors_at game pair)) (omega arith)))
     ]

@@ -6,6 +6,4 @@ use Rattle.safety_game.proofs.scratch.KeepStartStart.count_counters.Goals as goa
 pub returns : goal.returns
 returns g c =
     let game = g.G.Forward.game c.args.g.now in
-    let pairs : c.cells.result * c.inputs.result ≡ pairs_of game = ap₂ ◌*◌ c.cells.ensures c.inputs.ensures in
-    let many = starts_many game (g.met.G.Forward.lawful c.args.g.now) in
-    omega arith
+    omega (arith, ap₂ ◌*◌ c.cells.ensures c.inputs.ensures, starts_many game (g.met.G.Forward.lawful c.args.g.now))
