@@ -15,7 +15,7 @@ use Rattle.source_lists.specs.Fans.{IsCounted, ShapeIsCounted}
 use Rattle.source_lists.specs.inside.FanCounts.{GoesOnIn, KeepsFans, AreSameBut}
 use Rattle.source_lists.specs.KnownShapes.{AreKnown, Knows, edges_known}
 use Rattle.source_lists.specs.inside.ListedSegments.{KeepsSegments}
-use Rattle.source_lists.specs.Shapes.{cells_from, range_at, segments_at, HasSegmentsAt, HasSegmentsOf, EachBoxHasSegments, EachShapeHasSegments}
+use Rattle.source_lists.specs.Shapes.{range_at, segments_at, HasSegmentsAt, HasSegmentsOf, EachBoxHasSegments, EachShapeHasSegments}
 use Rattle.plant_game.specs.BoxGame.{IsBox, edges_of}
 use Rattle.source_lists.proofs.BelowBoxes.{boxes_are_shifted_shapes}
 use Rattle.source_lists.proofs.CountedFans.{kept_for}
