@@ -12,7 +12,6 @@ use Rattle.board_rounds.specs.declared.solving.SolvedGame.{SolvedGame}
 use Rattle.board_rounds.specs.Solving.{IsSolvedByRule}
 use Rattle.board_rounds.specs.Rules.{IsAtEnd}
 use Rattle.reach_avoid.specs.ReachBoards.{IsBoardOf}
-use Rattle.reach_avoid.specs.ReachReckoned.{IsReckoned}
 use Rattle.reach_avoid.specs.Solved.{IsSolved}
 use Rattle.reach_avoid.specs.inside.ReachRounds.{row_in, word_after, decoded_rows}
 use Rattle.reach_avoid.specs.inside.ReachInvariant.{IsReachInvariant}

@@ -1,5 +1,4 @@
-use Rattle.std.proofs.Common.{◌≡◌, ◌*◌, ap₂, arith}
-use Rattle.game_core.specs.Game.{pairs_of}
+use Rattle.std.proofs.Common.{◌*◌, ap₂, arith}
 use Rattle.safety_game.proofs.OnBoards.{starts_many}
 use Rattle.safety_game.proofs.scratch.KeepStartStart.count_counters.Goals as goal
 
