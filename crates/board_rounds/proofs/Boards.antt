@@ -13,7 +13,6 @@ module _ (g : Game) (a : IsGraph g) where
   -- a pair begins with as many as it has successors, where the pairs stand in front
   pub fan_of_pair : (more starts : List ℕ) → starts ≡ fans_of g ++ more → (pair : ℕ) → pair < pairs_of g → slice_index starts pair ≡ length (successors_at g pair)
   fan_of_pair more starts e pair lt =
-      let n = a.game.one_list_each in
       let pairs = fans_many in
       ap (λ l. slice_index l pair) e
       ∙ (get_or_append_left (fans_of g) more 0 pair (omega arith) ∙ get_or-map length g.successors pair [] 0 (omega arith))

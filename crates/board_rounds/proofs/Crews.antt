@@ -64,8 +64,4 @@ tally_step accounts a cuts offers was now counted h new_cuts new_offers =
     ap length (cuts_in-append accounts (a ∷ []) ∙ ap (λ l. cuts_in accounts ++ l) (append-nil a.cuts)) ∙ length-append (cuts_in accounts) a.cuts in
     let all_offers : length (offers_in (accounts ++ a ∷ [])) ≡ length (offers_in accounts) + length a.offers =
     ap length (offers_in-append accounts (a ∷ []) ∙ ap (λ l. offers_in accounts ++ l) (append-nil a.offers)) ∙ length-append (offers_in accounts) a.offers in
-    let cuts' = counted.all_cuts in
-    let offers' = counted.all_offers in
-    let cuts'' = h.cuts in
-    let offers'' = h.offers in
     record { cuts = omega arith; offers = omega arith }

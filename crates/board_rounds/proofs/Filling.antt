@@ -38,7 +38,6 @@ module _ (all : List ℕ) (first n : ℕ) where
 
   pub filled_all : (to : ℕ) (part : List ℕ) → first + n ≤ length all → ((at : ℕ) → to ≤ at → at < first + n → get_or all at 0 ≡ 0) → IsFilledTo all first to n part → part ≡ take n (drop first all)
   filled_all to part within zeros h =
-      let len = h.len in
       same_number_lists part (take n (drop first all)) (omega (arith, length-take n (drop first all), length-drop first all)) (λ k lt.
       each k (omega arith) ∙ sym (get_or-take n (drop first all) k 0 (omega arith) ∙ get_or-drop first all k 0))
     where

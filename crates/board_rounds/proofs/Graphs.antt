@@ -10,10 +10,7 @@ module _ (g : Game) (a : IsGraph g) where
 
   pub few_successors : (pair : ℕ) → pair < pairs_of g → length (successors_at g pair) ≤ 2 ^ 25
   few_successors pair lt =
-      let n = a.game.one_list_each in
-      let le = get_or-le-sum_by length g.successors pair [] (omega arith) in
-      let most = a.edges_bound in
-      omega arith
+      omega (arith, get_or-le-sum_by length g.successors pair [] (omega arith))
 
   pub cell_below : (pair : ℕ) → pair < pairs_of g → pair / g.inputs < g.cells
   cell_below pair lt = let some' = a.some_input in div_below pair g.inputs g.cells (omega arith) lt

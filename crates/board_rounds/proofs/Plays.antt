@@ -113,15 +113,11 @@ module _ (g : Game) (fits : BoardModel → Type 0) (first : ℕ → Bool) (keeps
         let rule : holds_before new.tally.rounds new.list.items new.root.accounts = subst (λ k. holds_before k new.list.items new.root.accounts) (sym p.rounds) (subst (holds_before (suc d) new.list.items) back next) in
         let added = logs_more d old.list.items p.order p.alike accounts p.members early some' was.by_rule p.worked p.swept lawful in
         let most = leads.few new.tally.rounds new.list.items new.root.accounts rule in
-        let before = was.all_listed in
-        let after = p.listed ∙ ap log_count p.accounts in
         let now = ap log_count p.accounts in
         let long : length new.list.items ≡ log_count all - log_count accounts =
         ap length listed
         ∙ (length-map (range_with_len (log_count accounts) (log_count all - log_count accounts)) (λ slot. cell_at slot (all_logs all))
         ∙ length-range_with_len (log_count accounts) (log_count all - log_count accounts)) in
-        let rounds = p.rounds in
-        let on_time = early in
         let sooner = was.early some' in (
           record {
             by_rule = rule;

@@ -21,10 +21,7 @@ count_filter p q (x ∷ xs) = by_test (q x) (count_filter p q xs) ∙ sym (count
 pub sum_flat : {X Y : Type 0} (f : Y → ℕ) (h : X → List Y) (xs : List X) → sum_by f (flat_map h xs) ≡ sum_by (λ x. sum_by f (h x)) xs
 sum_flat f h [] = refl
 sum_flat f h (x ∷ xs) =
-    let a = sum_by-append f (h x) (flat_map h xs) in
-    let b = sum_by-cons (λ x. sum_by f (h x)) x xs in
-    let rest = sum_flat f h xs in
-    omega arith
+    omega (arith, sum_by-append f (h x) (flat_map h xs), sum_by-cons (λ x. sum_by f (h x)) x xs, sum_flat f h xs)
 
 and_comm : (a b : Bool) → (a && b) ≡ (b && a)
 and_comm true true = refl

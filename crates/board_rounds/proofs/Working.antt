@@ -42,8 +42,6 @@ module _ (g : Game) (fits : BoardModel → Type 0) (keeps : Account → Type 0) 
           of_game = of_game;
           at = h.at;
           cuts = λ p lt.
-              let before = h.cuts p lt in
-              let cut = each p lt in
               let push = sum_by_push (cuts_for g list p) was.account.notes item in
               let notes = ap (λ (l : List ℕ). sum_by (cuts_for g list p) (l ++ item ∷ [])) h.notes in
               omega arith;

@@ -69,11 +69,9 @@ module _ (g : Game) (a : IsGame g) (cut : ℕ → ℕ → Bool) (left : List ℕ
   counted_less = record {
     one_each = length-set left pair (get_or left pair 0 - 1) ∙ h.one_each;
     counts = λ q lq.
-        let n = h.one_each in
         elim (cases_eq q pair) [
           | inl e ↦ subst (λ q. get_or (set left pair (get_or left pair 0 - 1)) q 0 ≡ count_by (λ s. not (with_edge cut pair c q s)) (successors_at g q)) (sym e)
               (let w : get_or (set left pair (get_or left pair 0 - 1)) pair 0 ≡ get_or left pair 0 - 1 = get_or-set_same left pair (get_or left pair 0 - 1) 0 (omega arith) in
-              let was = h.counts pair lt in
               let l = less_by_one in
               omega arith)
           | inr ne ↦ get_or-set_other left pair q (get_or left pair 0 - 1) 0 ne ∙ (h.counts q lq ∙ count_same (λ s. not (cut q s)) (λ s. not (with_edge cut pair c q s)) (successors_at g q) (λ i d li. ap not (sym (edge_other_pair cut pair c q (get_or (successors_at g q) i d) ne))))

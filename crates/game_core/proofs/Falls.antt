@@ -85,7 +85,6 @@ falls_blocked g c e = (0, ap (λ b. b || is_helpless g (λ s. false) c) e)
 module _ (g : Game) (p : FallingProgress) (h : AreSafe g p) (queue : (s : ℕ) → Contains p.queue s → Falls g s) (c : ℕ) (lt : c < g.cells) (none : get_or p.left c 0 ≡ 0) where
   unsafe : (u : ℕ) → u < g.inputs → is_safe p.safe (pair_of g c u) ≡ false
   unsafe u lu =
-      let count = h.counted c lt in
       below_end (λ u. is_safe p.safe (pair_of g c u) ≡ false) g.inputs u lu
       (none_from_count (λ u. is_safe p.safe (pair_of g c u)) (range_with_len 0 g.inputs) (omega arith))
 

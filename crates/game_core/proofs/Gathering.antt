@@ -54,7 +54,6 @@ module _ (g : Game) (c : ℕ) (lt : c < g.cells) (p : SearchProgress) (h : IsGat
 
   pub gathered_goal : mark_of g c ≡ Goal → IsGathered g (c + 1) (with_row c goal_row p)
   gathered_goal m =
-      let n = h.one_each in
       let position : c < length p.rows = omega arith in
       record {
         left = h.left;
@@ -94,7 +93,6 @@ searched_none g a p h = record {
     counted = record {
       one_each = ap length h.left ∙ (length-map g.successors length ∙ a.one_list_each);
       counts = λ pair lt.
-          let n = a.one_list_each in
           ap (λ (xs : List ℕ). get_or xs pair 0) h.left ∙ (get_or-map length g.successors pair [] 0 (omega arith) ∙ sym (count_every (successors_at g pair)));
     };
     told = record {

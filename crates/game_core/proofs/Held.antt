@@ -28,17 +28,14 @@ module _ (g : Game) (a : IsGame g) (head : ℕ) (p : FallingProgress) (h : IsFal
       let len = length-range_with_len 0 g.inputs in
       let at = get_or-range_with_len 0 g.inputs i d (omega arith) in
       none (get_or (range_with_len 0 g.inputs) i d) (omega arith)) in
-      let count = h.safe.counted c lt in
       h.fallen.queued c lt (omega arith)
 
   rowless : (c : ℕ) → c < g.cells → Contains p.queue c → HasRow rows c → ⊥
   rowless c lt has (row, e) =
       let is : IsFirstSafe g p.safe c (Some row) = subst (IsFirstSafe g p.safe c) e (first.each c lt) in
-      let zero = (h.fallen.empty c has).1 in
       let count = h.safe.counted c lt in
       let none = none_from_count (λ u. is_safe p.safe (pair_of g c u)) (range_with_len 0 g.inputs) (omega arith) in
       let unsafe : is_safe p.safe (pair_of g c row.input) ≡ false = below_end (λ u. is_safe p.safe (pair_of g c u) ≡ false) g.inputs row.input is.1 none in
-      let safe = is.2 in
       cc
 
   -- a safe pair leads to cells with rows alone
@@ -53,7 +50,6 @@ module _ (g : Game) (a : IsGame g) (head : ℕ) (p : FallingProgress) (h : IsFal
       by_row s ls to None e none =
           let position = no_safe_pair s ls none in
           let same : get_or p.queue position.0 0 ≡ s = get_or_default p.queue position.0 0 s position.1 ∙ position.2 in
-          let lt' = position.1 in
           absurd (h.taken position.0 (pair_of g c u) (omega arith) (pair_below g c u lt lu) safe (subst (Contains (successors_of g c u)) (sym same) to))
 
   enabled_if : (xs : List ℕ) → nat_lt 0 (length xs) ≡ true → xs ≢ []

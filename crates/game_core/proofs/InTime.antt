@@ -20,8 +20,6 @@ helpful g test c e =
     let u = found.1 in
     let len = length-range_with_len 0 g.inputs in
     let at = get_or-range_with_len 0 g.inputs found.0 u (let lt = found.2 in omega arith) in
-    let lt = found.2 in
-    let is = found.3 in
     let useful = or_parts (length (successors_of g c u) == 0) (list_any test (successors_of g c u)) found.4 in
     (u, (omega arith, λ none. let z : (length (successors_of g c u) == 0) ≡ true = eq-eqb (length (successors_of g c u)) 0 (ap length none) in let f = useful.0 in cc), none_of test (successors_of g c u) useful.1)
 

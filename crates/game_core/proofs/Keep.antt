@@ -140,6 +140,4 @@ same_keep_row g c (Some p) (Some q) a b =
 
 pub one_keep_solution : (g : Game) (first second : List (Option Row)) → IsKeepSolution g first → IsKeepSolution g second → first ≡ second
 one_keep_solution g first second a b =
-    let la = a.one_each in
-    let lb = b.one_each in
     ext_get_or None first second (omega arith) (λ c lt. same_keep_row g c (row_of first c) (row_of second c) (a.each c (omega arith)) (b.each c (omega arith)))

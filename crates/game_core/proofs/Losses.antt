@@ -71,7 +71,6 @@ module _ (g : Game) (head : ℕ) (p : FallingProgress) (h : IsFalling g g.cells 
 
   left_here : suc (get_or q.left cell 0) ≡ get_or p.left cell 0
   left_here =
-      let n = h.safe.one_number_each in
       let b = parts.cell in
       let w = get_or-set_same p.left cell (get_or p.left cell 0 - 1) 0 (omega arith) in
       let s = some_left in
@@ -92,9 +91,7 @@ module _ (g : Game) (head : ℕ) (p : FallingProgress) (h : IsFalling g g.cells 
   capacity =
       let within : All (λ d. d < g.cells) (cell ∷ p.queue) = All-cons (λ d. d < g.cells) cell p.queue parts.cell (λ i d li. (elsewhere (get_or p.queue i d) (Contains-get_or p.queue i d li)).0) in
       let apart : AllPairs (λ a b. a ≢ b) (cell ∷ p.queue) = AllPairs-cons (λ a b. a ≢ b) cell p.queue (λ i d li e. (elsewhere (get_or p.queue i d) (Contains-get_or p.queue i d li)).2 (sym e)) h.fallen.once in
-      let few = length_of_distinct_below g.cells (cell ∷ p.queue) apart within in
-      let n = h.safe.one_number_each in
-      omega arith
+      omega (arith, length_of_distinct_below g.cells (cell ∷ p.queue) apart within)
 
   module _ (s : ℕ) (leads : Contains (successors_at g pair) s) (gone : Contains p.queue s) where
     safe_after : AreSafe g q
@@ -112,7 +109,6 @@ module _ (g : Game) (head : ℕ) (p : FallingProgress) (h : IsFalling g g.cells 
             | inl e ↦
                 let a = left_here in
                 let b = one_less in
-                let n = h.safe.counted cell parts.cell in
                 let here : get_or q.left cell 0 ≡ safe_pairs g less cell = omega arith in
                 subst (λ d. get_or q.left d 0 ≡ safe_pairs g less d) (sym e) here
             | inr ne ↦ left_there d ne ∙ (h.safe.counted d ld ∙ sym (same_count d ne))
@@ -220,7 +216,6 @@ module _ (g : Game) (head c : ℕ) (sources : List ℕ) (are : AreSources g c so
           done = λ i li.
               elim (cases_eq i j) [
                 | inl e ↦
-                    let n = h.falling.safe.one_test_each in
                     let lp = pair_leads.0 in
                     subst (λ i. is_safe (after_loss g pair p).safe (get_or sources i 0) ≡ false) (sym e) (closed_by_loss g pair p (omega arith))
                 | inr ne ↦ closed_stays g pair (get_or sources i 0) p (h.done i (omega arith))

@@ -10,19 +10,12 @@ use Rattle.game_core.specs.Solution.{row_of, HasRowBelow, IsReachRow, IsChosenIn
 -- a cell has one rank
 pub same_rank : (g : Game) (c j k : ℕ) → IsRank g c j → IsRank g c k → j ≡ k
 same_rank g c j k a b =
-    let s = a.reached in
-    let t = b.reached in
-    let ds = s.2 in
-    let dt = t.2 in
-    let le = a.least t.0 t.1 in
-    let ge = b.least s.0 s.1 in
-    omega arith
+    omega (arith, a.reached, b.reached)
 
 -- the row of a cell is that of the solution
 pub row_at : (g : Game) (rows : List (Option Row)) → IsReachSolution g rows → (c : ℕ) (row : Row) → row_of rows c ≡ Some row → IsReachRow g c (Some row)
 row_at g rows h c row e =
     let lt = below_from_row rows c row e in
-    let n = h.one_each in
     subst (IsReachRow g c) e (h.each c (omega arith))
 
 -- a tree of depth 0 wins from goals alone
@@ -75,6 +68,4 @@ same_reach_row g c (Some p) (Some q) a b =
 
 pub one_solution : (g : Game) (first second : List (Option Row)) → IsReachSolution g first → IsReachSolution g second → first ≡ second
 one_solution g first second a b =
-    let la = a.one_each in
-    let lb = b.one_each in
     ext_get_or None first second (omega arith) (λ c lt. same_reach_row g c (row_of first c) (row_of second c) (a.each c (omega arith)) (b.each c (omega arith)))

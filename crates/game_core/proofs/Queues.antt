@@ -15,8 +15,7 @@ none_above head top c row rows queue h lt low s r e =
     elim (row_after_set rows c (Some row) s lt) [
       | inl here ↦
           let same : row ≡ r = (let a = here.1 in cc) in
-          let k : row.rank ≡ r.rank = ap (λ x. x.rank) same in
-          omega arith
+          omega (arith, ap (λ x. x.rank) same)
       | inr there ↦ h.highest s r (sym there.1 ∙ e)
     ]
 
@@ -47,9 +46,7 @@ module _ (head top c : ℕ) (row : Row) (rows : List (Option Row)) (queue : List
   low_rank : (i d : ℕ) → i < length queue → rank_at rows (get_or queue i d) ≤ top
   low_rank i d li =
       let has = h.has_row (get_or queue i d) (Contains-get_or queue i d li) in
-      let e : rank_at rows (get_or queue i d) ≡ has.0.rank = ap rank_in has.1 in
-      let le = h.highest (get_or queue i d) has.0 has.1 in
-      omega arith
+      omega (arith, ap rank_in has.1, h.highest (get_or queue i d) has.0 has.1)
 
   pub settle_queue : IsQueue head top (set rows c (Some row)) (queue ++ c ∷ [])
   settle_queue = record {

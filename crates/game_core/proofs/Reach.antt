@@ -17,7 +17,6 @@ HasRankWithin g k s = (rank : ℕ) × (rank ≤ k) × IsRank g s rank
 pub ranks_from_rows : (g : Game) (rows : List (Option Row)) → IsGame g → IsConsistent g rows → (c u k : ℕ) → All (HasRowBelow rows (suc k)) (successors_of g c u) → All (HasRankWithin g k) (successors_of g c u)
 ranks_from_rows g rows a h c u k each = λ i d lt.
     let r = each i d lt in
-    let b = r.below in
     (r.row.rank, omega arith, rank_from_row g rows a h _ r.row (successors_below g a (pair_of g c u) i d lt) r.is)
 
 pub rows_from_ranks : (g : Game) (rows : List (Option Row)) → IsGame g → IsConsistent g rows → (c u k : ℕ) → All (HasRankWithin g k) (successors_of g c u) → All (HasRowBelow rows (suc k)) (successors_of g c u)
@@ -25,9 +24,6 @@ rows_from_ranks g rows a h c u k each = λ i d lt.
     let r = each i d lt in
     let t = r.2.reached in
     let row = row_for g rows a h t.0 _ (successors_below g a (pair_of g c u) i d lt) t.1 in
-    let b = row.below in
-    let e = t.2 in
-    let le = r.1 in
     record { row = row.row; is = row.is; below = omega arith }
 
 -- a sound row's input is the chosen one

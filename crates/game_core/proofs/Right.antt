@@ -28,7 +28,6 @@ greatest_below rows k [] h = omega arith
 greatest_below rows k (s ∷ cells) h =
     let first = All-head (HasRowBelow rows (suc k)) s cells h in
     let rank = rank_of_row rows s first.row first.is in
-    let below = first.below in
     let rest = greatest_below rows k cells (All-tail (HasRowBelow rows (suc k)) s cells h) in
     omega arith
 
@@ -50,7 +49,6 @@ module _ (g : Game) (rows : List (Option Row)) (a : IsGame g) (h : AreRight g ro
       by_rank : (k u : ℕ) → mark_of g c ≡ Plain → IsRightRanked g rows c k u → IsSoundRow g rows c k u
       by_rank zero u m r = absurd r
       by_rank (suc k) u m r =
-          let e' = r.leads.greatest in
           (λ o. cc, r.leads.enabled, below_greatest rows (suc k) (successors_of g c u) r.leads.ranked (omega arith))
 
       goal_row : (row : Row) → Some row ≡ Some (record { rank = 0; input = 0 }) → mark_of g c ≡ Goal → IsSoundRow g rows c row.rank row.input
@@ -91,8 +89,6 @@ module _ (g : Game) (rows : List (Option Row)) (a : IsGame g) (h : AreRight g ro
       by_row None e r =
           let lost = r v enabled in
           let has = All-contains (HasRowBelow rows m) (successors_of g c v) lost.0 each lost.1 in
-          let is = has.is in
-          let none = lost.2 in
           absurd (cc)
       by_row (Some row) e r = by_rank row row.rank refl e r
 
@@ -135,8 +131,6 @@ module _ (g : Game) (rows : List (Option Row)) (a : IsGame g) (h : IsReachSoluti
   tree_below : (k s : ℕ) → HasRowBelow rows (suc k) s → WinsWithin g k s
   tree_below k s b =
       let rank = (row_at g rows h s b.row b.is).0 in
-      let below = b.below in
-      let deep = rank.reached.2 in
       record { tree = rank.reached.0; wins = rank.reached.1; depth = omega arith }
 
   solved_goal : (c : ℕ) → mark_of g c ≡ Goal → (o : Option Row) → row_of rows c ≡ o → IsReachRow g c o → o ≡ Some (record { rank = 0; input = 0 })
@@ -170,7 +164,6 @@ module _ (g : Game) (rows : List (Option Row)) (a : IsGame g) (h : IsReachSoluti
         };
         none_further = λ v enabled less. not_all_less g rows h c k v r enabled less;
         none_lesser = λ v lt leads.
-            let e' = leads.greatest in
             let le = chosen.1 v (leads.enabled, ranks v (below_greatest rows (suc k) (successors_of g c v) leads.ranked (omega arith))) in
             omega arith;
       }

@@ -99,7 +99,6 @@ module _ (g : Game) (a : IsGame g) (cut : ℕ → ℕ → Bool) (head top : ℕ)
         newly : (d v : ℕ) → d < g.cells → pair_of g d v ≡ pair → mark_of g d ≡ Plain → IsEnabled g d v → All (λ s. after pair s ≡ true) (successors_at g pair) → HasRowAtMost (set p.rows cell (Some new)) top v d
         newly d v ld e pd enabled all =
             let position = same_from_place d v cell input g.inputs enabled.0 parts.input (e ∙ sym parts.is) in
-            let vi = position.1 in
             elim (row_after_set p.rows cell (Some new) d cell_has_position) [
               | inl here ↦ record { row = new; is = here.1; within = within; least = λ k. let l = least k in omega arith }
               | inr there ↦ absurd (there.0 position.0)
@@ -219,5 +218,4 @@ module _ (g : Game) (a : IsGame g) (cut : ℕ → ℕ → Bool) (head top : ℕ)
           let none = count_none (λ s. not (after pair s)) (successors_at g pair) (λ i d' li. ap not (all i d' li)) in
           let w = written in
           let l = left_then in
-          let z = (Decides-eqb (get_or p.left pair 0 - 1) 0).1 (omega arith) in
           cc))

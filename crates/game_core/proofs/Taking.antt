@@ -10,7 +10,7 @@ use Rattle.std.proofs.lemmas.Map.Views.{list_any-from_Contains}
 use Rattle.std.specs.Cmp.{nat_eq_equiv}
 use Rattle.std.specs.List.{list_any}
 use Rattle.game_core.proofs.Edges.{with_edge, some_left, counted_alike, pair_below}
-use Rattle.game_core.proofs.Queues.{raised_top, raise_queue, next_queue}
+use Rattle.game_core.proofs.Queues.{raise_queue, next_queue}
 use Rattle.game_core.proofs.Step.{Grows, IsStep, cut_step}
 use Rattle.game_core.specs.declared.game.Row.{Row}
 use Rattle.game_core.specs.Game.{Game, IsGame, AreSources, pair_of, pairs_of, successors_at}
@@ -37,7 +37,6 @@ search_alike g cut other head top p h alike = record {
 -- rows of one rank more may come
 raise_search : (g : Game) (cut : ℕ → ℕ → Bool) (head top : ℕ) (p : SearchProgress) → IsSearch g cut head top p → head < length p.queue → IsSearch g cut head (suc (rank_at p.rows (get_or p.queue head 0))) p
 raise_search g cut head top p h lt =
-    let up = raised_top head top p.rows p.queue h.queue 0 lt in
     record {
       queue = raise_queue head top p.rows p.queue h.queue 0 lt;
       counted = h.counted;
@@ -70,7 +69,6 @@ module _ (g : Game) (head c : ℕ) (sources : List ℕ) (first : SearchProgress)
   pub taking_start : (top : ℕ) → top ≡ suc (rank_at first.rows c) → IsSearched g head first → IsTaking g head top c sources 0 first first
   taking_start top e h =
       let raised = raise_search g (is_taken head first.queue) head h.top first h.search lt in
-      let short = raised.queue.short head 0 lt in
       let same : rank_at first.rows (get_or first.queue head 0) ≡ rank_at first.rows c = ap (rank_at first.rows) at in
       let has = raised.queue.has_row c (subst (Contains first.queue) at (Contains-get_or first.queue head 0 lt)) in
       let its : rank_at first.rows c ≡ has.0.rank = ap rank_in has.1 in
@@ -142,9 +140,6 @@ module _ (g : Game) (a : IsGame g) (head top c : ℕ) (sources : List ℕ) (are 
     one_more =
         let s = step in
         let became = s.refines.each c h.row h.has in
-        let same = became.rank_stays in
-        let was = h.rank in
-        let l = h.long in
         let e : length (after_cut g pair top p).queue ≡ length (p.queue ++ s.grows.more) = ap length s.grows.is in
         let n = length-append p.queue s.grows.more in
         record {

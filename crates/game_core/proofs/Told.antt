@@ -26,8 +26,6 @@ refines_itself rows = record { each = λ s row e. record { row = row; is = e; ra
 pub below_after : (rows new : List (Option Row)) → Refines rows new → (k s : ℕ) → HasRowBelow rows k s → HasRowBelow new k s
 below_after rows new f k s r =
     let b = f.each s r.row r.is in
-    let lt = r.below in
-    let same = b.rank_stays in
     record { row = b.row; is = b.is; below = omega arith }
 
 pub at_most_after : (rows new : List (Option Row)) → Refines rows new → (m v c : ℕ) → HasRowAtMost rows m v c → HasRowAtMost new m v c
@@ -35,8 +33,6 @@ at_most_after rows new f m v c r =
     let b = f.each c r.row r.is in
     let within = r.within in
     let least = r.least in
-    let same = b.rank_stays in
-    let falls = b.input_falls in
     record { row = b.row; is = b.is; within = omega arith; least = λ e. let l = least (omega arith) in omega arith }
 
 -- a row that was there before is as low as it is now
@@ -45,8 +41,6 @@ below_before rows new f m s row e r =
     let b = f.each s row e in
     let same : b.row ≡ r.row = (let p = b.is in let q = r.is in cc) in
     let ranks : b.row.rank ≡ r.row.rank = ap (λ x. x.rank) same in
-    let stays = b.rank_stays in
-    let lt = r.below in
     record { row = row; is = e; below = omega arith }
 
 pub sound_after : (g : Game) (rows new : List (Option Row)) → Refines rows new → (c k u : ℕ) → IsSoundRow g rows c k u → IsSoundRow g new c k u
@@ -69,7 +63,6 @@ module _ (g : Game) (cut : ℕ → ℕ → Bool) (top : ℕ) (rows new : List (O
           let low = below_before rows new f m c row has (All-contains (HasRowBelow new m) (successors_at g (pair_of g d v)) c each (subst (λ q. Contains (successors_at g q) c) (sym e) leads)) in
           let same : low.row ≡ row = (let p = low.is in cc) in
           let ranks : low.row.rank ≡ row.rank = ap (λ x. x.rank) same in
-          let lm = low.below in
           let within = r.within in
           let least = r.least in
           record { row = r.row; is = r.is; within = omega arith; least = λ k. least (omega arith) }

@@ -25,8 +25,6 @@ trees_for g k [] h = record { trees = NoTrees; wins = refl; depth = omega arith 
 trees_for g k (c ∷ cells) h =
     let first = All-head (WinsWithin g k) c cells h in
     let rest = trees_for g k cells (All-tail (WinsWithin g k) c cells h) in
-    let a = first.depth in
-    let b = rest.depth in
     record { trees = AndTree first.tree rest.trees; wins = (first.wins, rest.wins); depth = omega arith }
 
 -- a sound row has a tree that is no deeper than its rank
@@ -37,14 +35,12 @@ tree_for g rows h (suc fuel) c (suc k) u le s =
     let each : All (WinsWithin g k) (successors_of g c u) =
     All-weaker (HasRowBelow rows (suc k)) (WinsWithin g k)
     (λ t r.
-    let b = r.below in
     let deep : r.row.rank ≤ fuel = omega arith in
     let w = tree_for g rows h fuel t r.row.rank r.row.input deep (h.sound t r.row r.is) in
     let d = w.depth in
     record { tree = w.tree; wins = w.wins; depth = omega arith })
     (successors_of g c u) s.2 in
     let ts = trees_for g k (successors_of g c u) each in
-    let d = ts.depth in
     record { tree = Apply u ts.trees; wins = (s.0, s.1, ts.wins); depth = omega arith }
 
 -- a tree that wins from c is as deep as c's rank at least
@@ -57,7 +53,6 @@ mutual
         | inr other ↦
             let each = rows_for g rows a h next (successors_of g c u) (successors_below g a (pair_of g c u)) w.2 in
             let best = h.best c u (suc (greatest_depth next)) (plain_from (mark_of g c) other w.0) w.1 each in
-            let le = best.within in
             record { row = best.row; is = best.is; below = omega arith }
       ]
 
@@ -82,6 +77,5 @@ rank_from_row g rows a h c row lt e =
     let least : (t : Tree) → Wins g t c → row.rank ≤ depth_of t =
     (λ t w. let r = row_for g rows a h t c lt w in let b = r.below in let s : row.rank ≡ r.row.rank = ap (λ x. x.rank) (same_row rows c row r.row e r.is) in omega arith) in
     let w = tree_for g rows h row.rank c row.rank row.input (omega arith) (h.sound c row e) in
-    let le = w.depth in
     let ge = least w.tree w.wins in
     record { reached = (w.tree, w.wins, omega arith); least = least }

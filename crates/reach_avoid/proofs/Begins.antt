@@ -97,7 +97,6 @@ module _ (g : Game) (a : IsGraph g) where
   full_after rank list accounts new was next some' =
       let c = get_or list 0 0 in
       let lt = was.within 0 0 some' in
-      let once = was.cells c lt in
       let there = first_counted list some' in
       let row = row_of_rank (row_of (decoded_rows g accounts) c) (omega arith) in
       inr (c, row.0, next.stays c row.0 row.1, ap suc row.2)
@@ -128,8 +127,7 @@ module _ (g : Game) (a : IsGraph g) where
       let one = at_most_one (word_at (mark_of g c)) c (lawful.cells c (in' i d lt)) in
       let e = firsts_are c accounts in
       omega arith) in
-      let len = length-range_with_len 0 g.cells in
-      omega arith
+      omega (arith, length-range_with_len 0 g.cells)
     where
       at_most_one : (start c : ℕ) → (now : ℕ) × IsLawfulLeast accounts c start now → first_count (all_offers c accounts) ≤ 1
       at_most_one start c (now, h) =
@@ -139,7 +137,6 @@ module _ (g : Game) (a : IsGraph g) where
                 elim (cases_lt 0 (length (all_offers c accounts))) [
                   | inl some' ↦ let e = h.one_first free some' in omega arith
                   | inr none' ↦
-                      let le = count_by-le-length (λ (o : Offer). o.first) (all_offers c accounts) in
-                      omega arith
+                      omega (arith, count_by-le-length (λ (o : Offer). o.first) (all_offers c accounts))
                 ]
           ]

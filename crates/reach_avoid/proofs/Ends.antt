@@ -12,7 +12,6 @@ use Rattle.board_rounds.specs.declared.solving.SolvedGame.{SolvedGame}
 use Rattle.board_rounds.specs.Solving.{IsSolvedByRule}
 use Rattle.board_rounds.specs.Rules.{IsAtEnd}
 use Rattle.reach_avoid.specs.ReachBoards.{IsBoardOf}
-use Rattle.reach_avoid.specs.ReachReckoned.{IsReckoned}
 use Rattle.reach_avoid.specs.Solved.{IsSolved}
 use Rattle.reach_avoid.specs.inside.ReachRounds.{row_in, word_after, decoded_rows}
 use Rattle.reach_avoid.specs.inside.ReachInvariant.{IsReachInvariant}
@@ -22,10 +21,7 @@ module _ (g : Game) (a : IsGraph g) where
   -- ranks are small
   pub low_ranks : (accounts : List Account) → IsAtEnd g.cells (IsReachInvariant g) accounts → (c : ℕ) (row : Row) → row_of (decoded_rows g accounts) c ≡ Some row → row.rank < 2 ^ 32
   low_ranks accounts end c row e =
-      let le = end.stood.reached.highest c row e in
-      let few = end.in_time in
-      let b = a.cells_bound in
-      omega arith
+      omega (arith, end.stood.reached.highest c row e)
 
   -- the game is solved
   pub solved : (board : BoardModel) → IsBoardOf g board → (s : SolvedGame) → IsSolvedByRule g.cells (IsReachInvariant g) (λ accounts c row. row ≡ row_in (word_after g accounts c)) board s → IsSolved g s
@@ -40,8 +36,6 @@ module _ (g : Game) (a : IsGraph g) where
       let offers = offers_count g a rank accounts was in
       let few = few_cuts g a rank accounts was in
       let few' = few_offers g a rank accounts was in
-      let told = r.tallied.cuts in
-      let told' = r.tallied.offers in
       let counts : IsReachTally g rows s.tally = record { cuts = omega arith; offers = omega arith; rounds = rounds_count g a rank accounts was r.stood.full } in
       record {
         solution = subst (IsReachSolution g) (sym answer) solution;

@@ -36,10 +36,7 @@ module _ (g : Game) (a : IsGraph g) where
   pub due_valued : (rank : ℕ) → rank < 2 ^ 32 → (o : Offer) → IsDueOfferOf g rank o → IsDueOffer g o
   due_valued rank small o b =
       let word = b.word in
-      let value = b.value in
       let cell = cell_below g a b.pair b.below in
-      let input = input_of_pair b.pair in
-      let most = a.inputs_bound in
       record { word = omega arith; some = omega arith; less = omega arith }
 
   -- the values of a rank lie together
@@ -52,9 +49,6 @@ module _ (g : Game) (a : IsGraph g) where
     where
       in_range : (o : Offer) → IsDueOfferOf g rank o → (1 + rank * 4096 ≤ o.value) × (o.value < 1 + rank * 4096 + 4096)
       in_range o b =
-          let value = b.value in
-          let input = input_of_pair b.pair in
-          let most = a.inputs_bound in
           (omega arith, omega arith)
 
 pub values_valued : (g : Game) (c : ℕ) (accounts : List Account) → All (IsDueOffer g) (offers_in accounts) → All (λ v. (1 ≤ v) × (v < NONE)) (values (all_offers c accounts))

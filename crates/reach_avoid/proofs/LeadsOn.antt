@@ -67,7 +67,6 @@ module _ (g : Game) (a : IsGraph g) (rank : ℕ) (small : rank < 2 ^ 31) (list :
   stays c row e =
       let lt = cell_of_row g accounts c row e in
       let w = word_of_row g accounts c row e in
-      let rank' = w.rank in
       let low = was.highest c row e in
       let range = values_of_rank g a (suc rank) c more offers_due in
       let kept = least_from-keeps (word_after g accounts c) (values (all_offers c more)) (λ i d li. let v = range i d li in let v0 = v.0 in omega arith) in
@@ -93,8 +92,6 @@ module _ (g : Game) (a : IsGraph g) (rank : ℕ) (small : rank < 2 ^ 31) (list :
       let range = values_of_rank g a (suc rank) c more offers_due in
       let many = length-map (all_offers c more) (λ (o : Offer). o.value) in
       let w = least_from-range (word_after g accounts c) (1 + suc rank * 4096) (1 + suc rank * 4096 + 4096) (values (all_offers c more)) (omega arith) range (omega arith) in
-      let low = w.0 in
-      let high = w.1 in
       let m = least_from (word_after g accounts c) (values (all_offers c more)) in (
         record { rank = (m - 1) / 4096; input = (m - 1) % 4096 },
         decoded_row g (accounts ++ more) c lt ∙ (ap row_in (word_after-more g accounts more c) ∙ row_from_word m (omega arith) (omega arith)),
@@ -124,9 +121,7 @@ module _ (g : Game) (a : IsGraph g) (rank : ℕ) (small : rank < 2 ^ 31) (list :
               | inl some' ↦
                   let f = falls c lt free some' in
                   let same : Some f.0 ≡ Some row = sym f.1 ∙ is in
-                  let e : f.0.rank ≡ row.rank = ap rank_in same in
-                  let k = f.2 in
-                  omega arith
+                  omega (arith, ap rank_in same)
             ]
       ]
 
@@ -140,9 +135,7 @@ module _ (g : Game) (a : IsGraph g) (rank : ℕ) (small : rank < 2 ^ 31) (list :
       by_row None e = let k = comes c row e is in omega arith
       by_row (Some old) e =
           let same : Some old ≡ Some row = sym (stays c old e) ∙ is in
-          let k : old.rank ≡ row.rank = ap rank_in same in
-          let le = was.highest c old e in
-          omega arith
+          omega (arith, ap rank_in same, was.highest c old e)
 
   -- the cuts
   new_cuts : (pair : ℕ) → pair < pairs_of g → cut_count pair more ≡ count_by (λ s. rank_is rank (row_of rows s)) (successors_at g pair)
@@ -153,11 +146,7 @@ module _ (g : Game) (a : IsGraph g) (rank : ℕ) (small : rank < 2 ^ 31) (list :
 
   cuts : (pair : ℕ) → pair < pairs_of g → cut_count pair (accounts ++ more) ≡ count_ranked_below g new (suc rank) pair
   cuts pair lt =
-      let e = cut_count-append pair accounts more in
-      let before = was.cuts pair lt in
-      let now = new_cuts pair lt in
-      let after = taken_after g rank rows new next_rows pair in
-      omega arith
+      omega (arith, cut_count-append pair accounts more, new_cuts pair lt, taken_after g rank rows new next_rows pair)
 
   -- a pair is used up in this round exactly where it is done now and wasn't before
   once : (pair : ℕ) → pair < pairs_of g → times pair last + one_if (is_done g rows rank pair) ≡ one_if (is_done g new (suc rank) pair)
@@ -351,6 +340,5 @@ module _ (g : Game) (a : IsGraph g) (rank : ℕ) (small : rank < 2 ^ 31) (list :
     within = λ i d lt.
         let c = get_or next i d in
         let some' = counts_agree.counted c next (Contains-get_or next i d lt) in
-        let e = same c in
         All-contains (λ c. c < g.cells) (claimed_words (offers_in more)) c claimed_within (counts_agree.found c (claimed_words (offers_in more)) (omega arith));
   }

@@ -37,9 +37,7 @@ row_below k (Some row) e = (row, refl, ltb-true row.rank k e)
 pub greatest_of : (k : ℕ) (ns : List ℕ) → All (λ n. n ≤ k) ns → greatest ns ≤ k
 greatest_of k [] h = omega arith
 greatest_of k (n ∷ ns) h =
-    let first = All-head (λ n. n ≤ k) n ns h in
-    let rest = greatest_of k ns (All-tail (λ n. n ≤ k) n ns h) in
-    omega arith
+    omega (arith, All-head (λ n. n ≤ k) n ns h, greatest_of k ns (All-tail (λ n. n ≤ k) n ns h))
 
 pub greatest_rank-le : (rows : List (Option Row)) (k : ℕ) (cells : List ℕ) → All (λ s. rank_at rows s ≤ k) cells → greatest_rank rows cells ≤ k
 greatest_rank-le rows k [] h = omega arith
@@ -73,13 +71,9 @@ one_below rank n =
           let c : one_if (n == rank) ≡ 0 = ap one_if (ne_eqb n rank ne) in
           elim (cases_lt n rank) [
             | inl lt ↦
-                let a : one_if (nat_lt n (suc rank)) ≡ 1 = ap one_if (lt-ltb n (suc rank) (omega arith)) in
-                let b : one_if (nat_lt n rank) ≡ 1 = ap one_if (lt-ltb n rank lt) in
-                omega arith
+                omega (arith, ap one_if (lt-ltb n (suc rank) (omega arith)), ap one_if (lt-ltb n rank lt))
             | inr ge ↦
-                let a : one_if (nat_lt n (suc rank)) ≡ 0 = ap one_if (le-ltb n (suc rank) (omega arith)) in
-                let b : one_if (nat_lt n rank) ≡ 0 = ap one_if (le-ltb n rank ge) in
-                omega arith
+                omega (arith, ap one_if (le-ltb n (suc rank) (omega arith)), ap one_if (le-ltb n rank ge))
           ]
     ]
 
@@ -110,7 +104,6 @@ module _ (g : Game) (rank : ℕ) (rows new : List (Option Row)) (next : IsNext r
   done_stays pair e =
       let was = done_parts g rows rank pair e in
       let some' = was.0 in
-      let all = was.1 in
       let more = taken_more pair in
       let most = count_by-le-length (λ s. below_in (suc rank) (row_of new s)) (successors_at g pair) in
       done_from g new (suc rank) pair some' (omega arith)
@@ -151,5 +144,4 @@ module _ (g : Game) (rank : ℕ) (rows new : List (Option Row)) (next : IsNext r
           let ge = ltb-false old.rank rank none' in
           let kept = next.stays s old was in
           let same : Some old ≡ Some row = sym kept ∙ is in
-          let r : old.rank ≡ row.rank = ap rank_in same in
-          omega arith
+          omega (arith, ap rank_in same)

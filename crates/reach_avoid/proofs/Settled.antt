@@ -228,7 +228,6 @@ module _ (g : Game) (a : IsGraph g) (rank : ℕ) (accounts : List Account) (was 
         | inl e ↦ omega arith
         | inr has ↦
             let v = All-contains (λ v. (1 ≤ v) × (v < NONE)) (values (all_offers c accounts)) (word_after g accounts c) (values_valued g c accounts was.valued) has in
-            let v0 = v.0 in
             omega arith
       ]
 
@@ -249,7 +248,6 @@ module _ (g : Game) (a : IsGraph g) (rank : ℕ) (accounts : List Account) (was 
   best : (c k u : ℕ) → c < g.cells → u < g.inputs → is_resolved g rows (pair_of g c u) ≡ true → greatest_rank rows (successors_of g c u) ≡ k → word_after g accounts c ≡ 1 + suc k * 4096 + u → IsBestInput g rows c u k
   best c k u lt in' e full w =
       let parts = resolved_parts g rows (pair_of g c u) e in
-      let most = a.inputs_bound in
       record {
         leads = record { enabled = (in', filled (successors_of g c u) parts.0); ranked = parts.1; greatest = full };
         none_further = λ v enabled below.
@@ -257,12 +255,10 @@ module _ (g : Game) (a : IsGraph g) (rank : ℕ) (accounts : List Account) (was 
             let all = resolved_all g rows (pair_of g c v) some' (λ i d li. let r = below i d li in (r.row, r.is)) in
             let low = greatest_rank-lt rows k (successors_of g c v) some' (λ i d li. let r = below i d li in let b = r.below in let e' : rank_at rows (get_or (successors_of g c v) i d) ≡ r.row.rank = ap rank_in r.is in omega arith) in
             let le = (word_below_input c v lt enabled.0 all).0 in
-            let small = enabled.0 in
             absurd (omega arith);
         none_lesser = λ v less leads.
             let some' = some_element (successors_of g c v) leads.enabled.1 in
             let all = resolved_all g rows (pair_of g c v) some' leads.ranked in
-            let same = leads.greatest in
             let le = (word_below_input c v lt leads.enabled.0 all).0 in
             absurd (omega arith);
       }
@@ -272,11 +268,6 @@ module _ (g : Game) (a : IsGraph g) (rank : ℕ) (accounts : List Account) (was 
       let w = word_of_row g accounts c row e in
       let by = word_by c lt m w.less in
       let k = greatest_rank rows (successors_of g c by.input) in
-      let word = by.word in
-      let small = by.enabled in
-      let most = a.inputs_bound in
-      let first = w.rank in
-      let second = w.input in
       let rank' : suc k ≡ row.rank = omega arith in
       let input' : by.input ≡ row.input = omega arith in
       subst (λ n. IsRightRanked g rows c n row.input) rank' (subst (λ u. IsRightRanked g rows c (suc k) u) input' (best c k by.input lt by.enabled by.resolved refl by.word))
@@ -307,7 +298,6 @@ module _ (g : Game) (a : IsGraph g) (rank : ℕ) (accounts : List Account) (was 
       let all = counts_agree.positions_of_lists length g.successors in
       let many = a.game.one_list_each in
       let same : sum_by (λ pair. length (successors_at g pair)) (all_pairs g) ≡ sum_by length g.successors = ap (λ n. sum_by (λ pair. length (successors_at g pair)) (range_with_len 0 n)) (sym many) ∙ all in
-      let most = a.edges_bound in
       let is = cuts_count in
       omega arith
 
@@ -315,7 +305,6 @@ module _ (g : Game) (a : IsGraph g) (rank : ℕ) (accounts : List Account) (was 
   few_offers =
       let le = count_by-le-length (is_resolved g rows) (all_pairs g) in
       let len = length-range_with_len 0 (pairs_of g) in
-      let most = a.pairs_bound in
       let is = offers_count in
       omega arith
 

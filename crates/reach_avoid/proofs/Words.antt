@@ -49,9 +49,7 @@ least_from-keeps start xs h =
     elim (least_from-among start xs) [
       | inl e ↦ e
       | inr has ↦
-          let le = All-contains (λ v. start ≤ v) xs (least_from start xs) h has in
-          let most = least_from-le start xs in
-          omega arith
+          omega (arith, least_from-le start xs)
     ]
 
 -- the number of which a board speaks
@@ -69,9 +67,6 @@ pub least_from-range : (start low high : ℕ) (xs : List ℕ) → high ≤ start
 least_from-range start low high [] above h some' = absurd (omega arith)
 least_from-range start low high (x ∷ xs) above h some' =
     let first = All-head (λ v. (low ≤ v) × (v < high)) x xs h in
-    let low' = first.0 in
-    let high' = first.1 in
-    let most = least_from-le (min start x) xs in
     elim (least_from-among (min start x) xs) [
       | inl e ↦ (omega arith, omega arith)
       | inr has ↦ let in' = All-contains (λ v. (low ≤ v) × (v < high)) xs (least_from (min start x) xs) (All-tail (λ v. (low ≤ v) × (v < high)) x xs h) has in in'
@@ -146,9 +141,7 @@ module _ (g : Game) (accounts : List Account) where
 
   pub word_after-le : (c : ℕ) → word_after g accounts c ≤ NONE
   word_after-le c =
-      let a = least_from-le (word_at (mark_of g c)) (values (all_offers c accounts)) in
-      let b = word_at-le (mark_of g c) in
-      omega arith
+      omega (arith, least_from-le (word_at (mark_of g c)) (values (all_offers c accounts)), word_at-le (mark_of g c))
 
   pub word_of_row : (c : ℕ) (row : Row) → row_of (decoded_rows g accounts) c ≡ Some row → IsWordOf row (word_after g accounts c)
   word_of_row c row e = word_from_row (word_after g accounts c) row (word_after-le c) (sym (decoded_row c (cell_of_row c row e)) ∙ e)

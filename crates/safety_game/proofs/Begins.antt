@@ -93,8 +93,6 @@ module _ (g : Game) where
           let in' = All-range g.cells in
           let le = sum_by-le (λ c. times c logged) 1 (range_with_len 0 g.cells) (λ i e li.
           let c = get_or (range_with_len 0 g.cells) i e in
-          let came = was.came c (in' i e li) in
           let most = one_if_most (has_fallen g d c) in
           omega arith) in
-          let len = length-range_with_len 0 g.cells in
-          omega arith
+          omega (arith, length-range_with_len 0 g.cells)

@@ -24,8 +24,6 @@ any_counts p (x ∷ xs) = by_test (p x) refl (any_counts p xs)
 
 pub times_single : (n x : ℕ) → times n (x ∷ []) ≡ one_if (x == n)
 times_single n x =
-    let a = count-cons (λ x. x == n) x [] in
-    let z : times n [] ≡ 0 = refl in
     omega arith
 
 -- a sum over a range in two parts
@@ -33,7 +31,6 @@ pub range_split : (f : ℕ → ℕ) (a n m : ℕ) → sum_by f (range_with_len a
 range_split f a zero m =
     let all : sum_by f (range_with_len a (zero + m)) ≡ sum_by f (range_with_len a m) = ap (λ k. sum_by f (range_with_len a k)) {x = zero + m} {y = m} (omega arith) in
     let rest : sum_by f (range_with_len (a + zero) m) ≡ sum_by f (range_with_len a m) = ap (λ k. sum_by f (range_with_len k m)) {x = a + zero} {y = a} (omega arith) in
-    let none' : sum_by f (range_with_len a zero) ≡ 0 = refl in
     omega arith
 range_split f a (suc n) m =
     let all : sum_by f (range_with_len a (suc n + m)) ≡ sum_by f (range_with_len a (suc (n + m))) = ap (λ k. sum_by f (range_with_len a k)) {x = suc n + m} {y = suc (n + m)} (omega arith) in
@@ -45,10 +42,7 @@ range_split f a (suc n) m =
 
 pub count_more : (p : ℕ → Bool) (a n : ℕ) → count_by p (range_with_len a (n + 1)) ≡ count_by p (range_with_len a n) + one_if (p (a + n))
 count_more p a n =
-    let parts = range_split (λ x. one_if (p x)) a n 1 in
-    let last = count-cons p (a + n) [] in
-    let none' : count_by p [] ≡ 0 = refl in
-    omega arith
+    omega (arith, range_split (λ x. one_if (p x)) a n 1)
 
 -- a range that begins later
 pub range_shift : (f : ℕ → ℕ) (n b m : ℕ) → sum_by (λ c. f (n + c)) (range_with_len b m) ≡ sum_by f (range_with_len (n + b) m)
@@ -67,7 +61,6 @@ range_rows f k b (suc n) =
     let first = sum_by-cons (λ c. sum_by f (range_with_len (c * k) k)) b (range_with_len (b + 1) n) in
     let rest = range_rows f k (b + 1) n in
     let next = suc-mul b k in
-    let many = suc-mul n k in
     let from : sum_by f (range_with_len ((b + 1) * k) (n * k)) ≡ sum_by f (range_with_len (b * k + k) (n * k)) = ap (λ m. sum_by f (range_with_len m (n * k))) {x = (b + 1) * k} {y = b * k + k} (ap (λ m. m * k) {x = b + 1} {y = suc b} (omega arith) ∙ next) in
     let all : sum_by f (range_with_len (b * k) (suc n * k)) ≡ sum_by f (range_with_len (b * k) (k + n * k)) = ap (λ m. sum_by f (range_with_len (b * k) m)) {x = suc n * k} {y = k + n * k} (omega arith) in
     let parts = range_split f (b * k) k (n * k) in

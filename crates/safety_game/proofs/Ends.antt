@@ -20,9 +20,7 @@ module _ (g : Game) (a : IsGraph g) where
   -- no pair is cut too often
   pub few_each : (accounts : List Account) → IsAtEnd g.cells (IsKeepInvariant g) accounts → AreFewCuts g accounts
   few_each accounts end pair lt =
-      let e = end.stood.falling.cuts pair lt in
-      let le = gone_few g end.rounds pair in
-      omega arith
+      omega (arith, gone_few g end.rounds pair)
 
   -- the game is solved
   pub solved : (board : BoardModel) → IsBoardOf g board → (k : SolvedGame) → IsSolvedByRule g.cells (IsKeepInvariant g) (IsRowDecoded g) board k → IsKeepSolved g k
@@ -34,8 +32,6 @@ module _ (g : Game) (a : IsGraph g) where
       let solution = stable_rows_are_the_keep_solution g rows a.game (settled g a d accounts was rows r.told) in
       let cuts = cuts_count g a d accounts was rows r.told in
       let few = few_cuts g a d accounts was rows r.told in
-      let told_cuts = r.tallied.cuts in
-      let told_offers = r.tallied.offers in
       let no_offers : length (offers_in accounts) ≡ 0 = ap length was.no_offer in
       let counts : IsKeepTally g rows k.tally = record {
         cuts = omega arith;

@@ -85,17 +85,9 @@ module _ (g : Game) where
   pub in_step-append : (xs ys : List Cut) (ls ms : List ℕ) → IsInStep g xs ls → IsInStep g ys ms → IsInStep g (xs ++ ys) (ls ++ ms)
   in_step-append xs ys ls ms x y = record {
     cells = λ c lt.
-        let both = times_counters (pairs_of g + c) xs ys in
-        let cell_cuts = cell_cuts-append xs ys c in
-        let a = x.cells c lt in
-        let b = y.cells c lt in
-        omega arith;
+        omega (arith, times_counters (pairs_of g + c) xs ys, cell_cuts-append xs ys c);
     logs = λ c.
-        let both = times-append c ls ms in
-        let cuts = times_cut_to (pairs_of g + c) 0 xs ys in
-        let a = x.logs c in
-        let b = y.logs c in
-        omega arith;
+        omega (arith, times-append c ls ms, times_cut_to (pairs_of g + c) 0 xs ys, x.logs c, y.logs c);
     no_other_cut = All-append (λ (c : Cut). c.counter < pairs_of g + g.cells) xs ys x.no_other_cut y.no_other_cut;
   }
 
@@ -148,8 +140,6 @@ module _ (g : Game) (some' : 0 < g.inputs) (pair left : ℕ) (lt : pair < pairs_
           firsts_at c
           ∙ (ap (λ f. cond f (times pair (pairs_at g c)) 0) h
           ∙ away g some' pair c (λ same.
-          let clear : is_obstacle (mark_of g (pair / g.inputs)) ≡ false = ap (λ c. is_obstacle (mark_of g c)) same ∙ e in
-          let first_cut : is_first_cut g pair left ≡ true = ap (λ f. f && not (is_obstacle (mark_of g (pair / g.inputs)))) h ∙ ap not clear in
           cc))
 
   pub quiet_in_step : is_first_cut g pair left ≡ false → IsInStep g (cut pair left ∷ []) []
@@ -213,10 +203,7 @@ module _ (g : Game) (some' : 0 < g.inputs) (pair left : ℕ) (lt : pair < pairs_
     pub first_cut_in_step : is_first_cut g pair left ≡ true → IsInStep g ((cut pair left ∷ []) ++ second) (cond (cell_left == 0) (cell ∷ []) [])
     first_cut_in_step first_cut = record {
       cells = λ c lc.
-          let both = times_counters (pairs_of g + c) (cut pair left ∷ []) second in
-          let pair_is = one_counter (pairs_of g + c) pair left in
           let no_pair = one_if_elsewhere pair (pairs_of g + c) (no_cell c) in
-          let cell_is = one_counter (pairs_of g + c) (pairs_of g + cell) cell_left in
           let same = same_counter c in
           let cell_cuts = cell_cuts-append g (cut pair left ∷ []) second c in
           let first = blow_hits first_cut c in

@@ -35,17 +35,13 @@ module _ (g : Game) (a : IsGraph g) (d : ℕ) (list : List ℕ) (accounts more :
   new_cuts : (pair : ℕ) → pair < pairs_of g → cut_count pair more + gone_in g d pair ≡ gone_in g (suc d) pair
   new_cuts pair lt =
       let below = successors_within g a pair lt in
-      let added = r.cuts pair lt in
       let both = counts_agree.added (λ s. times s list) (λ s. one_if (fell_before g d s)) (successors_at g pair) in
       let alike = counts_agree.alike (λ s. times s list + one_if (fell_before g d s)) (λ s. one_if (fell_before g (suc d) s)) (successors_at g pair) (λ i e li. was.cells (get_or (successors_at g pair) i e) (below i e li)) in
       omega arith
 
   pub cuts : (pair : ℕ) → pair < pairs_of g → cut_count pair (accounts ++ more) ≡ gone_in g (suc d) pair
   cuts pair lt =
-      let e = cut_count-append pair accounts more in
-      let before = was.cuts pair lt in
-      let now = new_cuts pair lt in
-      omega arith
+      omega (arith, cut_count-append pair accounts more, new_cuts pair lt)
 
   -- a pair has its first cut in this round exactly where it has a cut now and had none before
   first : (pair : ℕ) → pair < pairs_of g → firsts_in g (cuts_in more) pair + one_if (nat_lt 0 (gone_in g d pair)) ≡ one_if (nat_lt 0 (gone_in g (suc d) pair))
@@ -72,8 +68,7 @@ module _ (g : Game) (a : IsGraph g) (d : ℕ) (list : List ℕ) (accounts more :
                   let e = (law (omega arith)).0 (omega arith) (omega arith) in
                   omega arith
               | inr none'' ↦
-                  let n : one_if (nat_lt 0 (gone_in g (suc d) pair)) ≡ 0 = ap one_if (le-ltb 0 (gone_in g (suc d) pair) none'') in
-                  omega arith
+                  omega (arith, ap one_if (le-ltb 0 (gone_in g (suc d) pair) none''))
             ]
       ]
     where
@@ -122,10 +117,7 @@ module _ (g : Game) (a : IsGraph g) (d : ℕ) (list : List ℕ) (accounts more :
 
   pub cell_cuts : (c : ℕ) → c < g.cells → cut_count (pairs_of g + c) (accounts ++ more) ≡ cell_cuts_at g (suc d) c
   cell_cuts c lt =
-      let e = cut_count-append (pairs_of g + c) accounts more in
-      let before = was.cell_cuts c lt in
-      let now = new_cell_cuts c lt in
-      omega arith
+      omega (arith, cut_count-append (pairs_of g + c) accounts more, new_cell_cuts c lt)
 
   -- a cell is logged in this round exactly where it has fallen now and hadn't before
   falls : (c : ℕ) → c < g.cells → times c (logged_cells (all_logs more)) + one_if (has_fallen g d c) ≡ one_if (has_fallen g (suc d) c)
@@ -208,7 +200,6 @@ module _ (g : Game) (a : IsGraph g) (d : ℕ) (list : List ℕ) (accounts more :
     no_offer = offers_in-append accounts more ∙ ap₂ ◌++◌ was.no_offer (none_offered g more r.each);
     came = λ c lt.
         let both = ap (times c) (logged_cells-append accounts more) ∙ times-append c (logged_cells (all_logs accounts)) (logged_cells (all_logs more)) in
-        let before = was.came c lt in
         let now = falls c lt in
         omega arith;
     logged = subst (λ l. All (λ c. c < g.cells) l) (sym (logged_cells-append accounts more)) (All-append (λ c. c < g.cells) (logged_cells (all_logs accounts)) (logged_cells (all_logs more)) was.logged logged_within);

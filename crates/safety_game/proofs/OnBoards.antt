@@ -1,6 +1,5 @@
 -- What a board of a game is: its numbers are the game's.
-use Rattle.std.proofs.Common.{inl, inr, ◌≡◌, ℕ, ◌+◌, ◌-◌, ◌<◌, ◌≤◌, ◌==◌, ◌&&◌, nat_lt, true, false, eq-eqb, ne_eqb, List, [], ◌++◌, map, length, slice_index, arith, refl, sym, ◌∙◌, ap, subst}
-use Rattle.std.specs.List.{range_with_len}
+use Rattle.std.proofs.Common.{inl, inr, ◌≡◌, ℕ, ◌+◌, ◌-◌, ◌<◌, ◌≤◌, ◌==◌, ◌&&◌, nat_lt, true, false, eq-eqb, ne_eqb, List, [], ◌++◌, length, slice_index, arith, refl, sym, ◌∙◌, ap, subst}
 use Rattle.std.proofs.lemmas.Bool.{cases_eq, lt-ltb, le-ltb}
 use Rattle.std.proofs.lemmas.List.{get_or-append-add}
 use Rattle.std.proofs.lemmas.List.FromFn.{get_or-map-range_with_len}
@@ -46,12 +45,9 @@ module _ (g : Game) (a : IsGraph g) (board : BoardModel) (of_game : IsBoardOf g 
   pub left_at_first : (root : RootModel) → root ≡ new_root board → (c n : ℕ) → c < g.cells → IsLawfulCounter root.accounts (pairs_of g + c) (slice_index board.starts (pairs_of g + c)) n → n ≡ enabled_at g c
   left_at_first root is c n lt h =
       let few = few_enabled g c in
-      let most = a.inputs_bound in
       let lawful : IsLawfulCounter [] (pairs_of g + c) (enabled_at g c) n =
       subst (λ start. IsLawfulCounter [] (pairs_of g + c) start n) (start_of_cell c lt)
       (subst (λ (r : RootModel). IsLawfulCounter r.accounts (pairs_of g + c) (slice_index board.starts (pairs_of g + c)) n) is h) in
-      let none : cut_count (pairs_of g + c) [] ≡ 0 = refl in
-      let left = (counts_down [] (pairs_of g + c) (enabled_at g c) n lawful (omega arith) (omega arith)).0 in
       omega arith
 
   pub left_of_pair : (accounts : List Account) (pair n : ℕ) → pair < pairs_of g → cut_count pair accounts ≤ length (successors_at g pair) → IsLawfulCounter accounts pair (slice_index board.starts pair) n → n ≡ length (successors_at g pair) - cut_count pair accounts

@@ -101,7 +101,6 @@ module _ (g : Game) (a : IsGraph g) (d : ℕ) (accounts : List Account) (was : A
             let parts = whole_parts pair (pair_below g c row.input lt is.2) is.3 in
             let enabled : is_enabled g pair ≡ true = lt-ltb 0 (length (successors_at g pair)) parts.0 in
             let cut_cell = ltb-true 0 (gone_in g d pair) (and_parts (not (is_obstacle (mark_of g (pair / g.inputs)))) (nat_lt 0 (gone_in g d pair)) (here ∙ enabled)).1 in
-            let none = parts.1 in
             absurd (omega arith)
       ]
 
@@ -220,7 +219,6 @@ module _ (g : Game) (a : IsGraph g) (d : ℕ) (accounts : List Account) (was : A
             let gone : fell_before g d c ≡ true = subst (λ d. fell_before g d c ≡ true) (sym e) fell in
             let none = no_row (row_of rows c) (sym (fell_is c lt) ∙ gone) in
             let there = before c lt none in
-            let sooner = there.1 in
             let early : fell_before g k c ≡ true = fell_later g (suc there.0) k c (omega arith) there.2 in
             absurd (cc)
       ]

@@ -61,11 +61,7 @@ module _ (g : Game) (some' : 0 < g.inputs) (pair : ℕ) (lt : pair < pairs_of g)
         logs = h.logs ∙ ap (λ (w : HandModel). logged_cells w.account.logs ++ cond (h.left == 0) (cell ∷ []) []) t.taken;
         in_step = first_cut_in_step g some' pair t.left lt h.left inside (sym t.told);
         once = λ p lp.
-            let both : times p (counters_of (first ∷ second ∷ [])) ≡ times p (counters_of (first ∷ [])) + times p (counters_of (second ∷ [])) = times_counters p (first ∷ []) (second ∷ []) in
-            let a = one_counter p pair t.left in
-            let b = one_counter p (pairs_of g + cell) h.left in
-            let c = one_if_elsewhere (pairs_of g + cell) p (λ e. absurd (omega arith)) in
-            omega arith;
+            omega (arith, one_if_elsewhere (pairs_of g + cell) p (λ e. absurd (omega arith)));
       }
 
   pub has_cut : (was now : HandModel) → Cuts g pair was now → HasCut g pair was now

@@ -15,11 +15,11 @@ use Rattle.source_lists.specs.Fans.{IsCounted, ShapeIsCounted}
 use Rattle.source_lists.specs.inside.FanCounts.{GoesOnIn, KeepsFans, AreSameBut}
 use Rattle.source_lists.specs.KnownShapes.{AreKnown, Knows, edges_known}
 use Rattle.source_lists.specs.inside.ListedSegments.{KeepsSegments}
-use Rattle.source_lists.specs.Shapes.{cells_from, range_at, segments_at, HasSegmentsAt, HasSegmentsOf, EachBoxHasSegments, EachShapeHasSegments}
+use Rattle.source_lists.specs.Shapes.{range_at, segments_at, HasSegmentsAt, HasSegmentsOf, EachBoxHasSegments, EachShapeHasSegments}
 use Rattle.plant_game.specs.BoxGame.{IsBox, edges_of}
 use Rattle.source_lists.proofs.BelowBoxes.{boxes_are_shifted_shapes}
 use Rattle.source_lists.proofs.CountedFans.{kept_for}
-use Rattle.source_lists.proofs.ListedShapes.{box_segments, shape_segments}
+use Rattle.source_lists.proofs.ListedShapes.{box_segments, shape_segments, still_has}
 use Rattle.source_lists.proofs.Tallying.{by_cell}
 
 -- ---- one more shape
@@ -44,15 +44,7 @@ range_kept axes before after empty range same = λ k h.
     let segments : segments_at after k ≡ segments_at before k =
     ap (λ (r : SegmentRange). take (r.to - r.from) (drop r.from after.segments.items)) at ∙ ap (λ (rs : List Segment). take ((range_at before k).to - (range_at before k).from) (drop (range_at before k).from rs)) same
     in
-    record {
-      listed = record {
-        within = omega (arith, h.listed.within, ap length range.1, length-append before.ranges.items range.0);
-        ordered_ends = rw at h.listed.ordered_ends;
-        inside = rw at (omega (arith, h.listed.inside, ap length same));
-      };
-      some = rw segments h.some;
-      cells = h.cells ∙ ap (cells_from 0) (sym segments);
-    }
+    still_has axes before after k (omega (arith, ap length range.1, length-append before.ranges.items range.0)) at (omega (arith, ap length same)) segments h
 
 -- ---- the boxes that a loop has taken in
 

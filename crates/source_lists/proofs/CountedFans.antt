@@ -45,6 +45,10 @@ known_cells axes fans o b cells is grid ordered shapes some count =
     let counted = shapes (b.last - b.first) (omega (arith, count, some)) in
     rw is (count ∙ counted.cells ∙ sym (as_many axes b (is_moved axes o b is grid ordered)))
 
+-- a count that stays is still that of its shape
+pub counted_still : (axes : List Axis) (before after : List ℕ) (k : ℕ) → get_or after k 0 ≡ get_or before k 0 → IsCounted axes before k → IsCounted axes after k
+counted_still axes before after k same h = record { shape = h.shape; some = omega (arith, same, h.some); cells = same ∙ h.cells }
+
 -- ---- counts of 0 after the others
 
 zeros_sum : (more : List ℕ) → All (λ n. n ≡ 0) more → sum more ≡ 0
@@ -70,7 +74,7 @@ module _ (before after : List ℕ) (on : GoesOnIn 0 before after) where
 
 module _ (axes : List Axis) (before after : List ℕ) (on : GoesOnIn 0 before after) where
   counted_too : (k : ℕ) → IsCounted axes before k → IsCounted axes after k
-  counted_too k h = record { shape = h.shape; some = omega (arith, same_count before after on k, h.some); cells = same_count before after on k ∙ h.cells }
+  counted_too k = counted_still axes before after k (same_count before after on k)
 
   pub keeps_all : AreShapes axes before → KeepsFans axes before after
   keeps_all shapes = record {
@@ -97,15 +101,12 @@ module _ (axes : List Axis) (before : List ℕ) (distance cells : ℕ) (within :
   there : (k : ℕ) → k ≢ distance → get_or now k 0 ≡ get_or before k 0
   there k other = get_or-set_other before distance k cells 0 other
 
-  still_counted : (k : ℕ) → k ≢ distance → IsCounted axes before k → IsCounted axes now k
-  still_counted k other h = record { shape = h.shape; some = omega (arith, there k other, h.some); cells = there k other ∙ h.cells }
-
   keeps_fans : AreShapes axes before → KeepsFans axes before now
   keeps_fans shapes = record {
     shapes = λ k known. by_cell k distance
         (λ same. subst (IsCounted axes now) (sym same) counted_here)
-        (λ other. still_counted k other (shapes k (omega (arith, there k other, known))));
-    kept = λ k h. by_cell k distance (λ same. subst (IsCounted axes now) (sym same) counted_here) (λ other. still_counted k other h);
+        (λ other. counted_still axes before now k (there k other) (shapes k (omega (arith, there k other, known))));
+    kept = λ k h. by_cell k distance (λ same. subst (IsCounted axes now) (sym same) counted_here) (λ other. counted_still axes before now k (there k other) h);
   }
 
 -- The shape of a box was counted.

@@ -1,14 +1,12 @@
 -- The pairs that lead to a cell, one pair after another.
-use Rattle.std.proofs.Common.{◌≡◌, ℕ, suc, ◌+◌, ◌-◌, ◌<◌, ◌≤◌, Bool, true, false, ◌==◌, ◌||◌, cond, List, [], ◌∷◌, ◌++◌, length, replicate, get_or, Option, None, Contains, AllPairs, refl, sym, ap, ◌∙◌, arith}
+use Rattle.std.proofs.Common.{◌≡◌, ℕ, ◌+◌, ◌-◌, ◌<◌, ◌≤◌, Bool, true, false, ◌==◌, cond, List, [], ◌∷◌, ◌++◌, length, replicate, get_or, Option, None, Contains, AllPairs, refl, sym, ap, ◌∙◌, arith}
 use Rattle.std.specs.Prelude.{◌↔◌}
 use Rattle.std.specs.Cmp.{nat_eq_equiv}
 use Rattle.std.specs.List.{list_any, filter, range_with_len}
 use Rattle.std.specs.List.Sorted.{IsStrictlyIncreasing}
-use Rattle.std.proofs.lemmas.Bool.{eq-eqb, ne_eqb, false_from_ne_true}
 use Rattle.std.proofs.lemmas.Bool.Decides.{Decides-eqb}
 use Rattle.std.proofs.lemmas.List.Elements.{filter-append}
 use Rattle.std.proofs.lemmas.List.Kept.{AllPairs-from_increasing}
-use Rattle.std.proofs.lemmas.List.Sums.{sum_by-cons}
 use Rattle.std.proofs.lemmas.List.{length-append, length-replicate}
 use Rattle.std.proofs.lemmas.Map.Views.{list_any-from_Contains, Contains-from_any}
 use Rattle.rayon.specs.Shown.{run-append}
@@ -19,6 +17,7 @@ use Rattle.successor_box.specs.SuccessorBoxes.{cells_in}
 use Rattle.source_lists.specs.SourceLists.{leads_to, sources_among}
 use Rattle.source_lists.proofs.Tallying.{by_cell}
 use Rattle.base.proofs.Ranges.{filter-range_more}
+use Rattle.base.proofs.Times.{times_once, found}
 
 -- whether a list of cells has a cell
 pub has_any : (c : ℕ) (cells : List ℕ) → (list_any (◌==◌ c) cells ≡ true) ↔ Contains cells c
@@ -28,28 +27,19 @@ abbrev once : Bool → ℕ
 once b = cond b 1 0
 
 -- among rising cells a cell stands once or not at all
-times_once : (c : ℕ) (cells : List ℕ) → AllPairs (λ x y. x < y) cells → times c cells ≡ cond (list_any (◌==◌ c) cells) 1 0
-times_once c [] rising = refl
-times_once c (x ∷ cells) rising =
-    sum_by-cons (λ y. cond (y == c) 1 0) x cells ∙ at_head (times_once c cells (λ i j d lt within. rising (suc i) (suc j) d (omega (arith, lt)) (omega (arith, within))))
+once_or_never : (c : ℕ) (cells : List ℕ) → AllPairs (λ x y. x < y) cells → times c cells ≡ once (list_any (◌==◌ c) cells)
+once_or_never c cells rising = by_test (list_any (◌==◌ c) cells) refl
   where
-    none : c ≡ x → list_any (◌==◌ c) cells ≡ false
-    none same = false_from_ne_true (list_any (◌==◌ c) cells) (λ e.
-        let has = (has_any c cells).0 e in
-        absurd (omega (arith, rising 0 (suc has.0) c (omega arith) (omega (arith, has.1)), has.2, same)))
-
-    at_head : times c cells ≡ once (list_any (◌==◌ c) cells) → once (x == c) + times c cells ≡ once ((c == x) || list_any (◌==◌ c) cells)
-    at_head later =
-        by_cell c x
-        (λ same. rw (eq-eqb x c (sym same), eq-eqb c x same) (omega (arith, later ∙ ap once (none same))))
-        (λ other. rw (ne_eqb x c (λ same. other (sym same)), ne_eqb c x other) (omega (arith, later)))
+    by_test : (b : Bool) → list_any (◌==◌ c) cells ≡ b → times c cells ≡ once b
+    by_test true e = times_once c cells (λ i j d lt within same. omega (arith, rising i j d lt within, same)) ((has_any c cells).0 e)
+    by_test false e = by_cell (times c cells) 0 (λ none. none) (λ some. absurd (let has = (has_any c cells).1 (found c cells (omega (arith, some))) in cc))
 
 module _ (axes : List Axis) (boxes : List (Option CellBox)) (c k : ℕ) (rising : IsStrictlyIncreasing (cells_in axes (get_or boxes k None))) where
   abbrev cells : List ℕ
   cells = cells_in axes (get_or boxes k None)
 
   here : replicate (times c cells) k ≡ cond (leads_to axes boxes c k) (k ∷ []) []
-  here = ap (λ (n : ℕ). replicate n k) (times_once c cells (AllPairs-from_increasing cells rising)) ∙ both (leads_to axes boxes c k)
+  here = ap (λ (n : ℕ). replicate n k) (once_or_never c cells (AllPairs-from_increasing cells rising)) ∙ both (leads_to axes boxes c k)
     where
       both : (b : Bool) → replicate (once b) k ≡ cond b (k ∷ []) []
       both true = refl

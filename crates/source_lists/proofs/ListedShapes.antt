@@ -74,6 +74,19 @@ new_slice : (xs more : List Segment) → take (length (xs ++ more) - length xs) 
 new_slice xs more =
     ap (take (length (xs ++ more) - length xs)) (drop-append_seam xs more) ∙ take_all (length (xs ++ more) - length xs) more (omega (arith, length-append xs more))
 
+-- a shape whose range and segments stay still has its segments
+pub still_has : (axes : List Axis) (before after : Shapes) (k : ℕ) → length before.ranges.items ≤ length after.ranges.items → range_at after k ≡ range_at before k →
+    length before.segments.items ≤ length after.segments.items → segments_at after k ≡ segments_at before k → HasSegmentsAt axes before k → HasSegmentsAt axes after k
+still_has axes before after k ranges at segments same h = record {
+  listed = record {
+    within = omega (arith, ranges, h.listed.within);
+    ordered_ends = rw at h.listed.ordered_ends;
+    inside = rw at (omega (arith, segments, h.listed.inside));
+  };
+  some = rw same h.some;
+  cells = h.cells ∙ ap (cells_from 0) (sym same);
+}
+
 module _ (axes : List Axis) (before after : Shapes) (distance_along : ℕ) (within : distance_along < length before.ranges.items)
     (ranges : after.ranges.items ≡ set before.ranges.items distance_along (record { from = length before.segments.items; to = length after.segments.items }))
     (lists : ListsSegments before.segments.items after.segments.items (cells_between axes 0 distance_along)) where
@@ -113,15 +126,7 @@ module _ (axes : List Axis) (before after : Shapes) (distance_along : ℕ) (with
       ∙ ap (λ xs. take ((range_at before k).to - (range_at before k).from) (drop (range_at before k).from xs)) lists.appended
       ∙ after_slice (range_at before k).from (range_at before k).to before.segments.items lists.more h.listed.ordered_ends h.listed.inside
       in
-      record {
-        listed = record {
-          within = omega (arith, h.listed.within, ap length ranges, length-set before.ranges.items distance_along here);
-          ordered_ends = rw (range_other k other) h.listed.ordered_ends;
-          inside = rw (range_other k other) (omega (arith, h.listed.inside, long));
-        };
-        some = rw same h.some;
-        cells = h.cells ∙ ap (cells_from 0) (sym same);
-      }
+      still_has axes before after k (omega (arith, ap length ranges, length-set before.ranges.items distance_along here)) (range_other k other) long same h
 
   pub keeps : KeepsSegments axes before after
   keeps k h = by_cell k distance_along (λ same. subst (HasSegmentsAt axes after) (sym same) has_here) (λ other. kept_other k other h)

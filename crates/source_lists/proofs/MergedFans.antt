@@ -14,7 +14,7 @@ use Rattle.successor_box.specs.SuccessorBoxes.{cells_in}
 use Rattle.source_lists.specs.inside.FanCounts.{GoesOnIn, known_count, AreMerged, CountBoxes}
 use Rattle.source_lists.specs.Fans.{IsCounted, AreShapes, HasFan, FanIsKnown, AreFansOf}
 use Rattle.plant_game.specs.BoxGame.{IsBox, edges_of}
-use Rattle.source_lists.proofs.CountedFans.{same_count, same_sum, counted_within}
+use Rattle.source_lists.proofs.CountedFans.{same_count, same_sum, counted_still, counted_within}
 use Rattle.source_lists.proofs.SourceSteps.{edges_fit}
 use Rattle.source_lists.proofs.Tallying.{by_cell}
 
@@ -117,9 +117,7 @@ module _ (axes : List Axis) (before other after : List ℕ) (m : AreMerged befor
   first_stays d some = m.each d ∙ known-some (get_or before d 0) (get_or other d 0) some
 
   first_counted : (d : ℕ) → IsCounted axes before d → IsCounted axes after d
-  first_counted d h =
-      let same = first_stays d h.some in
-      record { shape = h.shape; some = omega (arith, same, h.some); cells = same ∙ h.cells }
+  first_counted d h = counted_still axes before after d (first_stays d h.some) h
 
   -- where both have a count it is that of the shape
   second_stays : AreShapes axes before → (d : ℕ) → IsCounted axes other d → get_or after d 0 ≡ get_or other d 0
@@ -128,9 +126,7 @@ module _ (axes : List Axis) (before other after : List ℕ) (m : AreMerged befor
       (λ some. let one : 1 ≤ get_or before d 0 = omega (arith, some) in first_stays d one ∙ (shapes d one).cells ∙ sym h.cells)
 
   second_counted : AreShapes axes before → (d : ℕ) → IsCounted axes other d → IsCounted axes after d
-  second_counted shapes d h =
-      let same = second_stays shapes d h in
-      record { shape = h.shape; some = omega (arith, same, h.some); cells = same ∙ h.cells }
+  second_counted shapes d h = counted_still axes other after d (second_stays shapes d h) h
 
   -- each count that is left is that of a shape
   merged_shapes : AreShapes axes before → AreShapes axes other → AreShapes axes after

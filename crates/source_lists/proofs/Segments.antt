@@ -1,8 +1,9 @@
 -- Segments of cells that are listed, and the boxes that have their shape.
-use Rattle.std.proofs.Common.{◌≡◌, ℕ, zero, suc, ◌+◌, ◌-◌, ◌<◌, ◌≤◌, List, [], ◌∷◌, ◌++◌, All, length, take, drop, get_or, refl, sym, ap, subst, ◌∙◌, arith, append_assoc, append-nil}
+use Rattle.std.proofs.Common.{◌≡◌, ℕ, ◌+◌, ◌-◌, ◌<◌, ◌≤◌, List, [], ◌∷◌, ◌++◌, All, length, take, drop, get_or, refl, sym, ap, subst, ◌∙◌, arith, append_assoc, append-nil}
 use Rattle.std.specs.List.{range_with_len}
 use Rattle.std.proofs.lemmas.List.{length-append, take_more, take-append-drop}
 use Rattle.std.proofs.lemmas.List.Concat.{flat_map-append}
+use Rattle.std.proofs.lemmas.List.Elements.{All-push}
 use Rattle.std.proofs.lemmas.List.FromFn.{length-range_with_len, get_or-range_with_len}
 use Rattle.rayon.proofs.ListFacts.{All-parts}
 use Rattle.grid_quantiser.specs.Segments.{BeginsWithSegment}
@@ -33,18 +34,6 @@ pub record ListsSoFar (before now : List Segment) (cells left : List ℕ) : Type
 pub listed_none : (before : List Segment) (cells : List ℕ) → ListsSoFar before before cells cells
 listed_none before cells = record { more = []; appended = sym (append-nil before); some = λ k d lt. absurd (omega (arith, lt)); parts = refl; few = omega arith }
 
-one : (r : Segment) → HasCell r → All HasCell (r ∷ [])
-one r some zero d lt = some
-one r some (suc k) d lt = absurd (omega (arith, lt))
-
-both : (xs ys : List Segment) → All HasCell xs → All HasCell ys → All HasCell (xs ++ ys)
-both [] ys hx hy = hy
-both (x ∷ xs) ys hx hy = step (both xs ys (λ k d lt. hx (suc k) d (omega (arith, lt))) hy)
-  where
-    step : All HasCell (xs ++ ys) → All HasCell (x ∷ (xs ++ ys))
-    step later zero d lt = hx 0 d (omega arith)
-    step later (suc k) d lt = later k d (omega (arith, lt))
-
 pub listed_more : (before now : List Segment) (cells left later : List ℕ) (r : Segment) → ListsSoFar before now cells left → BeginsWithSegment left later r.start r.len → ListsSoFar before (now ++ r ∷ []) cells later
 listed_more before now cells left later r h segment =
     let start : 0 + r.start ≡ r.start = omega arith in
@@ -52,7 +41,7 @@ listed_more before now cells left later r h segment =
     record {
       more = h.more ++ r ∷ [];
       appended = ap (λ xs. xs ++ r ∷ []) h.appended ∙ append_assoc before h.more (r ∷ []);
-      some = both h.more (r ∷ []) h.some (one r segment.some);
+      some = All-push HasCell h.more r h.some segment.some;
       parts = h.parts
           ∙ ap (λ xs. cells_from 0 h.more ++ xs) segment.parts
           ∙ sym (append_assoc (cells_from 0 h.more) (range_with_len r.start r.len) later)

@@ -10,24 +10,24 @@ use Rattle.source_lists.specs.inside.Intakes.{IsIntake}
 pub counted_none : (counts : List ℕ) → AreCounted counts counts []
 counted_none counts = record { long = refl; each = λ c. omega arith; total = omega arith }
 
+pub counted_more : (before now after cells more : List ℕ) → AreCounted before now cells → AreCounted now after more → AreCounted before after (cells ++ more)
+counted_more before now after cells more h g = record {
+  long = g.long ∙ h.long;
+  each = λ c. omega (arith, g.each c, h.each c, times-append c cells more);
+  total = omega (arith, g.total, h.total, length-append cells more);
+}
+
 -- counts behind a name, which stays
 pub counts_lawful : (A N : Type 0) (counts : A → List ℕ) (name : A → N) →
     IsIntake A (λ v. length (counts v)) (λ v cells. CountsFit (counts v) cells) (λ pair v w cells. AreCounted (counts v) (counts w) cells × (name w ≡ name v))
 counts_lawful A N counts name = record {
   slots_stay = λ pair before after cells h. h.0.long;
   none = λ pair v. (counted_none (counts v), refl);
-  more = λ pair before now after cells more h g. (
-    record {
-      long = g.0.long ∙ h.0.long;
-      each = λ c. omega (arith, g.0.each c, h.0.each c, times-append c cells more);
-      total = omega (arith, g.0.total, h.0.total, length-append cells more);
-    },
-    g.1 ∙ h.1,
-  );
+  more = λ pair before now after cells more h g. (counted_more (counts before) (counts now) (counts after) cells more h.0 g.0, g.1 ∙ h.1);
   room_left = λ pair before now done cells later h capacity c. omega (arith, h.0.each c, capacity c, times-append c (done ++ cells) later, times-append c done cells);
 }
 
-put_more : (pair : ℕ) (before now after : Filling) (cells more : List ℕ) → ArePut pair before now cells → ArePut pair now after more → ArePut pair before after (cells ++ more)
+pub put_more : (pair : ℕ) (before now after : Filling) (cells more : List ℕ) → ArePut pair before now cells → ArePut pair now after more → ArePut pair before after (cells ++ more)
 put_more pair before now after cells more h g = record {
   long = g.long ∙ h.long;
   lengths = g.lengths ∙ h.lengths;

@@ -27,8 +27,5 @@ loop-c-preserved g c =
 pub returns-clause-list : goal.returns-clause-list
 returns-clause-list g c =
     let game = g.L.Rule.game c.args.rule.now in
-    let e = c.cells-c-end.ensures in
-    let t = c.loop-c-test.false in
-    let a = c.loop-c.auto.c-end in
     let same : c.loop-c.c ≡ game.cells = omega arith in
     c.loop-c.invariant.cells ∙ ap (λ (n : ℕ). filter (g.L.Rule.first c.args.rule.now) (range_with_len 0 n)) same

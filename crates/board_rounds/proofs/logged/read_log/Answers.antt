@@ -23,7 +23,6 @@ logged-requires-clause-settled c = ap (λ (r : RootModel). r.out) c.loop-at.inva
 
 pub logged-requires-clause-at : goal.logged-requires-clause-at
 logged-requires-clause-at c =
-    let end = c.log_len-filled.ensures.filled c.requires.few in
     let lt : c.loop-at.at < filled_slots c.args.root.now.accounts c.args.board.now.slots = (let t = c.loop-at-test.true in omega arith) in
     subst (λ (r : RootModel). c.loop-at.at < filled_slots r.accounts c.args.board.now.slots) (sym c.loop-at.invariant.same) lt
 
@@ -33,7 +32,6 @@ loop-at-preserved c =
     let logs = all_logs c.args.root.now.accounts in
     let cells = λ (n : ℕ). map (λ slot. cell_at slot logs) (range_with_len c.args.listed n) in
     let at = c.loop-at.at in
-    let from = c.loop-at.auto.at in
     let read : c.logged.result ≡ cell_at at logs =
     subst (λ (r : RootModel). log_count r.accounts < 2 ^ 64 → c.logged.result ≡ cell_at at (all_logs r.accounts)) before.same c.logged.ensures.cell c.requires.few in
     record {
@@ -54,9 +52,4 @@ returns-clause-listed c = let end = c.log_len-filled.ensures.filled c.requires.f
 pub returns-clause-list : goal.returns-clause-list
 returns-clause-list c =
     let cells = λ (n : ℕ). map (λ slot. cell_at slot (all_logs c.args.root.now.accounts)) (range_with_len c.args.listed n) in
-    let end = c.log_len-filled.ensures.filled c.requires.few in
-    let p = c.requires.slots.0 in
-    let from = c.loop-at.auto.at in
-    let most = c.loop-at.auto.at-end in
-    let past = c.loop-at-test.false in
     c.loop-at.invariant.cells ∙ ap cells {x = c.loop-at.at - c.args.listed} {y = log_count c.args.root.now.accounts - c.args.listed} (omega arith)

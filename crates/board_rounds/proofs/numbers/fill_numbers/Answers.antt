@@ -9,8 +9,7 @@ pub overflow_add-end : goal.overflow_add-end
 overflow_add-end g c =
     let game = g.G.Forward.game c.args.g.now in
     let a : IsGraph game = g.met.G.Forward.lawful c.args.g.now in
-    let many = words_many game a (g.S.Start.number game) in
-    omega (arith, c.requires.within, a.pairs_bound, a.cells_bound)
+    omega (arith, c.requires.within, a.pairs_bound, a.cells_bound, words_many game a (g.S.Start.number game))
 
 pub loop-pair-init : goal.loop-pair-init
 loop-pair-init g c =

@@ -25,7 +25,6 @@ loop-c-preserved g c =
     let before = c.loop-c.invariant in
     let old = c.loop-c.answer in
     let row = c.row-row.result in
-    let lt : n < (g.L.Rule.game rule).cells = (let e = c.cells-c-end.ensures in let t = c.loop-c-test.true in omega arith) in
     let at : n < length old = (let m = before.one_each in omega arith) in
     let told = subst (λ (r : RootModel). g.L.Rule.tells rule r.accounts n row) before.same c.row-row.ensures.row in
     record {
@@ -42,6 +41,4 @@ returns-clause-root g c = c.loop-c.invariant.same
 
 pub returns-clause-rows : goal.returns-clause-rows
 returns-clause-rows g c =
-    let e = c.cells-c-end.ensures in
-    let t = c.loop-c-test.false in
     record { one_each = c.loop-c.invariant.one_each; each = λ k lt. c.loop-c.invariant.so_far k (omega arith) }

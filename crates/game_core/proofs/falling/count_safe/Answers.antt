@@ -11,11 +11,8 @@ use Rattle.game_core.proofs.falling.count_safe.Goals.{then-safe-first, else-safe
 
 pub overflow_add-count : goal.overflow_add-count
 overflow_add-count g c =
-    let count = c.loop-input.invariant in
     let most = count_by-le-length (λ u. is_safe c.args.safe.now (pair_of (g.G.Graph.game c.args.g.now) c.args.c u)) (range_with_len 0 c.loop-input.input) in
     let len = length-range_with_len 0 c.loop-input.input in
-    let below = c.loop-input-test.true in
-    let fits = c.inputs-input-end.type_inv in
     omega arith
 
 pub loop-input-preserved : goal.loop-input-preserved
@@ -24,7 +21,6 @@ loop-input-preserved g c =
     let more = count_range_more (λ u. is_safe c.args.safe.now (pair_of game c.args.c u)) c.loop-input.input in
     let same : get_or c.args.safe.now (pair_of game c.args.c c.loop-input.input) false ≡ get_or c.args.safe.now (c.args.c * c.inputs.result + c.loop-input.input) false =
     ap (λ n. get_or c.args.safe.now (c.args.c * n + c.loop-input.input) false) (sym c.inputs.ensures) in
-    let count = c.loop-input.invariant in
     elim c.if-safe-first.branch [
       | then-safe-first w ↦ let is = w.count-is in let one : one_if (is_safe c.args.safe.now (pair_of game c.args.c c.loop-input.input)) ≡ 1 = ap one_if (same ∙ w.if-safe-first.true) in omega arith
       | else-safe-first w ↦ let is = w.count-is in let none : one_if (is_safe c.args.safe.now (pair_of game c.args.c c.loop-input.input)) ≡ 0 = ap one_if (same ∙ w.if-safe-first.false) in omega arith

@@ -8,5 +8,4 @@ pub returns : goal.returns
 returns g c =
     let game = g.G.Graph.game c.args.g.now in
     let pairs : c.cells.result * c.inputs.result ≡ pairs_of game = ap₂ ◌*◌ c.cells.ensures c.inputs.ensures in
-    let past = c.loop-pair-test.false in
     fill_by_all (is_live game) c.loop-pair.safe.items (pairs_of game) false c.loop-pair.invariant.one_each (λ k lt. c.loop-pair.invariant.so_far k (omega arith))

@@ -16,8 +16,6 @@ loop-pair-preserved g c =
     let game = g.G.Forward.game c.args.g.now in
     let one_list_each = (g.met.G.Forward.lawful c.args.g.now).game.one_list_each in
     let pairs : c.cells.result * c.inputs.result ≡ pairs_of game = ap₂ ◌*◌ c.cells.ensures c.inputs.ensures in
-    let below = c.loop-pair-test.true in
-    let size = c.loop-pair.invariant.0 in
     let same = length-set c.loop-pair.fans.items c.loop-pair.pair c.from.result in
     (omega arith, one_more game.successors c.loop-pair.fans.items c.loop-pair.pair c.from.result (omega arith) (omega arith) (let e = c.from.ensures in let f = c.fan.ensures in omega arith) c.loop-pair.invariant.1)
 
@@ -26,7 +24,5 @@ returns g c =
     let game = g.G.Forward.game c.args.g.now in
     let one_list_each = (g.met.G.Forward.lawful c.args.g.now).game.one_list_each in
     let pairs : c.cells.result * c.inputs.result ≡ pairs_of game = ap₂ ◌*◌ c.cells.ensures c.inputs.ensures in
-    let past = c.loop-pair-test.false in
-    let size = c.loop-pair.invariant.0 in
     let same = length-map game.successors length in
     sym (take_all c.loop-pair.pair c.loop-pair.fans.items (omega arith)) ∙ (c.loop-pair.invariant.1 ∙ take_all c.loop-pair.pair (map length game.successors) (omega arith))

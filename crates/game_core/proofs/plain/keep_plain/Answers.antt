@@ -10,8 +10,6 @@ pub returns : goal.returns
 returns g c =
     let game = g.G.Graph.game c.args.g.now in
     let a = (g.met.G.Graph.lawful c.args.g.now).game in
-    let found = c.found.ensures in
-    let test = c.loop-head-test.false in
     let p = c.loop-head.falling in
     let all : length p.queue ≤ c.loop-head.head = omega arith in
     IfOk-weaker c.rows.result (AreFirstSafe game p.safe) (IsKeepSolution game)

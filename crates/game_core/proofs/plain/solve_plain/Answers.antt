@@ -14,11 +14,7 @@ solution_from_searched g a p head long h = solution_from_consistent g p.rows a (
 -- a cell is left for each step to come
 nearer : (g : Game) (head : ℕ) (p q : SearchProgress) → IsSearched g head p → IsSearched g (head + 1) q → head < length q.queue → length q.rows - (head + 1) < length p.rows - head
 nearer g head p q h k lt =
-    let size = k.search.queue.size in
-    let most = count_by-le-length is_some q.rows in
-    let m = h.search.told.one_each in
-    let n = k.search.told.one_each in
-    omega arith
+    omega (arith, count_by-le-length is_some q.rows)
 
 pub loop-head-init : goal.loop-head-init
 loop-head-init g c = (searched_none (g.G.Graph.game c.args.g.now) (g.met.G.Graph.lawful c.args.g.now).game c.gather.new.self c.gather.ensures, omega arith)
@@ -32,7 +28,5 @@ loop-head-preserved g c = (c.take.ensures.searched, let t = c.take.ensures.at in
 pub returns : goal.returns
 returns g c =
     let game = g.G.Graph.game c.args.g.now in
-    let found = c.found.ensures in
-    let test = c.loop-head-test.false in
     subst (IsReachSolution game) {x = c.loop-head.search.rows} (sym c.into_answer.ensures)
     (solution_from_searched game (g.met.G.Graph.lawful c.args.g.now).game c.loop-head.search c.loop-head.head (omega arith) c.loop-head.invariant.0)

@@ -7,7 +7,6 @@ use Rattle.safety_game.proofs.keep_rule.is_whole.Goals as goal
 pub left-left-requires-clause-counter : goal.left-left-requires-clause-counter
 left-left-requires-clause-counter g c =
     let many = counters_of_board (g.G.Graph.game c.args.g.now) (g.met.G.Graph.lawful c.args.g.now) c.args.board.now c.requires.board in
-    let lt = c.requires.pair in
     omega arith
 
 pub returns-then-fan-gt0-clause-whole : goal.returns-then-fan-gt0-clause-whole

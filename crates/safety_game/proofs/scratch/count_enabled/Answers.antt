@@ -13,11 +13,8 @@ pub overflow_add-count : goal.overflow_add-count
 overflow_add-count g c =
     let game = g.G.Forward.game c.args.g.now in
     let first = c.args.c * game.inputs in
-    let count = c.loop-input.invariant in
     let most = count_by-le-length (λ pair. nat_lt 0 (length (successors_at game pair))) (range_with_len first c.loop-input.input) in
     let len = length-range_with_len first c.loop-input.input in
-    let below = c.loop-input-test.true in
-    let fits = c.inputs-input-end.type_inv in
     omega arith
 
 pub loop-input-preserved : goal.loop-input-preserved
@@ -26,16 +23,9 @@ loop-input-preserved g c =
     let pair = c.args.c * game.inputs + c.loop-input.input in
     let more = count_more (λ pair. nat_lt 0 (length (successors_at game pair))) (c.args.c * game.inputs) c.loop-input.input in
     let fan : length (successors_at game pair) ≡ c.fan.result = ap (λ n. length (successors_at game (c.args.c * n + c.loop-input.input))) (sym c.inputs.ensures) ∙ sym c.fan.ensures in
-    let count = c.loop-input.invariant in
     elim c.if-fan-gt0.branch [
       | then-fan-gt0 w ↦
-          let is = w.count-is in
-          let test = w.if-fan-gt0.true in
-          let one : one_if (nat_lt 0 (length (successors_at game pair))) ≡ 1 = ap one_if (lt-ltb 0 (length (successors_at game pair)) (omega arith)) in
-          omega arith
+          omega (arith, ap one_if (lt-ltb 0 (length (successors_at game pair)) (omega arith)))
       | else-fan-gt0 w ↦
-          let is = w.count-is in
-          let test = w.if-fan-gt0.false in
-          let none : one_if (nat_lt 0 (length (successors_at game pair))) ≡ 0 = ap one_if (le-ltb 0 (length (successors_at game pair)) (omega arith)) in
-          omega arith
+          omega (arith, w.if-fan-gt0.false, ap one_if (le-ltb 0 (length (successors_at game pair)) (omega arith)))
     ]

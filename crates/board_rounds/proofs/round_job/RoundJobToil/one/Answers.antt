@@ -11,8 +11,7 @@ use Rattle.board_rounds.proofs.round_job.RoundJobToil.one.Goals as goal
 -- the pairs that lead to a cell have counters
 have_counters : (game : Game) (cell : ℕ) (starts pairs : List ℕ) → pairs_of game ≤ length starts → AreSources game cell pairs → All (λ pair. pair < length starts) pairs
 have_counters game cell starts pairs many h k d lt =
-    let pair = ((h.exactly (get_or pairs k d)).0 (Contains-get_or pairs k d lt)).0 in
-    omega arith
+    omega (arith, ((h.exactly (get_or pairs k d)).0 (Contains-get_or pairs k d lt)).0)
 
 pub prefetch_list-requires : goal.prefetch_list-requires
 prefetch_list-requires g c =
@@ -28,7 +27,6 @@ pub cut-requires-clause-enabled : goal.cut-requires-clause-enabled
 cut-requires-clause-enabled g c =
     let pairs = c.sources-sources.result.now in
     let has = ((c.sources-sources.ensures.exactly (get_or pairs c.loop-pair.pair-index 0)).0 (Contains-get_or pairs c.loop-pair.pair-index 0 c.loop-pair-test.true)).1 in
-    let lt = has.1 in
     omega arith
 
 pub loop-pair-init : goal.loop-pair-init

@@ -18,10 +18,7 @@ invariant_of-round_job g c =
     let was = c.requires.holds_before in
     let list = old.list.items in
     let leads = (g.met.L.Rule g.world.𝓛 g.world.𝓜 g.world.𝓡 (here g.world)).leads_on rule c.args.board.now c.requires.board in
-    let soon = was.early (omega (arith, c.requires.some, old.list.ok.0)) in
     let most = leads.few old.tally.rounds list old.root.accounts was.by_rule in
-    let all = was.all_listed in
-    let bound = leads.graph.cells_bound in
     let within : All (λ s. s < cells) list = leads.within old.tally.rounds list old.root.accounts was.by_rule in
     record {
       is_round_job = record {
@@ -46,16 +43,11 @@ read_log-self-requires-clause-slots g c =
     (subst (λ n. IsPermutation (range_with_len 0 n) (notes_of members)) (omega (arith, c.len-items.ensures, c.arrange.ensures.long, old.list.ok.0, c.arrange.new.list.ok.0)) c.do_items.ensures.swept)
     (c.take_in.ensures.accounts ∙ ap (λ l. l ++ reverse (accounts_of members)) {y = old.root.accounts} (ap (λ (r : RootModel). r.accounts) c.add_workers.ensures.root))
     c.take_in.ensures.lawful in
-    let slots = c.requires.slots in
-    let capacity = c.requires.holds_before.capacity in
     (omega arith, omega arith)
 
 pub read_log-self-requires-clause-few : goal.read_log-self-requires-clause-few
 read_log-self-requires-clause-few g c =
-    let few = (read_log-self-requires-clause-slots g c).0 in
-    let slots = c.requires.slots in
-    let most = ((g.met.L.Rule g.world.𝓛 g.world.𝓜 g.world.𝓡 (here g.world)).leads_on c.args.rule.now c.args.board.now c.requires.board).graph.cells_bound in
-    omega arith
+    omega (arith, (read_log-self-requires-clause-slots g c).0)
 
 pub returns : goal.returns
 returns g c =

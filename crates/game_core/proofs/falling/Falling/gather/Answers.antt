@@ -13,11 +13,7 @@ left_of-requires g c = let n = c.loop-c.invariant.safe.one_number_each in let e 
 pub fall-requires : goal.fall-requires
 fall-requires g c =
     let game = g.G.Graph.game c.args.g.now in
-    let few = queue_below game c.loop-c.c c.loop-c.self c.loop-c.invariant.fallen in
-    let n = c.loop-c.invariant.safe.one_number_each in
-    let e = c.cells-c-end.ensures in
-    let t = c.loop-c-test.true in
-    omega arith
+    omega (arith, queue_below game c.loop-c.c c.loop-c.self c.loop-c.invariant.fallen)
 
 pub loop-c-preserved : goal.loop-c-preserved
 loop-c-preserved g c =
@@ -34,8 +30,5 @@ loop-c-preserved g c =
 
 pub returns : goal.returns
 returns g c =
-    let e = c.cells-c-end.ensures in
-    let t = c.loop-c-test.false in
-    let a = c.loop-c.auto.c-end in
     let same : c.loop-c.c ≡ (g.G.Graph.game c.args.g.now).cells = omega arith in
     subst (λ n. IsFalling (g.G.Graph.game c.args.g.now) n 0 c.loop-c.self) same c.loop-c.invariant

@@ -7,7 +7,6 @@ pub sources-pair-items-requires : goal.sources-pair-items-requires
 sources-pair-items-requires g c =
     let p = c.args.self.now in
     let has = (c.requires.falling.fallen.empty (get_or p.queue c.args.head 0) (Contains-get_or p.queue c.args.head 0 c.requires.at)).0 in
-    let e = c.cell_at-c.ensures in
     omega arith
 
 pub lose-requires-clause-pair : goal.lose-requires-clause-pair

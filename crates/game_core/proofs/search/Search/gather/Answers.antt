@@ -29,8 +29,5 @@ loop-c-preserved g c =
 
 pub returns : goal.returns
 returns g c =
-    let e = c.cells-c-end.ensures in
-    let t = c.loop-c-test.false in
-    let a = c.loop-c.auto.c-end in
     let same : c.loop-c.c ≡ (g.G.Graph.game c.args.g.now).cells = omega arith in
     subst (λ n. IsGathered (g.G.Graph.game c.args.g.now) n c.loop-c.self) same c.loop-c.invariant

@@ -19,11 +19,9 @@ pub index_mut-requires : goal.index_mut-requires
 index_mut-requires c =
     let s = c.self.inside in
     let view : length s.answer ≡ length c.args.self.now.rows = ap (λ (p : SearchProgress). length p.rows) c.self.view_is in
-    let within = c.requires.within in
     let lt : c.args.c < length s.answer = omega arith in
     let none : row_of s.answer c.args.c ≡ None = ap (λ (p : SearchProgress). row_of p.rows c.args.c) c.self.view_is ∙ c.requires.first in
     let position = has_position s.answer s.order.items s.found c.args.c c.args.row c.self.invariant.one_position_each c.self.invariant.counted lt none in
-    let len = s.order.ok in
     omega arith
 
 abbrev with_rows : List ℕ → List (Option Row) → List ℕ → SearchProgress
@@ -33,7 +31,6 @@ pub returns : goal.returns
 returns c =
     let s = c.self.inside in
     let view : length s.answer ≡ length c.args.self.now.rows = ap (λ (p : SearchProgress). length p.rows) c.self.view_is in
-    let within = c.requires.within in
     let lt : c.args.c < length s.answer = omega arith in
     let none : row_of s.answer c.args.c ≡ None = ap (λ (p : SearchProgress). row_of p.rows c.args.c) c.self.view_is ∙ c.requires.first in
     let position = has_position s.answer s.order.items s.found c.args.c c.args.row c.self.invariant.one_position_each c.self.invariant.counted lt none in

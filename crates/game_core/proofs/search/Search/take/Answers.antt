@@ -1,4 +1,4 @@
-use Rattle.std.proofs.Common.{◌≡◌, ℕ, suc, ◌+◌, ◌^◌, ◌<◌, length, length-append, ◌++◌, get_or, Contains, is_some, arith, subst, sym, ap}
+use Rattle.std.proofs.Common.{◌≡◌, ℕ, suc, ◌+◌, ◌^◌, ◌<◌, length, length-append, get_or, Contains, is_some, arith, subst, sym, ap}
 use Rattle.std.proofs.lemmas.List.Elements.{Contains-get_or}
 use Rattle.std.proofs.lemmas.List.Sums.{count_by-le-length}
 use Rattle.game_core.proofs.Rows.{below_from_row}
@@ -17,14 +17,7 @@ cell_below g head p h lt c e =
 -- its rank is below the number of cells
 rank_below : (g : Game) → IsGraph g → (head : ℕ) (p : SearchProgress) → IsSearched g head p → head < length p.queue → (c : ℕ) → c ≡ get_or p.queue head 0 → rank_at p.rows c < 2 ^ 20
 rank_below g a head p h lt c e =
-    let q = h.search.queue in
-    let short = q.short head 0 lt in
-    let same : rank_at p.rows c ≡ rank_at p.rows (get_or p.queue head 0) = ap (rank_at p.rows) e in
-    let size = q.size in
-    let most = count_by-le-length is_some p.rows in
-    let cells = h.search.told.one_each in
-    let bound = a.cells_bound in
-    omega arith
+    omega (arith, h.search.queue, ap (rank_at p.rows) e, count_by-le-length is_some p.rows)
 
 pub rank_of-rank-requires : goal.rank_of-rank-requires
 rank_of-rank-requires g c = cell_below (g.G.Graph.game c.args.g.now) c.args.head c.args.self.now c.requires.searched c.requires.at c.cell_at-c.result c.cell_at-c.ensures
@@ -32,18 +25,15 @@ rank_of-rank-requires g c = cell_below (g.G.Graph.game c.args.g.now) c.args.head
 pub overflow_add-rank : goal.overflow_add-rank
 overflow_add-rank g c =
     let low = rank_below (g.G.Graph.game c.args.g.now) (g.met.G.Graph.lawful c.args.g.now) c.args.head c.args.self.now c.requires.searched c.requires.at c.cell_at-c.result c.cell_at-c.ensures in
-    let e = c.rank_of-rank.ensures in
     omega arith
 
 pub sources-pair-items-requires : goal.sources-pair-items-requires
 sources-pair-items-requires g c =
     let lt = cell_below (g.G.Graph.game c.args.g.now) c.args.head c.args.self.now c.requires.searched c.requires.at c.cell_at-c.result c.cell_at-c.ensures in
-    let cells = c.requires.searched.search.told.one_each in
     omega arith
 
 pub loop-pair-init : goal.loop-pair-init
 loop-pair-init g c =
-    let e = c.rank_of-rank.ensures in
     let top : c.rank_of-rank.result + 1 ≡ suc (rank_at c.args.self.now.rows c.cell_at-c.result) = omega arith in
     taking_start (g.G.Graph.game c.args.g.now) c.args.head c.cell_at-c.result c.sources-pair-items.result.now c.args.self.now c.requires.at (sym c.cell_at-c.ensures) (c.rank_of-rank.result + 1) top c.requires.searched
 
@@ -72,7 +62,4 @@ returns-clause-searched g c =
 pub returns-clause-at : goal.returns-clause-at
 returns-clause-at g c =
     let grows = c.loop-pair.invariant.grows in
-    let same : length c.loop-pair.self.queue ≡ length (c.args.self.now.queue ++ grows.more) = ap length grows.is in
-    let sum = length-append c.args.self.now.queue grows.more in
-    let before = c.requires.at in
-    omega arith
+    omega (arith, ap length grows.is, length-append c.args.self.now.queue grows.more)

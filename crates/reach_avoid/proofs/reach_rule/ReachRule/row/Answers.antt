@@ -9,7 +9,6 @@ pub read-requires-clause-word : goal.read-requires-clause-word
 read-requires-clause-word g c =
     let rule = c.args.self.now in
     let words = words_of_board (g.G.Graph.game rule.graph.now) rule.is_graph c.args.board.now c.requires.board.of_game in
-    let lt = c.requires.cell in
     omega arith
 
 pub decoded_row-requires : goal.decoded_row-requires

@@ -1,4 +1,4 @@
-use Rattle.std.proofs.Common.{ℕ, ◌*◌, sym, ◌∙◌, ap₂}
+use Rattle.std.proofs.Common.{◌*◌, sym, ◌∙◌, ap₂}
 use Rattle.board_rounds.proofs.Boards.{fans_many}
 use Rattle.reach_avoid.proofs.scratch.ReachStartStart.count_counters.Goals as goal
 

@@ -5,7 +5,4 @@ use Rattle.safety_game.proofs.keep_rule.Keep.cut_cell.Goals as goal
 pub cut-requires-clause-counter : goal.cut-requires-clause-counter
 cut-requires-clause-counter g c =
     let rule = c.args.self.now in
-    let many = counters_of_board (g.G.Graph.game rule.graph.now) rule.is_graph c.args.board.now c.requires.board in
-    let pairs = rule.pairs_are in
-    let lt = c.requires.cell in
-    omega arith
+    omega (arith, counters_of_board (g.G.Graph.game rule.graph.now) rule.is_graph c.args.board.now c.requires.board)

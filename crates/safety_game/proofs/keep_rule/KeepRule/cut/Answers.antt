@@ -10,12 +10,10 @@ pub returns-clause-once : goal.returns-clause-once
 returns-clause-once g c =
     let rule = c.args.self.now in
     let game = g.G.Graph.game rule.graph.now in
-    let some' = rule.is_graph.some_input in
     cuts_once game (omega arith) c.args.pair c.requires.pair (cell_below game rule.is_graph c.args.pair c.requires.pair) c.args.worker.now c.cut_pair_and_cell.new.worker c.cut_pair_and_cell.ensures
 
 pub returns-clause-keeps : goal.returns-clause-keeps
 returns-clause-keeps g c =
     let rule = c.args.self.now in
     let game = g.G.Graph.game rule.graph.now in
-    let some' = rule.is_graph.some_input in
     still_kept game (omega arith) c.args.pair c.requires.pair (cell_below game rule.is_graph c.args.pair c.requires.pair) c.args.worker.now c.cut_pair_and_cell.new.worker c.cut_pair_and_cell.ensures

@@ -11,8 +11,6 @@ pub left-enabled-requires-clause-counter : goal.left-enabled-requires-clause-cou
 left-enabled-requires-clause-counter g c =
     let rule = c.args.self.now in
     let many = counters_of_board (g.G.Graph.game rule.graph.now) rule.is_graph c.args.board.now c.requires.board.of_game in
-    let pairs = rule.pairs_are in
-    let lt = c.requires.cell in
     omega arith
 
 pub returns-else-eq-clause-first : goal.returns-else-eq-clause-first

@@ -1,13 +1,8 @@
-use Rattle.std.proofs.Common.{◌≡◌, ◌*◌, sym, ap₂, arith}
-use Rattle.game_core.specs.Game.{IsGraph, pairs_of}
-use Rattle.safety_game.specs.KeepBoards.{counters_of}
+use Rattle.std.proofs.Common.{◌*◌, ap₂, arith}
 use Rattle.safety_game.proofs.OnBoards.{starts_many}
 use Rattle.safety_game.proofs.scratch.KeepStartStart.count_counters.Goals as goal
 
 pub returns : goal.returns
 returns g c =
     let game = g.G.Forward.game c.args.g.now in
-    let pairs : c.cells.result * c.inputs.result ≡ pairs_of game = ap₂ ◌*◌ c.cells.ensures c.inputs.ensures in
-    let many = starts_many game (g.met.G.Forward.lawful c.args.g.now) in
-    let cells = c.cells-2.ensures in
-    omega arith
+    omega (arith, ap₂ ◌*◌ c.cells.ensures c.inputs.ensures, starts_many game (g.met.G.Forward.lawful c.args.g.now))
