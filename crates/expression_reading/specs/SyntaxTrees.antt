@@ -85,8 +85,6 @@ meaning_of (ParenTree a) = meaning_of a
 
 -- how many brackets are open at once, those of minima, maxima, absolute values and tables included
 abbrev pub brackets_of : Syntax → ℕ
-brackets_of (NumTree k) = 0
-brackets_of (VarTree i) = 0
 brackets_of (NegTree a) = brackets_of a
 brackets_of (AddTree a b) = max (brackets_of a) (brackets_of b)
 brackets_of (SubTree a b) = max (brackets_of a) (brackets_of b)
@@ -97,6 +95,7 @@ brackets_of (MaxTree a b) = suc (max (brackets_of a) (brackets_of b))
 brackets_of (AbsTree a) = suc (brackets_of a)
 brackets_of (LutTree a points) = suc (brackets_of a)
 brackets_of (ParenTree a) = suc (brackets_of a)
+brackets_of leaf = 0
 
 -- The tokens spell an expression over these names.
 pub record AreTokensOf (names : List (List ℕ)) (tokens : List (List ℕ)) (e : Expression) : Type 0 where

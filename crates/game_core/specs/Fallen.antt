@@ -2,7 +2,7 @@
 use Rattle.std.specs.Prelude.{◌≡◌, ◌≢◌, ℕ, zero, suc, ◌≤◌, Bool, true, false, ◌||◌, ◌==◌, List, length, Option, Some, None, ◌<◌, ◌⊎◌}
 use Rattle.std.specs.List.{All, list_any, list_all, range_with_len}
 use Rattle.game_core.specs.declared.game.Mark.{Mark}
-use Rattle.game_core.specs.declared.game.Mark.TheVariants.{Goal, Obstacle, Plain}
+use Rattle.game_core.specs.declared.game.Mark.TheVariants.{Obstacle}
 use Rattle.game_core.specs.declared.game.Row.{Row}
 use Rattle.game_core.specs.Game.{Game, IsGame, mark_of, successors_of, IsEnabled}
 use Rattle.game_core.specs.Keep.{HasKeepTree, IsKept}
@@ -11,8 +11,7 @@ use Rattle.game_core.specs.Solution.{row_of, HasRow}
 -- a mark is that of an obstacle
 abbrev pub is_obstacle : Mark → Bool
 is_obstacle Obstacle = true
-is_obstacle Goal = false
-is_obstacle Plain = false
+is_obstacle mark = false
 
 -- an input that isn't enabled, or may lead to a cell that passes a test
 abbrev pub is_useless : Game → (ℕ → Bool) → ℕ → ℕ → Bool

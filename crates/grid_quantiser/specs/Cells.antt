@@ -17,9 +17,8 @@ index_of a x = nat_abs (x -ℤ a.lo) / nat_abs a.width
 
 -- the indices of a state, one on each axis
 abbrev pub indices_of : List Axis → List ℤ → List ℕ
-indices_of [] xs = []
-indices_of (a ∷ axes) [] = []
 indices_of (a ∷ axes) (x ∷ xs) = index_of a x ∷ indices_of axes xs
+indices_of _ _ = []
 
 -- the cell of a state: its indices as one number, the first state varying slowest
 abbrev pub cell_of : List Axis → List ℤ → ℕ
@@ -35,9 +34,8 @@ radius_of a = pos (nat_abs a.width / 2)
 
 -- one number of each index
 abbrev pub numbers_at : (Axis → ℕ → ℤ) → List Axis → List ℕ → List ℤ
-numbers_at number_in [] indices = []
-numbers_at number_in (a ∷ axes) [] = []
 numbers_at number_in (a ∷ axes) (p ∷ indices) = number_in a p ∷ numbers_at number_in axes indices
+numbers_at _ _ _ = []
 
 -- the least point of a cell
 abbrev pub low_of : List Axis → ℕ → List ℤ

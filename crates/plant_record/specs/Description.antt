@@ -51,9 +51,8 @@ vectors_of inputs = size (value_counts inputs)
 
 -- the values at these indices, one of each variable
 abbrev pub values_of : List InputVariable → List ℕ → List ℤ
-values_of [] indices = []
-values_of (i ∷ inputs) [] = []
 values_of (i ∷ inputs) (k ∷ indices) = slice_index_or i.values k (pos 0) ∷ values_of inputs indices
+values_of _ _ = []
 
 -- the input vector of a number, the first variable varying slowest
 abbrev pub vector_of : List InputVariable → ℕ → List ℤ

@@ -2,7 +2,7 @@
 use Rattle.std.specs.Prelude.{◌*◌, ◌≤◌}
 use Rattle.grid_quantiser.specs.Axes.{cells_of}
 use Rattle.plant_record.specs.Description.{Description, axes_of, vectors_of}
-use Rattle.plant_record.specs.declared.limit_kind.LimitKind.TheVariants.{PlantText, TableText, Vectors, Cells, Pairs, Edges}
+use Rattle.plant_record.specs.declared.limit_kind.LimitKind.TheVariants.{Vectors, Cells, Pairs}
 use Rattle.plant_record.specs.declared.limit_kind.LimitKind.{LimitKind}
 use Rattle.plant_record.specs.Plants.{IsPlant}
 use Rattle.base.specs.declared.limits.TheConstants.{CELLS_LIMIT, PAIRS_LIMIT, VECTORS_LIMIT}
@@ -28,9 +28,7 @@ pub record IsWithinLimits (p : Description) : Type 0 where
 
 -- the first limit that a plant exceeds
 abbrev pub Exceeds : Description → LimitKind → Type 0
-Exceeds p PlantText = ⊥
-Exceeds p TableText = ⊥
 Exceeds p Vectors = HasFewVectors p → ⊥
 Exceeds p Cells = HasFewVectors p × (HasFewCells p → ⊥)
 Exceeds p Pairs = HasFewVectors p × HasFewCells p × (HasFewPairs p → ⊥)
-Exceeds p Edges = ⊥
+Exceeds p what = ⊥

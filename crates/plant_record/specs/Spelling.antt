@@ -1,5 +1,5 @@
 -- How a version, the ends of a box and a goal are spelled.
-use Rattle.std.specs.Prelude.{ℕ, zero, suc, ℤ, List, [], ◌∷◌, codes}
+use Rattle.std.specs.Prelude.{ℕ, suc, ℤ, List, [], ◌∷◌, codes}
 use Rattle.std.specs.Fmt.{signed_decimal}
 use Rattle.plant_record.specs.declared.aims.GoalKind.{GoalKind}
 use Rattle.plant_record.specs.declared.aims.GoalKind.TheVariants.{Reach, Keep}
@@ -13,10 +13,8 @@ version_word Two = codes "2"
 
 -- the two ends of a box in each of the first n states
 abbrev pub end_words : ℕ → List ℤ → List ℤ → List (List ℕ)
-end_words zero low high = []
-end_words (suc n) [] high = []
-end_words (suc n) (l ∷ low) [] = []
 end_words (suc n) (l ∷ low) (h ∷ high) = signed_decimal l ∷ signed_decimal h ∷ end_words n low high
+end_words _ _ _ = []
 
 -- the word of a goal
 abbrev pub goal_word : GoalKind → List ℕ

@@ -31,8 +31,7 @@ equation_line names name e = line (codes "next" ∷ name ∷ codes "=" ∷ expre
 -- the canonical lines of equations, each with the name of its state
 abbrev pub equation_lines : List (List ℕ) → List StateVariable → List Expression → List ℕ
 equation_lines names (s ∷ states) (e ∷ equations) = equation_line names s.name e ++ equation_lines names states equations
-equation_lines names (s ∷ states) [] = []
-equation_lines names [] equations = []
+equation_lines names _ _ = []
 
 -- the canonical line of a target or an obstacle
 abbrev pub box_line : List ℕ → ℕ → StateBox → List ℕ

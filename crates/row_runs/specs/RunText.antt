@@ -3,7 +3,7 @@ use Rattle.std.specs.Prelude.{ℕ, ◌==◌, List, [], ◌∷◌, map, Option, c
 use Rattle.std.specs.Fmt.{decimal}
 use Rattle.game_core.specs.declared.game.Row.{Row}
 use Rattle.row_runs.specs.declared.row_format.RowFormat.{RowFormat}
-use Rattle.row_runs.specs.declared.row_format.RowFormat.TheVariants.{InputAboveZero, InputAlone, Both}
+use Rattle.row_runs.specs.declared.row_format.RowFormat.TheVariants.{InputAboveZero, InputAlone}
 use Rattle.row_runs.specs.declared.run.Run.{Run}
 use Rattle.row_runs.specs.declared.run.TableVersion.{TableVersion}
 use Rattle.row_runs.specs.declared.run.TableVersion.TheVariants.{First, Second}
@@ -12,15 +12,13 @@ use Rattle.base.specs.Lines.{line}
 
 -- the rank's number, or `-` where there are no ranks
 abbrev pub rank_field : RowFormat → Row → List ℕ
-rank_field InputAboveZero row = decimal row.rank
 rank_field InputAlone row = codes "-"
-rank_field Both row = decimal row.rank
+rank_field format row = decimal row.rank
 
 -- the input's number, or `-` at rank 0 where nothing is applied
 abbrev pub input_field : RowFormat → Row → List ℕ
 input_field InputAboveZero row = if row.rank == 0 then codes "-" else decimal row.input
-input_field InputAlone row = decimal row.input
-input_field Both row = decimal row.input
+input_field format row = decimal row.input
 
 -- the line of a run: its cell in the first version, its first and last cell in the second, then rank and input in a format
 abbrev pub run_line : TableVersion → RowFormat → Run → List ℕ
