@@ -1,20 +1,16 @@
 -- No text demands nothing.
-use Rattle.std.proofs.Common.{inl, inr, ◌≡◌, ◌⊎◌, ℕ, zero, suc, ◌<◌, List, length, Option, Some, None, refl, sym, ap, subst, ◌∙◌, ext_get_or, arith}
+use Rattle.std.proofs.Common.{inl, inr, ◌≡◌, ◌⊎◌, ℕ, ◌<◌, List, length, Option, Some, None, refl, sym, ◌∙◌}
 use Rattle.std.specs.Prelude.{ℤ}
 use Rattle.std.proofs.lemmas.Bool.{cases_eq}
 use Rattle.grid_quantiser.specs.Cells.{point_of}
 use Rattle.game_core.specs.declared.game.Row.{Row}
 use Rattle.game_core.specs.Game.{Game, IsGame}
-use Rattle.game_core.specs.Keep.{IsKeepSolution}
-use Rattle.game_core.specs.Solution.{row_of}
-use Rattle.game_core.proofs.Keep.{one_keep_solution}
 use Rattle.game_core.proofs.Right.{right_rows_are_the_solution}
 use Rattle.plant_record.specs.declared.aims.GoalKind.{GoalKind}
 use Rattle.plant_record.specs.declared.aims.GoalKind.TheVariants.{Reach, Keep}
 use Rattle.plant_record.specs.Description.{Description}
 use Rattle.plant_game.specs.Abstraction.{IsGameOf}
 use Rattle.plant_game.specs.PlantSolution.{Solves}
-use Rattle.table_check.specs.Verdicts.{HasItsKeepRow}
 use Rattle.loop_sim.specs.Trace.{row_at}
 use Rattle.controller_table.specs.declared.table_fault.TableFault.{TableFault}
 use Rattle.controller_table.specs.declared.table_fault.TableFault.TheVariants as tables
@@ -48,27 +44,9 @@ by_text bytes Passes Refuses decided deny = text_end bytes (λ r h. deny (inr (r
 
 -- ---- a table
 
--- rows that are all those of a game's keep solutions are its solution
-keep_solved : (g : Game) (rows : List (Option Row)) → length rows ≡ g.cells → ((c : ℕ) → c < g.cells → HasItsKeepRow g rows c) → IsKeepSolution g rows
-keep_solved g rows size each = by_cells g.cells refl
-  where
-    by_first : 0 < g.cells → HasItsKeepRow g rows 0 → IsKeepSolution g rows
-    by_first some first =
-        let long = first.1.one_each in
-        let same : first.0 ≡ rows =
-        ext_get_or None first.0 rows (long ∙ sym size) (λ c lt.
-        let here = each c (omega (arith, lt, long)) in
-        ap (λ (solution : List (Option Row)). row_of solution c) (one_keep_solution g first.0 here.0 first.1 here.1) ∙ sym here.2)
-        in
-        subst (IsKeepSolution g) same first.1
-
-    by_cells : (n : ℕ) → g.cells ≡ n → IsKeepSolution g rows
-    by_cells zero e = record { one_each = size; each = λ c lt. absurd (omega (arith, lt, e)) }
-    by_cells (suc n) e = by_first (omega (arith, e)) (each 0 (omega (arith, e)))
-
 solved : (goal : GoalKind) (g : Game) (rows : List (Option Row)) → IsGame g → length rows ≡ g.cells → ((c : ℕ) → c < g.cells → IsRightFor goal g rows c) → Solves goal g rows
 solved Reach g rows game size each = right_rows_are_the_solution g rows game (record { one_each = size; each = each })
-solved Keep g rows game size each = keep_solved g rows size each
+solved Keep g rows game size each = record { one_each = size; each = each }
 
 verdict : (bytes : List ℕ) (p : Description) (rows : List (Option Row)) → IsTable bytes p rows → PlantEnd p → (IsDecided (AreRight p rows) (IsRowsRefusal p rows) → ⊥) → ⊥
 verdict bytes p rows table (overflows i u first) deny = deny (inr (Overflow i u, inl (inl (i, u, refl, first))))

@@ -14,7 +14,9 @@ use Rattle.successor_box.specs.Deviations.{HasNoOverflow, IsFirstOverflow}
 use Rattle.game_core.specs.declared.game.Row.{Row}
 use Rattle.game_core.specs.Game.{Game}
 use Rattle.game_core.specs.Judging.{IsFirstFailure}
+use Rattle.game_core.specs.Keep.{IsKeepRow}
 use Rattle.game_core.specs.Right.{IsRight}
+use Rattle.game_core.specs.Solution.{row_of}
 use Rattle.plant_game.specs.Abstraction.{IsGameOf, AreEdges}
 use Rattle.plant_game.specs.PlantSolution.{IsSolutionOf}
 use Rattle.controller_table.specs.declared.table_fault.TableFault.{TableFault}
@@ -22,9 +24,8 @@ use Rattle.controller_table.specs.declared.table_fault.TableFault.TheVariants as
 use Rattle.controller_table.specs.Tables.{IsTable}
 use Rattle.controller_table.specs.TableRefusals.{IsTableRefusedFor}
 use Rattle.controller_table.specs.TextKinds.{HasFewTurns}
-use Rattle.table_check.specs.Verdicts.{HasItsKeepRow}
 use Rattle.command_line.specs.declared.command.Command.{Command}
-use Rattle.command_line.specs.declared.command.Command.TheVariants.{Synth, Check, Upgrade, Sim, Demo, Stay, Patrol}
+use Rattle.command_line.specs.declared.command.Command.TheVariants.{Check, Upgrade, Sim, Demo, Patrol}
 use Rattle.command_line.specs.declared.outcome.Refusal.{Refusal}
 use Rattle.command_line.specs.declared.outcome.Refusal.TheVariants.{Malformed, Overflow, Limit, TooManyTurns, Invalid, NoRow}
 use Rattle.command_line.specs.declared.outcome.Outcome.{Outcome}
@@ -53,11 +54,10 @@ pub record IsAccepted (bytes : List ℕ) (p : Description) : Type 0 where
   pub spells : Spells bytes p
   pub limits : IsWithinLimits p
 
--- a cell's row is right for a goal: to reach a target, beside the rows of its successors; to be kept, as that of the
--- keep solution
+-- a cell's row is right for a goal: to reach a target, beside the rows of its successors; to be kept, as the cell is kept or not
 abbrev pub IsRightFor : GoalKind → Game → List (Option Row) → ℕ → Type 0
 IsRightFor Reach g rows c = IsRight g rows c
-IsRightFor Keep g rows c = HasItsKeepRow g rows c
+IsRightFor Keep g rows c = IsKeepRow g c (row_of rows c)
 
 -- The cell is the least whose row isn't right in the plant's game.
 pub record IsFirstWrong (p : Description) (rows : List (Option Row)) (cell : ℕ) : Type 0 where
@@ -96,13 +96,12 @@ HasTooManyEdges command bytes what =
 
 -- the bytes are to be answered
 abbrev pub IsAnswerable : Command → List ℕ → Type 0
-IsAnswerable (Synth workers) bytes = (p : Description) × IsAccepted bytes p × IsSolvable p
 IsAnswerable Check bytes = (p : Description) × (rows : List (Option Row)) × IsTable bytes p rows × (IsSolvable p × IsSolutionOf p rows)
 IsAnswerable Upgrade bytes = (p : Description) × (rows : List (Option Row)) × IsTable bytes p rows × HasNoOverflow p
 IsAnswerable (Sim samples seed start) bytes = (p : Description) × (rows : List (Option Row)) × IsTable bytes p rows × (HasNoOverflow p × HasRowFor p rows start)
 IsAnswerable (Demo number workers) bytes = Unit {0}
-IsAnswerable (Stay workers) bytes = (p : Description) × IsAccepted bytes p × IsSolvable p
 IsAnswerable (Patrol workers) bytes = (p : Description) × IsAccepted bytes p × IsPatrollable p
+IsAnswerable command bytes = (p : Description) × IsAccepted bytes p × IsSolvable p
 
 -- why they are refused, a case a reason, each of which excludes the others
 abbrev pub IsRefusalFor : Command → List ℕ → Refusal → Type 0

@@ -131,7 +131,7 @@ module _ (g : Game) (rows : List (Option Row)) (a : IsGame g) (h : AreStable g r
   pub stable_rows_are_the_keep_solution : IsKeepSolution g rows
   stable_rows_are_the_keep_solution = record { one_each = h.one_each; each = λ c lt. keep_row c lt (row_of rows c) refl (h.each c lt) }
 
-same_keep_row : (g : Game) (c : ℕ) (a b : Option Row) → IsKeepRow g c a → IsKeepRow g c b → a ≡ b
+pub same_keep_row : (g : Game) (c : ℕ) (a b : Option Row) → IsKeepRow g c a → IsKeepRow g c b → a ≡ b
 same_keep_row g c None None a b = refl
 same_keep_row g c None (Some q) a b = absurd (a b.kept)
 same_keep_row g c (Some p) None a b = absurd (b a.kept)

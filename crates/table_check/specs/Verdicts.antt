@@ -3,7 +3,7 @@ use Rattle.std.specs.Prelude.{◌≡◌, ℕ, ◌↔◌, List, Option, Some, Non
 use Rattle.game_core.specs.declared.game.Row.{Row}
 use Rattle.game_core.specs.Game.{Game}
 use Rattle.game_core.specs.Judging.{IsFirstFailure}
-use Rattle.game_core.specs.Keep.{IsKeepSolution}
+use Rattle.game_core.specs.Keep.{IsKeepRow, IsKeepSolution}
 use Rattle.game_core.specs.Right.{IsRight}
 use Rattle.game_core.specs.Solution.{row_of, IsReachSolution}
 use Rattle.table_check.specs.declared.verdict.Verdict.{Verdict}
@@ -23,14 +23,6 @@ verdict_by (Some c) = Invalid c
 abbrev pub IsReachVerdict : Game → List (Option Row) → Verdict → Type 0
 IsReachVerdict g rows verdict = IsVerdict (IsReachSolution g rows) (IsRight g rows) g.cells verdict
 
--- a cell has the same row in two lists, or none in both
-abbrev pub HasSameRow : List (Option Row) → List (Option Row) → ℕ → Type 0
-HasSameRow rows others c = row_of rows c ≡ row_of others c
-
--- a cell has the row that the keep solution gives it
-abbrev pub HasItsKeepRow : Game → List (Option Row) → ℕ → Type 0
-HasItsKeepRow g rows c = (solution : List (Option Row)) × IsKeepSolution g solution × HasSameRow rows solution c
-
 -- the verdict on the rows of a keep table
 abbrev pub IsKeepVerdict : Game → List (Option Row) → Verdict → Type 0
-IsKeepVerdict g rows verdict = IsVerdict (IsKeepSolution g rows) (HasItsKeepRow g rows) g.cells verdict
+IsKeepVerdict g rows verdict = IsVerdict (IsKeepSolution g rows) (λ c. IsKeepRow g c (row_of rows c)) g.cells verdict

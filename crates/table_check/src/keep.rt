@@ -1,8 +1,9 @@
 ghost use Rattle.std.specs.Prelude.{◌≡◌, length, IfOk};
+ghost use Rattle.game_core.specs.Solution.{row_of};
 ghost use Rattle.grid_quantiser.specs.Axes.{cells_of};
 ghost use Rattle.plant_record.specs.declared.aims.GoalKind.TheVariants.{Keep};
 ghost use Rattle.plant_record.specs.Description.{axes_of, vectors_of};
-ghost use Rattle.table_check.specs.Verdicts.{HasSameRow, IsVerdict, IsKeepVerdict};
+ghost use Rattle.table_check.specs.Verdicts.{IsVerdict, IsKeepVerdict};
 
 use crate::verdict::Verdict;
 use controller_table::Table;
@@ -23,7 +24,7 @@ pub fn check_keep<G: Graph>(alloc: Global, g: &G, t: &Table) -> Result<Verdict, 
 /// The verdict on rows beside those that they should be.
 fn compare(rows: &Answer, kept: &Answer) -> Verdict
     requires { length rows.now ≡ length kept.now }
-    ensures { IsVerdict (rows.now ≡ kept.now) (HasSameRow rows.now kept.now) (length kept.now) result }
+    ensures { IsVerdict (rows.now ≡ kept.now) (λ c. row_of rows.now c ≡ row_of kept.now c) (length kept.now) result }
 {
     for c in 0..kept.cells() {
         if rows.row(c) != kept.row(c) {
