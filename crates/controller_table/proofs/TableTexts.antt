@@ -1,26 +1,19 @@
 -- A table's text is the text of one turn.
-use Rattle.std.proofs.Common.{◌≡◌, ℕ, List, [], ◌∷◌, ◌++◌, length, Option, refl, sym, ap, subst, ◌∙◌, append-nil, arith}
-use Rattle.std.specs.List.{concat}
+use Rattle.std.proofs.Common.{◌≡◌, ℕ, List, [], ◌∷◌, Option, refl, sym, subst, arith}
 use Rattle.std.proofs.lemmas.List.Elements.{recursion_from_All, All-from_recursion}
 use Rattle.game_core.specs.declared.game.Row.{Row}
 use Rattle.plant_record.specs.Description.{Description}
 use Rattle.plant_record.specs.Limits.{IsWithinLimits}
-use Rattle.plant_writing.specs.CanonicalText.{text_of}
 use Rattle.row_runs.specs.declared.run.TableVersion.{TableVersion}
-use Rattle.row_runs.specs.RunText.{count_line, end_line}
+use Rattle.row_runs.specs.declared.run.TableVersion.TheVariants.{Second}
 use Rattle.row_reading.specs.declared.row_rules.TurnRules.{TurnRules}
-use Rattle.row_reading.specs.RowsTexts.{row_lines, AreRowsWithin, AreTurnsWithin}
+use Rattle.row_reading.specs.RowsTexts.{AreRowsWithin, AreTurnsWithin}
 use Rattle.controller_table.specs.declared.text_kind.TextKind.{TextKind}
 use Rattle.controller_table.specs.declared.text_kind.TextKind.TheVariants.{Table}
-use Rattle.controller_table.specs.TableText.{version_line, format_of, table_text}
 use Rattle.controller_table.specs.Tables.{RowsFit, IsTable, IsTableIn}
 use Rattle.controller_table.specs.TextKinds.{turn_rules}
-use Rattle.controller_table.specs.KindTexts.{rows_text, IsTextOf, HoldsRows}
-use Rattle.controller_table.proofs.Fitting.{rows_within, rows_fit}
-
--- the lines of a text of one turn
-one_turn : (lines : List (List ℕ)) → count_line (length lines) ∷ ((lines ++ []) ++ end_line ∷ []) ≡ count_line (length lines) ∷ lines ++ end_line ∷ []
-one_turn lines = ap (λ (x : List (List ℕ)). count_line (length lines) ∷ x ++ end_line ∷ []) (append-nil lines)
+use Rattle.controller_table.specs.KindTexts.{IsTextOf, HoldsRows}
+use Rattle.controller_table.proofs.Fitting.{within_in}
 
 pub one_within : (rules : TurnRules) (rows : List (Option Row)) → rules.turns ≡ 1 → AreRowsWithin rules.rows rows → AreTurnsWithin rules (rows ∷ [])
 one_within rules rows one within = record { one_list_each = sym one; each = All-from_recursion (AreRowsWithin rules.rows) (rows ∷ []) (within, tt) }
@@ -34,27 +27,24 @@ only_turn rules [] one within = absurd (omega (arith, within.one_list_each, one)
 only_turn rules (rows ∷ []) one within = (rows, refl)
 only_turn rules (rows ∷ s ∷ turns) one within = absurd (omega (arith, within.one_list_each, one))
 
-pub text_is : (v : TableVersion) (p : Description) (rows : List (Option Row)) → rows_text (Table v) p (rows ∷ []) ≡ table_text v p rows
-text_is v p rows = ap (λ (x : List (List ℕ)). version_line v ++ text_of p ++ concat x) (one_turn (row_lines v (format_of p.goal) rows))
-
 -- rows that fit a plant are those of a table of it
 pub table_held : (v : TableVersion) (p : Description) (rows : List (Option Row)) → IsWithinLimits p → RowsFit p rows → HoldsRows (record { kind = Table v; plant = p; turns = rows ∷ [] })
-table_held v p rows limits fit = record { limits = limits; few = tt; within = one_within (turn_rules (Table v) p) rows refl (rows_within v p rows fit) }
+table_held v p rows limits fit = record { limits = limits; few = tt; within = one_within (turn_rules (Table v) p) rows refl (within_in Second v p rows fit) }
 
 pub as_text : (bytes : List ℕ) (p : Description) (rows : List (Option Row)) → (t : IsTable bytes p rows) → IsTextOf (Table t.version) bytes p (rows ∷ [])
 as_text bytes p rows t = record {
   limits = t.limits;
   within = (table_held t.version p rows t.limits t.fitting).within;
-  text = t.text ∙ sym (text_is t.version p rows);
+  text = t.text;
 }
 
 pub as_table : (v : TableVersion) (bytes : List ℕ) (p : Description) (rows : List (Option Row)) → IsTextOf (Table v) bytes p (rows ∷ []) → IsTableIn v bytes p rows
 as_table v bytes p rows t = (
-  record { limits = t.limits; fitting = rows_fit v p rows (within_one (turn_rules (Table v) p) rows t.within); version = v; text = t.text ∙ text_is v p rows },
+  record { limits = t.limits; fitting = within_in v Second p rows (within_one (turn_rules (Table v) p) rows t.within); version = v; text = t.text },
   refl,
 )
 
 -- rows that the text of a table holds fit its plant
 pub rows_held : (v : TableVersion) (kind : TextKind) (p : Description) (turns : List (List (Option Row))) (rows : List (Option Row)) → kind ≡ Table v → turns ≡ rows ∷ [] → AreTurnsWithin (turn_rules kind p) turns → RowsFit p rows
 rows_held v kind p turns rows is only within =
-    rows_fit v p rows (within_one (turn_rules (Table v) p) rows (subst (λ (x : TextKind × List (List (Option Row))). AreTurnsWithin (turn_rules x.0 p) x.1) (λ i. (is i, only i)) within))
+    within_in v Second p rows (within_one (turn_rules (Table v) p) rows (subst (λ (x : TextKind × List (List (Option Row))). AreTurnsWithin (turn_rules x.0 p) x.1) (λ i. (is i, only i)) within))

@@ -1,12 +1,14 @@
 -- The text of a kind, of a plant and its rows turn by turn.
-use Rattle.std.specs.Prelude.{◌≡◌, ℕ, List, ◌++◌, Option}
+use Rattle.std.specs.Prelude.{◌≡◌, ℕ, List, [], ◌∷◌, ◌++◌, Option}
 use Rattle.std.specs.List.{concat}
 use Rattle.game_core.specs.declared.game.Row.{Row}
 use Rattle.plant_record.specs.Description.{Description}
 use Rattle.plant_record.specs.Limits.{IsWithinLimits}
 use Rattle.plant_writing.specs.CanonicalText.{text_of}
+use Rattle.row_runs.specs.declared.run.TableVersion.{TableVersion}
 use Rattle.row_reading.specs.RowsTexts.{turn_lines, AreTurnsWithin}
 use Rattle.controller_table.specs.declared.text_kind.TextKind.{TextKind}
+use Rattle.controller_table.specs.declared.text_kind.TextKind.TheVariants.{Table}
 use Rattle.controller_table.specs.TableText.{written_version}
 use Rattle.controller_table.specs.TextKinds.{first_line, turn_rules, HasFewTurnsFor}
 
@@ -19,6 +21,10 @@ pub record RowsModel : Type 0 where
 -- the text of a kind: its first line, the plant's text, and the lines of all turns
 abbrev pub rows_text : TextKind → Description → List (List (Option Row)) → List ℕ
 rows_text kind p turns = first_line kind ++ text_of p ++ concat (turn_lines (turn_rules kind p) turns)
+
+-- the text of a table, one optional row for each cell
+abbrev pub table_text : TableVersion → Description → List (Option Row) → List ℕ
+table_text version p rows = rows_text (Table version) p (rows ∷ [])
 
 -- the text that a value in memory has
 abbrev pub bytes_of_rows : RowsModel → List ℕ

@@ -9,28 +9,21 @@ use Rattle.plant_record.specs.declared.aims.GoalKind.TheVariants.{Reach, Keep}
 use Rattle.plant_record.specs.Description.{Description, axes_of, vectors_of}
 use Rattle.row_runs.specs.declared.row_format.RowFormat.TheVariants.{Both}
 use Rattle.row_runs.specs.declared.run.TableVersion.{TableVersion}
-use Rattle.row_runs.specs.declared.run.TableVersion.TheVariants.{Second}
+use Rattle.row_runs.specs.declared.run.TableVersion.TheVariants.{First, Second}
 use Rattle.row_reading.specs.declared.row_rules.RowRules.{RowRules}
 use Rattle.row_reading.specs.declared.row_rules.TurnHead.TheVariants.{Count, Numbered}
 use Rattle.row_reading.specs.declared.row_rules.TurnRules.{TurnRules}
 use Rattle.controller_table.specs.declared.text_kind.TextKind.{TextKind}
 use Rattle.controller_table.specs.declared.text_kind.TextKind.TheVariants.{Table, Stay, Patrol}
 use Rattle.controller_table.specs.declared.text_kind.TheConstants.{PATROL_LIMIT}
-use Rattle.controller_table.specs.TableText.{format_of, version_line}
-
--- the first line of a stay text
-abbrev pub stay_line : List ℕ
-stay_line = line (codes "stay" ∷ codes "1" ∷ [])
-
--- the first line of a patrol text
-abbrev pub patrol_line : List ℕ
-patrol_line = line (codes "patrol" ∷ codes "1" ∷ [])
+use Rattle.controller_table.specs.TableText.{format_of}
 
 -- the first line of a kind
 abbrev pub first_line : TextKind → List ℕ
-first_line (Table version) = version_line version
-first_line Stay = stay_line
-first_line Patrol = patrol_line
+first_line (Table First) = line (codes "table" ∷ codes "1" ∷ [])
+first_line (Table Second) = line (codes "table" ∷ codes "2" ∷ [])
+first_line Stay = line (codes "stay" ∷ codes "1" ∷ [])
+first_line Patrol = line (codes "patrol" ∷ codes "1" ∷ [])
 
 -- the greatest rank of a plant with so many cells: one that is to be kept has no ranks
 abbrev pub most_rank_of : GoalKind → ℕ → ℕ

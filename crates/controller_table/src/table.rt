@@ -4,8 +4,8 @@ ghost use Rattle.grid_quantiser.specs.Axes.{cells_of};
 ghost use Rattle.game_core.specs.Solution.{row_of};
 ghost use Rattle.plant_record.specs.Description.{axes_of};
 ghost use Rattle.plant_record.specs.Limits.{IsWithinLimits};
-ghost use Rattle.controller_table.specs.TableText.{version_number, written_version, table_text};
-ghost use Rattle.controller_table.specs.KindTexts.{bytes_of_rows, IsOfWrittenVersion};
+ghost use Rattle.controller_table.specs.TableText.{version_number, written_version};
+ghost use Rattle.controller_table.specs.KindTexts.{table_text, bytes_of_rows, IsOfWrittenVersion};
 ghost use Rattle.controller_table.specs.Tables.{RowsFit};
 ghost use Rattle.controller_table.specs.Choice.{Chooses};
 

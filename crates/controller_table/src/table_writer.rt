@@ -1,5 +1,6 @@
 ghost use Rattle.std.specs.Prelude.{◌≡◌, IfOk};
-ghost use Rattle.controller_table.specs.TableText.{written_version, table_text};
+ghost use Rattle.controller_table.specs.TableText.{written_version};
+ghost use Rattle.controller_table.specs.KindTexts.{table_text};
 ghost use Rattle.controller_table.specs.Tables.{RowsFit};
 
 use crate::rows_writer::RowsWriter;

@@ -1,16 +1,16 @@
 -- Status 0 says that a text was written, and such a text is read again.
 use Rattle.std.specs.Prelude.{IfSome}
-use Rattle.std.proofs.Common.{inl, inr, ℕ, List, Option, refl, subst}
+use Rattle.std.proofs.Common.{inl, inr, ℕ, List, [], ◌∷◌, Option, refl, subst}
 use Rattle.controller_table.specs.TableText.{written_version}
-use Rattle.controller_table.specs.Tables.{TableModel}
-use Rattle.temporal_texts.specs.StayText.{StayModel}
-use Rattle.temporal_texts.specs.PatrolText.{PatrolModel}
+use Rattle.controller_table.specs.declared.text_kind.TextKind.TheVariants as kinds
+use Rattle.controller_table.proofs.TableTexts.{as_text}
 use Rattle.text_control.specs.declared.control_fault.ControlFault.{ControlFault}
-use Rattle.text_control.specs.Texts.{TextModel, of_table, of_stay, of_patrol, IsReadFrom, IsTextRefusedFor}
+use Rattle.text_control.specs.Texts.{TextModel, IsReadFrom, IsTextRefusedFor}
 use Rattle.text_control.specs.Laws.{HasFewEnoughTurns}
 use Rattle.text_control.proofs.TextRefusals.{read_texts_tell, text_or_refused}
 use Rattle.command_line.specs.declared.command.Command.TheVariants.{Synth, Check, Upgrade, Sim, Demo, Stay, Patrol}
 use Rattle.synth_run.specs.RunClauses.{IsAnswered}
+use Rattle.driven_loops.proofs.ReadBack.{says}
 use Rattle.driven_loops.specs.Laws.{AnswersAreWritten, WrittenTextsAreRead}
 
 -- what was read isn't refused
@@ -19,14 +19,10 @@ both text t read few = ((t, read), λ f refused. text_or_refused text t f (read_
 
 pub written_texts_are_read : WrittenTextsAreRead
 written_texts_are_read bytes text (inl given) =
-    let table : TableModel = record { version = written_version; plant = given.0; rows = given.3.rows } in
-    both text (of_table table) (inl (table, refl, (record { limits = given.1.limits; fitting = given.3.fitting; version = written_version; text = given.3.text_is }, refl))) (λ e. absurd (cc))
-written_texts_are_read bytes text (inr (inl given)) =
-    let stay : StayModel = record { plant = given.0; rows = given.3.rows } in
-    both text (of_stay stay) (inr (inl (stay, refl, given.3.table))) (λ e. absurd (cc))
-written_texts_are_read bytes text (inr (inr given)) =
-    let patrol : PatrolModel = record { plant = given.0; rows = given.3.rows } in
-    both text (of_patrol patrol) (inr (inr (patrol, refl, given.3.table))) (λ e. given.2.1)
+    let table = as_text text given.0 given.3.rows (record { limits = given.1.limits; fitting = given.3.fitting; version = written_version; text = given.3.text_is }) in
+    both text (says (kinds.Table written_version) given.0 (given.3.rows ∷ [])) (table, refl) (λ e. absurd (cc))
+written_texts_are_read bytes text (inr (inl given)) = both text (says kinds.Stay given.0 (given.3.rows ∷ [])) (given.3.table, refl) (λ e. absurd (cc))
+written_texts_are_read bytes text (inr (inr given)) = both text (says kinds.Patrol given.0 given.3.rows) (given.3.table, refl) (λ e. given.2.1)
 
 pub answers_are_written : AnswersAreWritten
 answers_are_written (Synth workers) told bytes out writes is answered =

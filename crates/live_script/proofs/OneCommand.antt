@@ -9,7 +9,7 @@ use Rattle.line_words.specs.Numbers.{IsLiteral}
 use Rattle.controller_table.specs.Tables.{TableModel, IsTable, IsTableIn}
 use Rattle.row_runs.specs.declared.run.TableVersion.{TableVersion}
 use Rattle.row_runs.specs.declared.run.TableVersion.TheVariants.{First, Second}
-use Rattle.controller_table.specs.TableText.{table_text}
+use Rattle.controller_table.specs.KindTexts.{table_text}
 use Rattle.controller_table.proofs.OneTable as tables
 use Rattle.controller_table.proofs.ShortTexts as short
 use Rattle.live_script.specs.declared.command.ScriptCommand.{ScriptCommand}

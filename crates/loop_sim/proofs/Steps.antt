@@ -5,13 +5,13 @@ use Rattle.std.proofs.lemmas.List.{take-append-le}
 use Rattle.fixed_expr.specs.Value.{value_of}
 use Rattle.game_core.specs.declared.game.Row.{Row}
 use Rattle.grid_quantiser.specs.Cells.{cell_of, point_of}
-use Rattle.plant_record.specs.Description.{Description, axes_of, vector_of}
+use Rattle.plant_record.specs.Description.{Description, axes_of, vector_of, vectors_of}
 use Rattle.plant_record.specs.Limits.{IsWithinLimits}
 use Rattle.plant_record.proofs.lemmas.SoundPlants.{sound}
 use Rattle.plant_record.specs.Steps.{IsNoise, step_of, StepStaysInRange}
 use Rattle.successor_box.specs.Deviations.{HasNoOverflow}
 use Rattle.successor_box.proofs.Steps.{step_stays}
-use Rattle.controller_table.specs.Tables.{TableModel, IsRowOf, RowsFit}
+use Rattle.controller_table.specs.Tables.{TableModel, RowsFit}
 use Rattle.controller_table.proofs.OneRow.{row_fits as fits}
 use Rattle.loop_sim.specs.Noise.{generator, noises_at, noises_from}
 use Rattle.loop_sim.specs.Trace.{row_at, trace_lines}
@@ -20,15 +20,15 @@ use Rattle.loop_sim.proofs.Draws.{noise_count, noises_later, noises_lie}
 use Rattle.loop_sim.proofs.Rows.{has_row}
 
 -- the row at a state fits the plant
-pub row_fits : (p : Description) (rows : List (Option Row)) (x : List ℤ) (row : Row) → RowsFit p rows → row_at p rows x ≡ Some row → IsRowOf p row
-row_fits p rows x row fit e = fits p rows fit (cell_of (axes_of p) x) row (has_row p rows x row e).is
+pub row_fits : (p : Description) (rows : List (Option Row)) (x : List ℤ) (row : Row) → RowsFit p rows → row_at p rows x ≡ Some row → row.input < vectors_of p.inputs
+row_fits p rows x row fit e = (fits p rows fit (cell_of (axes_of p) x) row (has_row p rows x row e).is).input
 
 -- the noises that are drawn keep the step in the range
 pub stays : (p : Description) (rows : List (Option Row)) (x w : List ℤ) (row : Row) (before : ℕ) → IsWithinLimits p → RowsFit p rows → HasNoOverflow p → row_at p rows x ≡ Some row → w ≡ point_of (noises_from p.noises before 0)
     → StepStaysInRange p x row.input w
 stays p rows x w row before limits fit overflow e drawn =
     let noises : List ℤ = noises_from p.noises before 0 in
-    step_stays p row.input x w (sound p limits.plant) overflow (row_fits p rows x row fit e).input (has_row p rows x row e).inside (subst (IsNoise p.noises) (sym drawn) (noises_lie p.noises (replicate (6 - length noises) (pos 0)) before 0 limits.plant.noises))
+    step_stays p row.input x w (sound p limits.plant) overflow (row_fits p rows x row fit e) (has_row p rows x row e).inside (subst (IsNoise p.noises) (sym drawn) (noises_lie p.noises (replicate (6 - length noises) (pos 0)) before 0 limits.plant.noises))
 
 -- what lies past the noises is not looked at
 same_step : (p : Description) (x w past : List ℤ) (u : ℕ) → length p.noises ≤ length w → step_of p x u (w ++ past) ≡ step_of p x u w

@@ -1,18 +1,14 @@
 -- What the rows of a table choose at a state, one input at most.
-use Rattle.std.proofs.Common.{◌≡◌, ℕ, ◌<◌, List, Option, Some, None, refl, sym, subst, ap, ◌∙◌}
+use Rattle.std.proofs.Common.{◌≡◌, ℕ, ◌<◌, List, Option, Some, refl, sym, subst, ap, ◌∙◌}
 use Rattle.std.specs.Prelude.{ℤ}
 use Rattle.game_core.specs.declared.game.Row.{Row}
 use Rattle.game_core.specs.Solution.{row_of}
-use Rattle.game_core.proofs.Rows.{below_from_row}
-use Rattle.grid_quantiser.specs.Axes.{cells_of}
 use Rattle.grid_quantiser.specs.Cells.{cell_of, point_of}
 use Rattle.plant_record.specs.declared.aims.GoalKind.{GoalKind}
 use Rattle.plant_record.specs.declared.aims.GoalKind.TheVariants.{Reach}
 use Rattle.plant_record.specs.Description.{Description, axes_of}
 use Rattle.plant_record.specs.Steps.{step_of, IsNoise}
 use Rattle.controller_table.specs.Choice.{Applies, Chooses, HasRowAt}
-use Rattle.controller_table.specs.Tables.{HasFittingRank, IsRowOf, RowsFit}
-use Rattle.std.specs.Prelude.{IfSome}
 use Rattle.plant_refine.specs.inside.Descents.{HasLowerRow, LeadDown}
 
 pub one_row : (p : Description) (rows : List (Option Row)) (x : List ℤ) (row other : Row) → HasRowAt p rows x row → HasRowAt p rows x other → row ≡ other
@@ -45,12 +41,3 @@ leads_lower p rows x w y u row down input noise is has =
     let lower : HasLowerRow p rows input.row.rank (point_of (step_of p x input.row.input w)) = down.lower x w input.row input.has input.some noise in
     let there : point_of (step_of p x input.row.input w) ≡ y = ap (λ (v : ℕ). point_of (step_of p x v w)) input.is ∙ sym is in
     subst (λ (r : Row). HasLowerRow p rows r.rank y) same (subst (HasLowerRow p rows input.row.rank) there lower)
-
--- the rank of a row of a reach table is below the number of cells
-pub rank_below : (p q : Description) (rows : List (Option Row)) (x : List ℤ) (row : Row) → q ≡ p → p.goal ≡ Reach → RowsFit q rows → HasRowAt p rows x row → row.rank < cells_of (axes_of p)
-rank_below p q rows x row same goal fit has =
-    let c : ℕ = cell_of (axes_of p) x in
-    let fits : RowsFit p rows = subst (λ (r : Description). RowsFit r rows) same fit in
-    let is : IsRowOf p row = subst (λ (o : Option Row). IfSome o (IsRowOf p)) has.is (fits.each c None (below_from_row rows c row has.is)) in
-    let rank : HasFittingRank Reach (cells_of (axes_of p)) row = subst (λ (g : GoalKind). HasFittingRank g (cells_of (axes_of p)) row) goal is.rank in
-    rank.0

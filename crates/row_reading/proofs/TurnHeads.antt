@@ -12,16 +12,16 @@ use Rattle.row_reading.specs.declared.row_rules.TurnHead.{TurnHead}
 use Rattle.row_reading.specs.declared.row_rules.TurnHead.TheVariants.{Count, Numbered}
 use Rattle.row_reading.specs.Found.{Finds}
 use Rattle.row_reading.specs.Numbers.{IsNumberTo}
-use Rattle.row_reading.specs.RowsTexts.{turn_line, head_line}
+use Rattle.row_reading.specs.RowsTexts.{head_line}
 use Rattle.row_reading.specs.inside.ReadTurns.{IsCountAt, IsNumberAt, IsHeadAt}
 use Rattle.row_reading.proofs.Digits.{one_number}
 use Rattle.row_reading.proofs.RunWords.{count_same}
 
-turn_words : (j n : ℕ) → turn_line j n ≡ codes "turn " ++ (decimal j ++ 32 ∷ count_line n)
+turn_words : (j n : ℕ) → head_line Numbered j n ≡ codes "turn " ++ (decimal j ++ 32 ∷ count_line n)
 turn_words j n = ap (λ (x : List ℕ). codes "turn " ++ x) (append_assoc (decimal j) (32 ∷ (codes "rows " ++ decimal n)) (10 ∷ []))
 
 -- after the number of the turn stands how many rows follow
-pub turn_front : (j n : ℕ) (after : List ℕ) → turn_line j n ++ after ≡ codes "turn " ++ (decimal j ++ 32 ∷ (count_line n ++ after))
+pub turn_front : (j n : ℕ) (after : List ℕ) → head_line Numbered j n ++ after ≡ codes "turn " ++ (decimal j ++ 32 ∷ (count_line n ++ after))
 turn_front j n after =
     ap (λ (x : List ℕ). x ++ after) (turn_words j n) ∙ ap (λ (x : List ℕ). codes "turn " ++ x) (append_assoc (decimal j) (32 ∷ count_line n) after)
 

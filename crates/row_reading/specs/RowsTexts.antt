@@ -42,14 +42,10 @@ pub record AreRowsWithin (rules : RowRules) (rows : List (Option Row)) : Type 0 
 abbrev pub row_lines : TableVersion → RowFormat → List (Option Row) → List (List ℕ)
 row_lines version format rows = map (run_line version format) (runs_from version 0 rows)
 
--- the line of a turn: its number, and how many lines of rows follow
-abbrev pub turn_line : ℕ → ℕ → List ℕ
-turn_line j n = line (codes "turn" ∷ decimal j ∷ codes "rows" ∷ decimal n ∷ [])
-
--- the line before the rows of a turn
+-- the line before the rows of a turn: its number, where turns are numbered, and how many lines of rows follow
 abbrev pub head_line : TurnHead → ℕ → ℕ → List ℕ
 head_line Count j n = count_line n
-head_line Numbered j n = turn_line j n
+head_line Numbered j n = line (codes "turn" ∷ decimal j ∷ codes "rows" ∷ decimal n ∷ [])
 
 -- the lines of the turns from j on, by how a turn begins and how a row is printed
 abbrev pub lines_by : TurnHead → TableVersion → RowFormat → ℕ → List (List (Option Row)) → List (List ℕ)

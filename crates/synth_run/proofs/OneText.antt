@@ -8,7 +8,8 @@ use Rattle.plant_record.specs.Description.{Description}
 use Rattle.plant_record.specs.Plants.{IsPlant}
 use Rattle.plant_game.proofs.OneGame.{one_game}
 use Rattle.plant_game.proofs.OneSolution.{one_plant_solution}
-use Rattle.controller_table.specs.TableText.{written_version, table_text}
+use Rattle.controller_table.specs.TableText.{written_version}
+use Rattle.controller_table.specs.KindTexts.{table_text}
 use Rattle.temporal_games.specs.Held.{IsHeld}
 use Rattle.temporal_games.specs.Stay.{IsStayedBy, IsStayRow, IsStaySolution}
 use Rattle.temporal_texts.specs.StayText.{stay_text}

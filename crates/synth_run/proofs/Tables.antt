@@ -17,7 +17,6 @@ use Rattle.controller_table.specs.KindTexts.{rows_text}
 use Rattle.controller_table.specs.TableText.{written_version}
 use Rattle.controller_table.specs.declared.text_kind.TextKind.TheVariants.{Table}
 use Rattle.controller_table.proofs.SolutionsFit.{keep_fits}
-use Rattle.controller_table.proofs.TableTexts.{text_is}
 use Rattle.plant_refine.proofs.SolutionTables.{tables_control}
 use Rattle.synth_run.specs.Headline.{IsTableOf, IsStayTableOf, IsPatrolTableOf}
 use Rattle.command_line.specs.declared.outcome.Refusal.{Refusal}
@@ -43,14 +42,13 @@ solution_fits p g rows Keep same graph solution = keep_fits p g rows (sym same) 
 pub solution_table : (p : Description) (g : Game) (rows : List (Option Row)) (goal : GoalKind) → IsWithinLimits p → goal ≡ p.goal → IsGraph g → IsGameOf p g → Solves goal g rows → IsTableOf p (rows_text (Table written_version) p (rows ∷ []))
 solution_table p g rows goal limits same graph abstraction solution =
     let fits = solution_fits p g rows goal same (record { graph = graph; cells = abstraction.cells; inputs = abstraction.inputs }) solution in
-    let text = text_is written_version p rows in
     let solved : IsSolutionOf p rows = record { game = g; abstraction = abstraction; solution = subst (λ (k : GoalKind). Solves k g rows) same solution } in
     record {
       rows = rows;
       solution = solved;
       fitting = fits;
-      text_is = text;
-      controls = tables_control (rows_text (Table written_version) p (rows ∷ [])) p rows (record { limits = limits; fitting = fits; version = written_version; text = text }) solved;
+      text_is = refl;
+      controls = tables_control (rows_text (Table written_version) p (rows ∷ [])) p rows (record { limits = limits; fitting = fits; version = written_version; text = refl }) solved;
     }
 
 -- the text of a plant within the limits and of the solution of its game

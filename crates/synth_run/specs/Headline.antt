@@ -12,7 +12,8 @@ use Rattle.turn_rows.specs.Targets.{IsInTarget}
 use Rattle.temporal_games.specs.Patrol.{IsPatrol}
 use Rattle.temporal_texts.specs.PatrolText.{IsPatrolText}
 use Rattle.temporal_texts.specs.Patrols.{Patrols}
-use Rattle.controller_table.specs.TableText.{written_version, table_text}
+use Rattle.controller_table.specs.TableText.{written_version}
+use Rattle.controller_table.specs.KindTexts.{table_text}
 use Rattle.controller_table.specs.Tables.{RowsFit, IsTable}
 use Rattle.successor_box.specs.Deviations.{HasNoOverflow}
 use Rattle.plant_refine.specs.Controls.{Controls}

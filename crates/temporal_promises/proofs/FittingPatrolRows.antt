@@ -1,35 +1,34 @@
 -- The rows of the solution of patrol fit their plant.
 use Rattle.std.proofs.Common.{◌≡◌, ℕ, ◌<◌, ◌≤◌, List, [], length, Option, Some, None, refl, ◌∙◌, subst, arith}
 use Rattle.std.specs.Prelude.{IfSome}
-use Rattle.std.specs.List.{All}
 use Rattle.std.proofs.lemmas.List.Elements.{All-from_get_or}
 use Rattle.game_core.specs.declared.game.Row.{Row}
 use Rattle.game_core.specs.Game.{Game}
 use Rattle.game_core.specs.Solution.{row_of}
-use Rattle.grid_quantiser.specs.Axes.{cells_of}
-use Rattle.plant_record.specs.Description.{Description, axes_of}
+use Rattle.plant_record.specs.Description.{Description}
 use Rattle.plant_game.specs.Abstraction.{IsGameOf}
 use Rattle.turn_rows.specs.Targets.{IsInTarget}
-use Rattle.temporal_texts.specs.PatrolText.{IsPatrolRowOf, PatrolRowsFit}
+use Rattle.row_reading.specs.RowsTexts.{IsRowWithin, AreRowsWithin, AreTurnsWithin}
+use Rattle.controller_table.specs.declared.text_kind.TextKind.TheVariants.{Patrol}
+use Rattle.controller_table.specs.TextKinds.{patrol_rules, turn_rules}
 use Rattle.turn_rows.specs.Rows.{rows_for}
 use Rattle.temporal_games.specs.Patrol.{IsPatrol}
 use Rattle.temporal_games.proofs.PatrolRowLaws.{rows_are_within}
 
-pub patrol_rows_fit : (p : Description) (g : Game) (rows : List (List (Option Row))) → IsGameOf p g → IsPatrol g (IsInTarget p) (length p.targets) rows → PatrolRowsFit p rows
+pub patrol_rows_fit : (p : Description) (g : Game) (rows : List (List (Option Row))) → IsGameOf p g → IsPatrol g (IsInTarget p) (length p.targets) rows → AreTurnsWithin (turn_rules Patrol p) rows
 patrol_rows_fit p g rows a s = record {
   one_list_each = s.one_list_each;
-  one_row_each = All-from_get_or (λ (r : List (Option Row)). length r ≡ cells_of (axes_of p)) rows [] (λ j lt. s.one_row_each j (in_turn j lt) ∙ a.cells);
-  each = All-from_get_or (λ (r : List (Option Row)). All (λ row. IfSome row (IsPatrolRowOf p)) r) rows [] (λ j lt. turn j (in_turn j lt));
+  each = All-from_get_or (AreRowsWithin (patrol_rules p)) rows [] (λ j lt. turn j (omega (arith, lt, s.one_list_each)));
 }
   where
-    in_turn : (j : ℕ) → j < length rows → j < length p.targets
-    in_turn j lt = omega (arith, lt, s.one_list_each)
-
-    fits : (j c : ℕ) → j < length p.targets → c < g.cells → (o : Option Row) → row_of (rows_for rows j) c ≡ o → IfSome o (IsPatrolRowOf p)
+    fits : (j c : ℕ) → j < length p.targets → c < g.cells → (o : Option Row) → row_of (rows_for rows j) c ≡ o → IfSome o (IsRowWithin (patrol_rules p))
     fits j c lj lc None e = tt
     fits j c lj lc (Some row) e =
         let within = rows_are_within g (IsInTarget p) (length p.targets) rows a.game s j c row lj lc e in
-        record { some = within.0; rank = subst (λ (n : ℕ). row.rank ≤ n) a.cells within.1; input = subst (λ (n : ℕ). row.input < n) a.inputs within.2 }
+        record { told = tt; least = within.0; most = subst (λ (n : ℕ). row.rank ≤ n) a.cells within.1; input = subst (λ (n : ℕ). row.input < n) a.inputs within.2 }
 
-    turn : (j : ℕ) → j < length p.targets → All (λ row. IfSome row (IsPatrolRowOf p)) (rows_for rows j)
-    turn j lj = All-from_get_or (λ row. IfSome row (IsPatrolRowOf p)) (rows_for rows j) None (λ c lt. let n = s.one_row_each j lj in fits j c lj (omega (arith, lt, n)) (row_of (rows_for rows j) c) refl)
+    turn : (j : ℕ) → j < length p.targets → AreRowsWithin (patrol_rules p) (rows_for rows j)
+    turn j lj = record {
+      one_each = s.one_row_each j lj ∙ a.cells;
+      each = All-from_get_or (λ row. IfSome row (IsRowWithin (patrol_rules p))) (rows_for rows j) None (λ c lt. let n = s.one_row_each j lj in fits j c lj (omega (arith, lt, n)) (row_of (rows_for rows j) c) refl);
+    }

@@ -19,7 +19,8 @@ use Rattle.temporal_games.specs.Stay.{IsStayedBy, IsStayRow, IsStaySolution}
 use Rattle.game_core.proofs.Carried.{remarked_game}
 use Rattle.temporal_games.proofs.Trees.{AreMarksFor, from_wins, to_rank, to_within, from_within}
 use Rattle.plant_game.specs.Abstraction.{IsGameOf}
-use Rattle.temporal_texts.specs.StayText.{IsStayRowOf, StayRowsFit}
+use Rattle.row_reading.specs.RowsTexts.{IsRowWithin, AreRowsWithin}
+use Rattle.controller_table.specs.TextKinds.{stay_rules}
 use Rattle.game_core.proofs.Rows.{below_from_row}
 
 -- the mark of a cell that is no end
@@ -151,15 +152,17 @@ module _ (g : Game) (a : IsGame g) (rows : List (Option Row)) (s : IsStaySolutio
       let low = rank_below (with_marks g marks) reach_rows (remarked_game g marks ends.one_each a) reaches c (row_for row.rank row.input) (row_at c lt ∙ ap reach_row e) in
       omega (arith, low, rank_of row.rank row.input)
 
-pub stay_rows_fit : (p : Description) (g : Game) (rows : List (Option Row)) → IsGameOf p g → IsStaySolution g rows → StayRowsFit p rows
+pub stay_rows_fit : (p : Description) (g : Game) (rows : List (Option Row)) → IsGameOf p g → IsStaySolution g rows → AreRowsWithin (stay_rules p) rows
 stay_rows_fit p g rows a s = record {
   one_each = s.one_each ∙ a.cells;
-  each = All-from_get_or (λ row. IfSome row (IsStayRowOf p)) rows None (λ c lt. let n = s.one_each in fits c (row_of rows c) refl (s.each c (omega (arith, lt, n))));
+  each = All-from_get_or (λ row. IfSome row (IsRowWithin (stay_rules p))) rows None (λ c lt. let n = s.one_each in fits c (row_of rows c) refl (s.each c (omega (arith, lt, n))));
 }
   where
-    fits : (c : ℕ) (o : Option Row) → row_of rows c ≡ o → IsStayRow g c o → IfSome o (IsStayRowOf p)
+    fits : (c : ℕ) (o : Option Row) → row_of rows c ≡ o → IsStayRow g c o → IfSome o (IsRowWithin (stay_rules p))
     fits c None e r = tt
     fits c (Some row) e r = record {
-      rank = subst (λ (n : ℕ). row.rank < n) a.cells (ranks_fit g a.game rows s c row e);
+      told = tt;
+      least = omega arith;
+      most = let below = ranks_fit g a.game rows s c row e in omega (arith, below, a.cells);
       input = subst (λ (n : ℕ). row.input < n) a.inputs r.leads.0.0;
     }

@@ -14,4 +14,4 @@ pub use Rattle.temporal_promises.proofs.Patrolling.{patrol_text_patrols}
 
 -- the text of the solution is one
 pub solution_has_patrol_text : (p : Description) (g : Game) (rows : List (List (Option Row))) → IsWithinLimits p → IsGameOf p g → IsPatrol g (IsInTarget p) (length p.targets) rows → IsPatrolText (patrol_text p rows) p rows
-solution_has_patrol_text p g rows within game solution = record { limits = within; fitting = patrol_rows_fit p g rows game solution; text = refl }
+solution_has_patrol_text p g rows within game solution = record { limits = within; within = patrol_rows_fit p g rows game solution; text = refl }

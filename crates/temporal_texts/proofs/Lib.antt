@@ -1,5 +1,3 @@
-pub mod StayRules
-pub mod PatrolRules
 pub mod OneStayText
 pub mod OnePatrolText
 pub mod StayRefusals

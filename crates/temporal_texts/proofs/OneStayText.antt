@@ -4,32 +4,25 @@ use Rattle.base.proofs.Lists.{same_head}
 use Rattle.game_core.specs.declared.game.Row.{Row}
 use Rattle.plant_record.specs.Description.{Description}
 use Rattle.plant_record.specs.Limits.{IsWithinLimits}
-use Rattle.row_reading.specs.RowsTexts.{AreTurnsWithin}
+use Rattle.row_reading.specs.RowsTexts.{AreRowsWithin, AreTurnsWithin}
 use Rattle.controller_table.specs.declared.text_kind.TextKind.{TextKind}
 use Rattle.controller_table.specs.declared.text_kind.TextKind.TheVariants.{Stay}
-use Rattle.controller_table.specs.TextKinds.{turn_rules}
-use Rattle.controller_table.specs.KindTexts.{IsTextOf, HoldsRows}
+use Rattle.controller_table.specs.TextKinds.{stay_rules, turn_rules}
+use Rattle.controller_table.specs.KindTexts.{HoldsRows}
 use Rattle.controller_table.proofs.HeadedLaws.{one_text}
 use Rattle.controller_table.proofs.TableTexts.{one_within, within_one}
-use Rattle.temporal_texts.specs.StayText.{StayRowsFit, IsStayText}
-use Rattle.temporal_texts.proofs.StayRules.{rows_within, rows_fit}
+use Rattle.temporal_texts.specs.StayText.{IsStayText}
 
 -- rows that fit a plant are those of a stay text of it
-pub stay_held : (p : Description) (rows : List (Option Row)) → IsWithinLimits p → StayRowsFit p rows → HoldsRows (record { kind = Stay; plant = p; turns = rows ∷ [] })
-stay_held p rows limits fit = record { limits = limits; few = tt; within = one_within (turn_rules Stay p) rows refl (rows_within p rows fit) }
-
-pub stay_as_text : (bytes : List ℕ) (p : Description) (rows : List (Option Row)) → IsStayText bytes p rows → IsTextOf Stay bytes p (rows ∷ [])
-stay_as_text bytes p rows t = record { limits = t.limits; within = (stay_held p rows t.limits t.fitting).within; text = t.text }
-
-pub text_as_stay : (bytes : List ℕ) (p : Description) (rows : List (Option Row)) → IsTextOf Stay bytes p (rows ∷ []) → IsStayText bytes p rows
-text_as_stay bytes p rows t = record { limits = t.limits; fitting = rows_fit p rows (within_one (turn_rules Stay p) rows t.within); text = t.text }
+pub stay_held : (p : Description) (rows : List (Option Row)) → IsWithinLimits p → AreRowsWithin (stay_rules p) rows → HoldsRows (record { kind = Stay; plant = p; turns = rows ∷ [] })
+stay_held p rows limits within = record { limits = limits; few = tt; within = one_within (turn_rules Stay p) rows refl within }
 
 pub one_stay_text : (bytes : List ℕ) (p q : Description) (rows others : List (Option Row)) → IsStayText bytes p rows → IsStayText bytes q others → (p ≡ q) × (rows ≡ others)
 one_stay_text bytes p q rows others h k =
-    let same = one_text Stay Stay bytes p q (rows ∷ []) (others ∷ []) (stay_as_text bytes p rows h) (stay_as_text bytes q others k) in
+    let same = one_text Stay Stay bytes p q (rows ∷ []) (others ∷ []) h k in
     (same.1, same_head rows others [] [] same.2)
 
 -- rows that a stay text holds fit its plant
-pub rows_held : (kind : TextKind) (p : Description) (turns : List (List (Option Row))) (rows : List (Option Row)) → kind ≡ Stay → turns ≡ rows ∷ [] → AreTurnsWithin (turn_rules kind p) turns → StayRowsFit p rows
+pub rows_held : (kind : TextKind) (p : Description) (turns : List (List (Option Row))) (rows : List (Option Row)) → kind ≡ Stay → turns ≡ rows ∷ [] → AreTurnsWithin (turn_rules kind p) turns → AreRowsWithin (stay_rules p) rows
 rows_held kind p turns rows is only within =
-    rows_fit p rows (within_one (turn_rules Stay p) rows (subst (λ (x : TextKind × List (List (Option Row))). AreTurnsWithin (turn_rules x.0 p) x.1) (λ i. (is i, only i)) within))
+    within_one (turn_rules Stay p) rows (subst (λ (x : TextKind × List (List (Option Row))). AreTurnsWithin (turn_rules x.0 p) x.1) (λ i. (is i, only i)) within)

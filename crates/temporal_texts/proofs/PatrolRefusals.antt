@@ -6,7 +6,6 @@ use Rattle.controller_table.specs.HeadedTexts.{alone}
 use Rattle.controller_table.proofs.HeadedLaws as headed
 use Rattle.controller_table.proofs.ShortTexts.{texts_are_short}
 use Rattle.temporal_texts.specs.Laws.{OnePatrolRefusal, PatrolTextOrRefused, NoPatrolTextIsNeither}
-use Rattle.temporal_texts.proofs.OnePatrolText.{patrol_as_text, text_as_patrol}
 
 one_name : (k l : Unit {0}) → alone Patrol k ≡ alone Patrol l → k ≡ l
 one_name k l e = refl
@@ -16,9 +15,8 @@ one_patrol_refusal bytes f g h k = headed.one_refusal (alone Patrol) one_name PA
 
 pub patrol_text_or_refused : PatrolTextOrRefused
 patrol_text_or_refused bytes p rows f t few refused =
-    let text = patrol_as_text bytes p rows t in
-    headed.text_or_refused (alone Patrol) one_name PATROL_LIMIT bytes tt p rows f text few (texts_are_short Patrol bytes p rows text few) refused
+    headed.text_or_refused (alone Patrol) one_name PATROL_LIMIT bytes tt p rows f t few (texts_are_short Patrol bytes p rows t few) refused
 
 pub no_patrol_text_is_neither : NoPatrolTextIsNeither
 no_patrol_text_is_neither bytes no_text no_refusal =
-    headed.no_text_is_neither (alone Patrol) PATROL_LIMIT bytes no_refusal (λ k p turns t few. no_text p turns (text_as_patrol bytes p turns t) few)
+    headed.no_text_is_neither (alone Patrol) PATROL_LIMIT bytes no_refusal (λ k p turns t few. no_text p turns t few)

@@ -11,7 +11,6 @@ use Rattle.controller_table.proofs.OneRefusal.{same_fault, none_refuses}
 use Rattle.controller_table.proofs.ShortTexts.{texts_are_short}
 use Rattle.controller_table.proofs.TableTexts.{only_turn}
 use Rattle.temporal_texts.specs.Laws.{OneStayRefusal, StayTextOrRefused, NoStayTextIsNeither}
-use Rattle.temporal_texts.proofs.OneStayText.{stay_as_text, text_as_stay}
 
 one_name : (k l : Unit {0}) → alone Stay k ≡ alone Stay l → k ≡ l
 one_name k l e = refl
@@ -21,11 +20,10 @@ one_stay_refusal bytes f g h k = same_fault f g (headed.one_refusal (alone Stay)
 
 pub stay_text_or_refused : StayTextOrRefused
 stay_text_or_refused bytes p rows f t refused =
-    let text = stay_as_text bytes p rows t in
-    headed.text_or_refused (alone Stay) one_name TABLE_LIMIT bytes tt p (rows ∷ []) (text_fault f) text tt (texts_are_short Stay bytes p (rows ∷ []) text tt) refused
+    headed.text_or_refused (alone Stay) one_name TABLE_LIMIT bytes tt p (rows ∷ []) (text_fault f) t tt (texts_are_short Stay bytes p (rows ∷ []) t tt) refused
 
 pub no_stay_text_is_neither : NoStayTextIsNeither
 no_stay_text_is_neither bytes no_text no_refusal =
     headed.no_text_is_neither (alone Stay) TABLE_LIMIT bytes (none_refuses (alone Stay) TABLE_LIMIT bytes (λ k p. tt) no_refusal) (λ k p turns t few.
     let only = only_turn (turn_rules Stay p) turns refl t.within in
-    no_text p only.0 (text_as_stay bytes p only.0 (subst (λ (x : List (List (Option Row))). IsTextOf Stay bytes p x) only.1 t)))
+    no_text p only.0 (subst (λ (x : List (List (Option Row))). IsTextOf Stay bytes p x) only.1 t))

@@ -10,9 +10,11 @@ use Rattle.game_core.proofs.Rows.{below_from_row}
 use Rattle.grid_quantiser.specs.Cells.{cell_of}
 use Rattle.plant_record.specs.Description.{Description, axes_of}
 use Rattle.plant_record.specs.Steps.{step_of, IsNoise}
+use Rattle.row_reading.specs.RowsTexts.{IsRowWithin}
+use Rattle.controller_table.specs.TextKinds.{patrol_rules}
 use Rattle.temporal_texts.specs.StayText.{HasStayRow}
 use Rattle.temporal_texts.specs.Settles.{IsUnderWay, Holds}
-use Rattle.temporal_texts.specs.PatrolText.{IsPatrolRowOf, HasPatrolRow}
+use Rattle.temporal_texts.specs.PatrolText.{HasPatrolRow}
 use Rattle.turn_rows.specs.Rows.{rows_for}
 use Rattle.temporal_texts.specs.Patrols.{LandsWell, Goes}
 use Rattle.temporal_texts.specs.TextTrajectories.{Sample, state_after, IsStayTrajectory, IsPatrolTrajectory, EndsTurn}
@@ -100,10 +102,10 @@ module _ (p : Description) (bytes : List ℕ) where
   -- a row for a turn has a rank of at least 1
   some_rank : (j : ℕ) (x : List ℤ) (row : Row) → HasPatrolRow bytes j x row → 1 ≤ row.rank
   some_rank j x row h =
-      let fit = h.table.fitting in
+      let fit = h.table.within in
       let lt : j < length h.rows = omega (arith, h.turn, fit.one_list_each) in
-      let each = fit.each j [] lt (cell_of (axes_of h.plant) x) None (below_from_row (rows_for h.rows j) (cell_of (axes_of h.plant) x) row h.is) in
-      (subst (λ (o : Option Row). IfSome o (IsPatrolRowOf h.plant)) h.is each).some
+      let each = (fit.each j [] lt).each (cell_of (axes_of h.plant) x) None (below_from_row (rows_for h.rows j) (cell_of (axes_of h.plant) x) row h.is) in
+      (subst (λ (o : Option Row). IfSome o (IsRowWithin (patrol_rules h.plant))) h.is each).least
 
   some_left : (j : ℕ) (x : List ℤ) (k : ℕ) (ws : List (List ℤ)) → Goes p bytes j x k ws → 1 ≤ k
   some_left j x k [] h = let some = some_rank j x h.1.0 h.1.1 in let le = h.1.2 in omega (arith, some, le)

@@ -1,14 +1,11 @@
 -- The text of a plant with its rows of patrol, turn by turn.
-use Rattle.std.specs.Prelude.{◌≡◌, ℕ, ◌<◌, ◌≤◌, ℤ, List, length, Option, Some, IfSome}
-use Rattle.std.specs.List.{All}
+use Rattle.std.specs.Prelude.{◌≡◌, ℕ, ◌<◌, ℤ, List, length, Option, Some}
 use Rattle.game_core.specs.declared.game.Row.{Row}
 use Rattle.game_core.specs.Solution.{row_of}
-use Rattle.grid_quantiser.specs.Axes.{cells_of}
 use Rattle.grid_quantiser.specs.Cells.{IsInDomain, cell_of}
-use Rattle.plant_record.specs.Description.{Description, axes_of, vectors_of}
-use Rattle.plant_record.specs.Limits.{IsWithinLimits}
+use Rattle.plant_record.specs.Description.{Description, axes_of}
 use Rattle.controller_table.specs.declared.text_kind.TextKind.TheVariants.{Patrol}
-use Rattle.controller_table.specs.KindTexts.{rows_text}
+use Rattle.controller_table.specs.KindTexts.{rows_text, IsTextOf}
 use Rattle.turn_rows.specs.Targets.{IsInTarget, next_turn}
 use Rattle.turn_rows.specs.Rows.{rows_for}
 
@@ -21,23 +18,9 @@ pub record PatrolModel : Type 0 where
   pub plant : Description
   pub rows : List (List (Option Row))
 
--- A row that a cell of the plant may have: at least one sample and no more than there are cells, and one of the input vectors.
-pub record IsPatrolRowOf (p : Description) (row : Row) : Type 0 where
-  pub some : 1 ≤ row.rank
-  pub rank : row.rank ≤ cells_of (axes_of p)
-  pub input : row.input < vectors_of p.inputs
-
--- For each target of the plant one optional row for each cell.
-pub record PatrolRowsFit (p : Description) (rows : List (List (Option Row))) : Type 0 where
-  pub one_list_each : length rows ≡ length p.targets
-  pub one_row_each : All (λ (r : List (Option Row)). length r ≡ cells_of (axes_of p)) rows
-  pub each : All (λ (r : List (Option Row)). All (λ row. IfSome row (IsPatrolRowOf p)) r) rows
-
--- The bytes are the patrol text of a plant within the limits and of rows that fit it.
-pub record IsPatrolText (bytes : List ℕ) (p : Description) (rows : List (List (Option Row))) : Type 0 where
-  pub limits : IsWithinLimits p
-  pub fitting : PatrolRowsFit p rows
-  pub text : bytes ≡ patrol_text p rows
+-- the bytes are the patrol text of a plant within the limits and of rows that its rules allow, for each target
+abbrev pub IsPatrolText : List ℕ → Description → List (List (Option Row)) → Type 0
+IsPatrolText = IsTextOf Patrol
 
 -- The bytes are a patrol text in which the state's cell has this row for a turn.
 pub record HasPatrolRow (bytes : List ℕ) (j : ℕ) (x : List ℤ) (row : Row) : Type 0 where

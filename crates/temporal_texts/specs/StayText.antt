@@ -1,14 +1,11 @@
 -- The text of a plant with its rows of reach and stay.
-use Rattle.std.specs.Prelude.{◌≡◌, ℕ, ◌<◌, ℤ, List, [], ◌∷◌, length, Option, Some, IfSome}
-use Rattle.std.specs.List.{All}
+use Rattle.std.specs.Prelude.{◌≡◌, ℕ, ℤ, List, [], ◌∷◌, Option, Some}
 use Rattle.game_core.specs.declared.game.Row.{Row}
 use Rattle.game_core.specs.Solution.{row_of}
-use Rattle.grid_quantiser.specs.Axes.{cells_of}
 use Rattle.grid_quantiser.specs.Cells.{IsInDomain, cell_of}
-use Rattle.plant_record.specs.Description.{Description, axes_of, vectors_of}
-use Rattle.plant_record.specs.Limits.{IsWithinLimits}
+use Rattle.plant_record.specs.Description.{Description, axes_of}
 use Rattle.controller_table.specs.declared.text_kind.TextKind.TheVariants.{Stay}
-use Rattle.controller_table.specs.KindTexts.{rows_text}
+use Rattle.controller_table.specs.KindTexts.{rows_text, IsTextOf}
 
 -- the text of a plant and of one optional row for each of its cells: of one turn, and the lines of runs have the rank and the input
 abbrev pub stay_text : Description → List (Option Row) → List ℕ
@@ -19,21 +16,9 @@ pub record StayModel : Type 0 where
   pub plant : Description
   pub rows : List (Option Row)
 
--- A row that a cell of the plant may have: fewer samples than there are cells, and one of the input vectors.
-pub record IsStayRowOf (p : Description) (row : Row) : Type 0 where
-  pub rank : row.rank < cells_of (axes_of p)
-  pub input : row.input < vectors_of p.inputs
-
--- One optional row for each cell of the plant.
-pub record StayRowsFit (p : Description) (rows : List (Option Row)) : Type 0 where
-  pub one_each : length rows ≡ cells_of (axes_of p)
-  pub each : All (λ row. IfSome row (IsStayRowOf p)) rows
-
--- The bytes are the stay text of a plant within the limits and of rows that fit it.
-pub record IsStayText (bytes : List ℕ) (p : Description) (rows : List (Option Row)) : Type 0 where
-  pub limits : IsWithinLimits p
-  pub fitting : StayRowsFit p rows
-  pub text : bytes ≡ stay_text p rows
+-- the bytes are the stay text of a plant within the limits and of rows that its rules allow
+abbrev pub IsStayText : List ℕ → Description → List (Option Row) → Type 0
+IsStayText bytes p rows = IsTextOf Stay bytes p (rows ∷ [])
 
 -- The bytes are a stay text in which the state's cell has this row: its input is applied, whatever its rank.
 pub record HasStayRow (bytes : List ℕ) (x : List ℤ) (row : Row) : Type 0 where

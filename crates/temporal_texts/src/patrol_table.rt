@@ -1,8 +1,8 @@
 ghost use Rattle.std.specs.Prelude.{◌≡◌, length};
 ghost use Rattle.plant_record.specs.Limits.{IsWithinLimits};
 ghost use Rattle.controller_table.specs.declared.text_kind.TextKind.TheVariants.{Patrol};
-ghost use Rattle.temporal_texts.specs.PatrolText.{PatrolRowsFit};
-ghost use Rattle.controller_table.specs.TextKinds.{HasFewTurns};
+ghost use Rattle.row_reading.specs.RowsTexts.{AreTurnsWithin};
+ghost use Rattle.controller_table.specs.TextKinds.{turn_rules, HasFewTurns};
 
 use controller_table::RowsText;
 use plant_record::Plant;
@@ -20,8 +20,10 @@ impl Model for PatrolTable {
     ghost use Rattle.std.specs.Coded.{codes};
     ghost use Rattle.fixed_expr.specs.inside.Postfix.{expression_code};
     ghost use Rattle.plant_record.specs.Limits.{IsWithinLimits};
-    ghost use Rattle.temporal_texts.specs.PatrolText.{PatrolModel, PatrolRowsFit};
-    ghost use Rattle.controller_table.specs.TextKinds.{HasFewTurns};
+    ghost use Rattle.row_reading.specs.RowsTexts.{AreTurnsWithin};
+    ghost use Rattle.controller_table.specs.declared.text_kind.TextKind.TheVariants.{Patrol};
+    ghost use Rattle.controller_table.specs.TextKinds.{turn_rules, HasFewTurns};
+    ghost use Rattle.temporal_texts.specs.PatrolText.{PatrolModel};
 
     ghost Value = { PatrolModel };
 
@@ -29,7 +31,7 @@ impl Model for PatrolTable {
 
     ghost view = { λ t. record { plant = t.plant; rows = t.rows } };
 
-    ghost invariant = { λ t. IsWithinLimits t.plant × HasFewTurns t.plant × PatrolRowsFit t.plant t.rows };
+    ghost invariant = { λ t. IsWithinLimits t.plant × HasFewTurns t.plant × AreTurnsWithin (turn_rules Patrol t.plant) t.rows };
 }
 
 impl PatrolTable {
@@ -54,7 +56,7 @@ impl PatrolTable {
     /// The rows of all turns.
     pub fn answers(&self) -> &PatrolRows
         ensures rows { result.now ≡ self.now.rows }
-        ensures fit { PatrolRowsFit self.now.plant result.now }
+        ensures fit { AreTurnsWithin (turn_rules Patrol self.now.plant) result.now }
     {
         &self.rows
     }

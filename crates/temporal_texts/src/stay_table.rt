@@ -1,7 +1,8 @@
 ghost use Rattle.std.specs.Prelude.{◌≡◌, [], ◌∷◌};
 ghost use Rattle.plant_record.specs.Limits.{IsWithinLimits};
 ghost use Rattle.controller_table.specs.declared.text_kind.TextKind.TheVariants.{Stay};
-ghost use Rattle.temporal_texts.specs.StayText.{StayRowsFit};
+ghost use Rattle.row_reading.specs.RowsTexts.{AreRowsWithin};
+ghost use Rattle.controller_table.specs.TextKinds.{stay_rules};
 
 use controller_table::RowsText;
 use game_core::Answer;
@@ -19,7 +20,9 @@ impl Model for StayTable {
     ghost use Rattle.std.specs.Coded.{codes};
     ghost use Rattle.fixed_expr.specs.inside.Postfix.{expression_code};
     ghost use Rattle.plant_record.specs.Limits.{IsWithinLimits};
-    ghost use Rattle.temporal_texts.specs.StayText.{StayModel, StayRowsFit};
+    ghost use Rattle.row_reading.specs.RowsTexts.{AreRowsWithin};
+    ghost use Rattle.controller_table.specs.TextKinds.{stay_rules};
+    ghost use Rattle.temporal_texts.specs.StayText.{StayModel};
 
     ghost Value = { StayModel };
 
@@ -27,7 +30,7 @@ impl Model for StayTable {
 
     ghost view = { λ t. record { plant = t.plant; rows = t.answer } };
 
-    ghost invariant = { λ t. IsWithinLimits t.plant × StayRowsFit t.plant t.answer };
+    ghost invariant = { λ t. IsWithinLimits t.plant × AreRowsWithin (stay_rules t.plant) t.answer };
 }
 
 impl StayTable {
@@ -55,7 +58,7 @@ impl StayTable {
     /// The rows of all cells.
     pub fn answer(&self) -> &Answer
         ensures rows { result.now ≡ self.now.rows }
-        ensures fit { StayRowsFit self.now.plant result.now }
+        ensures fit { AreRowsWithin (stay_rules self.now.plant) result.now }
     {
         &self.answer
     }

@@ -76,7 +76,7 @@ module _ (bytes : List ℕ) (t : TextModel) where
   pub has_patrol_row : IsPatrolText bytes t.plant t.turns → (j : ℕ) (x : List ℤ) (row : Row) → HasRowAt t.plant (rows_for t.turns j) x row → HasPatrolRow bytes j x row
   has_patrol_row tells j x row has =
       let known : j < length t.turns = turn_known t.turns j (cell_of (axes_of t.plant) x) row has.is in
-      let fit = tells.fitting in
+      let fit = tells.within in
       record { plant = t.plant; rows = t.turns; table = tells; turn = omega (arith, known, fit.one_list_each); inside = has.inside; is = has.is }
 
   pub text_values : (kind : TextKind) → TellsAs kind bytes t → (x values : List ℤ) (row : Row) (u : ℕ) → HasRow x row → AppliesAs kind t.plant.goal row u → values ≡ vector_of t.plant.inputs u → AreTextValues kind t.turn bytes x values

@@ -1,9 +1,7 @@
--- What is read from bytes, and why they are refused, by the kind whose first line they begin with.
-use Rattle.std.proofs.Common.{inl, inr, ◌≡◌, ℕ, ◌≤◌, List, [], ◌∷◌, ◌++◌, length, Option, refl, sym, ap, subst, ◌∙◌}
+-- Why bytes are refused, by the kind whose first line they begin with.
+use Rattle.std.proofs.Common.{inl, inr, ◌≡◌, ℕ, ◌≤◌, List, ◌++◌, length, refl, sym, ◌∙◌}
 use Rattle.base.specs.declared.limits.TheConstants.{TABLE_LIMIT}
-use Rattle.game_core.specs.declared.game.Row.{Row}
 use Rattle.plant_record.specs.declared.limit_kind.LimitKind.TheVariants.{TableText}
-use Rattle.plant_record.specs.Description.{Description}
 use Rattle.row_runs.specs.declared.run.TableVersion.{TableVersion}
 use Rattle.controller_table.specs.declared.table_fault.TableFault.{TableFault}
 use Rattle.controller_table.specs.declared.table_fault.TableFault.TheVariants as tables
@@ -12,44 +10,13 @@ use Rattle.controller_table.specs.declared.text_fault.TextFault.TheVariants as r
 use Rattle.controller_table.specs.declared.text_kind.TextKind.{TextKind}
 use Rattle.controller_table.specs.declared.text_kind.TextKind.TheVariants.{Table, Stay, Patrol}
 use Rattle.controller_table.specs.declared.text_kind.TheConstants.{PATROL_LIMIT}
-use Rattle.controller_table.specs.TextKinds.{first_line, most_bytes, turn_rules}
-use Rattle.controller_table.specs.KindTexts.{IsTextOf}
+use Rattle.controller_table.specs.TextKinds.{first_line, most_bytes}
 use Rattle.controller_table.specs.HeadedTexts.{IsTextRefusedFor as IsRefusedAmong, alone, text_fault}
 use Rattle.controller_table.specs.inside.TextReading.{IsBegun, IsRefusedAfter}
 use Rattle.controller_table.proofs.EachKind.{one_kind}
-use Rattle.controller_table.proofs.TableTexts.{only_turn, as_text, as_table}
 use Rattle.controller_table.proofs.TextsRead.{refused_among}
-use Rattle.temporal_texts.proofs.OneStayText.{stay_as_text, text_as_stay}
-use Rattle.temporal_texts.proofs.OnePatrolText.{patrol_as_text, text_as_patrol}
 use Rattle.text_control.specs.declared.control_fault.ControlFault.TheVariants.{Malformed, Limit}
-use Rattle.text_control.specs.Texts.{TextModel, IsReadFrom, HasFirstLine, IsTextRefusedFor, fault_of_table, fault_of_patrol}
-
--- ---- what is read
-
-pub read_from : (kind : TextKind) (bytes : List ℕ) (p : Description) (turns : List (List (Option Row))) (t : TextModel) → t ≡ record { kind = kind; plant = p; turns = turns; turn = 0 } → IsTextOf kind bytes p turns → IsReadFrom bytes t
-read_from (Table version) bytes p turns t says text =
-    let only = only_turn (turn_rules (Table version) p) turns refl text.within in
-    inl (
-      record { version = version; plant = p; rows = only.0 },
-      says ∙ ap (λ (x : List (List (Option Row))). record { kind = Table version; plant = p; turns = x; turn = 0 }) only.1,
-      as_table version bytes p only.0 (subst (λ (x : List (List (Option Row))). IsTextOf (Table version) bytes p x) only.1 text),
-    )
-read_from Stay bytes p turns t says text =
-    let only = only_turn (turn_rules Stay p) turns refl text.within in
-    inr (inl (
-      record { plant = p; rows = only.0 },
-      says ∙ ap (λ (x : List (List (Option Row))). record { kind = Stay; plant = p; turns = x; turn = 0 }) only.1,
-      text_as_stay bytes p only.0 (subst (λ (x : List (List (Option Row))). IsTextOf Stay bytes p x) only.1 text),
-    ))
-read_from Patrol bytes p turns t says text = inr (inr (record { plant = p; rows = turns }, says, text_as_patrol bytes p turns text))
-
--- it is the text of its kind
-pub text_read : (bytes : List ℕ) (t : TextModel) → IsReadFrom bytes t → IsTextOf t.kind bytes t.plant t.turns
-text_read bytes t (inl h) = subst (λ (m : TextModel). IsTextOf m.kind bytes m.plant m.turns) (sym h.1) (subst (λ (v : TableVersion). IsTextOf (Table v) bytes h.0.plant (h.0.rows ∷ [])) h.2.1 (as_text bytes h.0.plant h.0.rows h.2.0))
-text_read bytes t (inr (inl h)) = subst (λ (m : TextModel). IsTextOf m.kind bytes m.plant m.turns) (sym h.1) (stay_as_text bytes h.0.plant h.0.rows h.2)
-text_read bytes t (inr (inr h)) = subst (λ (m : TextModel). IsTextOf m.kind bytes m.plant m.turns) (sym h.1) (patrol_as_text bytes h.0.plant h.0.rows h.2)
-
--- ---- why bytes are refused
+use Rattle.text_control.specs.Texts.{HasFirstLine, IsTextRefusedFor, fault_of_table, fault_of_patrol}
 
 -- a reason other than the number of turns is one of a table
 without_turns : (Refuses : TextFault → Type 0) (fault : TextFault) → (Refuses rows.Turns → ⊥) → (fault ≡ rows.Memory → ⊥) → Refuses fault → (f : TableFault) × (fault_of_patrol fault ≡ fault_of_table f) × Refuses (text_fault f)

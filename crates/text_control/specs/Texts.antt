@@ -1,5 +1,5 @@
 -- What a table, a stay text or a patrol text says, and the turn that is due.
-use Rattle.std.specs.Prelude.{◌≡◌, ◌⊎◌, ℕ, ◌<◌, List, [], ◌∷◌, ◌++◌, length, Option, IfSome}
+use Rattle.std.specs.Prelude.{◌≡◌, ◌⊎◌, ℕ, ◌<◌, List, ◌++◌, length, Option, IfSome}
 use Rattle.std.specs.List.{All}
 use Rattle.game_core.specs.declared.game.Row.{Row}
 use Rattle.grid_quantiser.specs.Axes.{cells_of}
@@ -7,15 +7,15 @@ use Rattle.plant_record.specs.Description.{Description, axes_of, vectors_of}
 use Rattle.plant_record.specs.Limits.{IsWithinLimits}
 use Rattle.controller_table.specs.declared.table_fault.TableFault.{TableFault}
 use Rattle.controller_table.specs.declared.table_fault.TableFault.TheVariants as tables
-use Rattle.controller_table.specs.Tables.{TableModel, IsTable, IsTableIn}
+use Rattle.controller_table.specs.Tables.{IsTable}
 use Rattle.controller_table.specs.TableRefusals.{IsTableRefusedFor}
 use Rattle.controller_table.specs.declared.text_fault.TextFault.{TextFault}
 use Rattle.controller_table.specs.declared.text_fault.TextFault.TheVariants as patrols
-use Rattle.controller_table.specs.TextKinds.{stay_line}
-use Rattle.temporal_texts.specs.StayText.{StayModel, IsStayText}
+use Rattle.controller_table.specs.TextKinds.{first_line}
+use Rattle.controller_table.specs.KindTexts.{IsTextOf}
+use Rattle.temporal_texts.specs.StayText.{IsStayText}
 use Rattle.temporal_texts.specs.StayRefusals.{IsStayRefusedFor}
-use Rattle.controller_table.specs.TextKinds.{patrol_line}
-use Rattle.temporal_texts.specs.PatrolText.{PatrolModel, IsPatrolText}
+use Rattle.temporal_texts.specs.PatrolText.{IsPatrolText}
 use Rattle.turn_rows.specs.Rows.{rows_for}
 use Rattle.temporal_texts.specs.PatrolRefusals.{IsPatrolRefusedFor}
 use Rattle.controller_table.specs.declared.text_kind.TextKind.{TextKind}
@@ -41,18 +41,6 @@ pub record TurnsFit (p : Description) (turns : List (List (Option Row))) : Type 
   pub one_row_each : All (λ (rows : List (Option Row)). length rows ≡ cells_of (axes_of p)) turns
   pub each : All (λ (rows : List (Option Row)). All (λ row. IfSome row (λ (r : Row). r.input < vectors_of p.inputs)) rows) turns
 
--- what a table says
-abbrev pub of_table : TableModel → TextModel
-of_table t = record { kind = Table t.version; plant = t.plant; turns = t.rows ∷ []; turn = 0 }
-
--- what a stay text says
-abbrev pub of_stay : StayModel → TextModel
-of_stay t = record { kind = Stay; plant = t.plant; turns = t.rows ∷ []; turn = 0 }
-
--- what a patrol text says, where its first turn is due
-abbrev pub of_patrol : PatrolModel → TextModel
-of_patrol t = record { kind = Patrol; plant = t.plant; turns = t.rows; turn = 0 }
-
 -- the bytes are a text of this kind that says the plant and the rows
 abbrev pub TellsAs : TextKind → List ℕ → TextModel → Type 0
 TellsAs (Table version) bytes t = IsTable bytes t.plant (due_rows t)
@@ -63,12 +51,9 @@ TellsAs Patrol bytes t = IsPatrolText bytes t.plant t.turns
 abbrev pub Tells : List ℕ → TextModel → Type 0
 Tells bytes t = TellsAs t.kind bytes t
 
--- this is all that the bytes say, which are a table, in its version, a stay text or a patrol text
+-- the bytes are the text of this kind, plant and rows, and its first turn is due
 abbrev pub IsReadFrom : List ℕ → TextModel → Type 0
-IsReadFrom bytes t =
-    ((table : TableModel) × (t ≡ of_table table) × IsTableIn table.version bytes table.plant table.rows)
-    ⊎ ((stay : StayModel) × (t ≡ of_stay stay) × IsStayText bytes stay.plant stay.rows)
-    ⊎ ((patrol : PatrolModel) × (t ≡ of_patrol patrol) × IsPatrolText bytes patrol.plant patrol.rows)
+IsReadFrom bytes t = IsTextOf t.kind bytes t.plant t.turns × (t.turn ≡ 0)
 
 -- a table's fault, or a stay text's
 abbrev pub fault_of_table : TableFault → ControlFault
@@ -91,6 +76,6 @@ HasFirstLine line bytes = (rest : List ℕ) × (bytes ≡ line ++ rest)
 -- begin as no other
 abbrev pub IsTextRefusedFor : List ℕ → ControlFault → Type 0
 IsTextRefusedFor bytes fault =
-    (HasFirstLine stay_line bytes × ((f : TableFault) × (fault ≡ fault_of_table f) × IsStayRefusedFor bytes f))
-    ⊎ (HasFirstLine patrol_line bytes × ((f : TextFault) × (fault ≡ fault_of_patrol f) × IsPatrolRefusedFor bytes f))
-    ⊎ ((HasFirstLine stay_line bytes → ⊥) × (HasFirstLine patrol_line bytes → ⊥) × ((f : TableFault) × (fault ≡ fault_of_table f) × IsTableRefusedFor bytes f))
+    (HasFirstLine (first_line Stay) bytes × ((f : TableFault) × (fault ≡ fault_of_table f) × IsStayRefusedFor bytes f))
+    ⊎ (HasFirstLine (first_line Patrol) bytes × ((f : TextFault) × (fault ≡ fault_of_patrol f) × IsPatrolRefusedFor bytes f))
+    ⊎ ((HasFirstLine (first_line Stay) bytes → ⊥) × (HasFirstLine (first_line Patrol) bytes → ⊥) × ((f : TableFault) × (fault ≡ fault_of_table f) × IsTableRefusedFor bytes f))

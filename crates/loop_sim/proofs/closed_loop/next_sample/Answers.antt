@@ -13,7 +13,7 @@ pub step-requires : goal.step-requires
 step-requires c =
     let t = c.args.t.now in
     subst (λ (p : Description). c.args.row.input < vectors_of p.inputs) (sym c.plant-p.ensures)
-    (row_fits t.plant t.rows c.args.sample.now.x c.args.row c.requires.rows c.requires.row).input
+    (row_fits t.plant t.rows c.args.sample.now.x c.args.row c.requires.rows c.requires.row)
 
 pub unreachable-requires : goal.unreachable-requires
 unreachable-requires c =

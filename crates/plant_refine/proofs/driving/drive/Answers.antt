@@ -1,11 +1,9 @@
-use Rattle.std.proofs.Common.{◌≡◌, ℕ, ◌^◌, ◌<◌, length, false, true, subst, add-one, arith}
-use Rattle.grid_quantiser.specs.Axes.{cells_of}
-use Rattle.plant_record.specs.Description.{axes_of}
-use Rattle.plant_record.specs.Limits.{HasFewCells}
+use Rattle.std.proofs.Common.{◌≡◌, ℕ, ◌^◌, ◌<◌, length, false, true, ap, subst, ◌∙◌, add-one, arith}
+use Rattle.plant_record.specs.Description.{Description}
 use Rattle.plant_record.specs.Plants.{IsPlant}
 use Rattle.plant_refine.specs.Trajectories.{ArrivesFirst}
 use Rattle.plant_refine.specs.inside.Descents.{LeadDown}
-use Rattle.plant_refine.proofs.Choosing.{rank_below}
+use Rattle.controller_table.proofs.OneRow.{rank_below_cells}
 use Rattle.plant_refine.proofs.InBoxes.{gets}
 use Rattle.plant_refine.proofs.Arriving.{begins, goes_on, comes_in, some_rank}
 use Rattle.plant_refine.proofs.Down.{lead_down}
@@ -19,9 +17,10 @@ down c = lead_down c.args.p.now c.args.t.now.rows (subst IsPlant c.requires.plan
 rank_fits : (c : After-every_table_fits) → c.requires.start.0.rank < 2 ^ 32
 rank_fits c =
     let start = c.requires.start in
-    let few = subst HasFewCells c.requires.plant c.every_table_fits.ensures.limits.cells in
-    let below : start.0.rank < cells_of (axes_of c.args.p.now) = rank_below c.args.p.now c.args.t.now.plant c.args.t.now.rows c.args.x.now start.0 c.requires.plant c.requires.goal c.every_table_fits.ensures.rows start.1 in
-    omega (arith, below, few)
+    let fits = c.every_table_fits.ensures in
+    let goal_is = ap (λ (p : Description). p.goal) c.requires.plant ∙ c.requires.goal in
+    let below = rank_below_cells c.args.t.now.plant c.args.t.now.rows fits.rows _ start.0 start.1.is goal_is in
+    omega (arith, below, fits.limits.cells)
 
 pub loop-sample-init : goal.loop-sample-init
 loop-sample-init c =

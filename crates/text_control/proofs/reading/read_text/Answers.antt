@@ -1,10 +1,10 @@
-use Rattle.std.proofs.Common.{◌≡◌, ◌≤◌, ℕ, List, length, sym, ap, subst, arith}
+use Rattle.std.proofs.Common.{◌≡◌, ◌≤◌, ℕ, List, length, refl, sym, ap, subst, arith}
 use Rattle.base.proofs.Results.{passed_on}
 use Rattle.controller_table.specs.declared.text_kind.TextKind.{TextKind}
 use Rattle.controller_table.specs.KindTexts.{IsTextOf}
 use Rattle.text_control.specs.declared.control_fault.ControlFault.TheVariants.{Memory}
-use Rattle.text_control.specs.Texts.{IsTextRefusedFor, fault_of_patrol}
-use Rattle.text_control.proofs.TextsRead.{read_from, refused_after, too_long, none_too_long, none_begins}
+use Rattle.text_control.specs.Texts.{IsReadFrom, IsTextRefusedFor, fault_of_patrol}
+use Rattle.text_control.proofs.TextsRead.{refused_after, too_long, none_too_long, none_begins}
 use Rattle.text_control.proofs.reading.read_text.Goals as goal
 
 pub returns-then-bytes-gt-TABLE_LIMIT-clause-refused : goal.returns-then-bytes-gt-TABLE_LIMIT-clause-refused
@@ -32,4 +32,4 @@ returns-clause-read c =
     let bytes = c.args.bytes.now in
     let text = c.in_ok-text.text in
     let read = subst (λ (x : List ℕ). IsTextOf c.in-Some.kind x text.plant text.turns) (sym c.in-Some.ensures) c.in_ok-text.ensures.read in
-    read_from text.kind bytes text.plant text.turns c.in_ok-of.field-0 c.in_ok-of.ensures (subst (λ (kind : TextKind). IsTextOf kind bytes text.plant text.turns) (sym c.in_ok-text.ensures.kind) read)
+    subst (IsReadFrom bytes) (sym c.in_ok-of.ensures) (subst (λ (kind : TextKind). IsTextOf kind bytes text.plant text.turns) (sym c.in_ok-text.ensures.kind) read, refl)

@@ -3,7 +3,6 @@ use Rattle.std.proofs.lemmas.Bool.{iff_false}
 use Rattle.plant_game.specs.Abstraction.{IsGameOf}
 use Rattle.abstraction_table.specs.Table.{game_of}
 use Rattle.controller_table.specs.TextKinds.{HasFewTurns}
-use Rattle.temporal_texts.proofs.TextLaws.{patrol_held}
 use Rattle.temporal_promises.proofs.FittingPatrolRows.{patrol_rows_fit}
 use Rattle.synth_run.proofs.Tables.{patrol_table, patrol_stop}
 use Rattle.base.proofs.Results.{passed_on}
@@ -20,7 +19,7 @@ new-text-requires g c =
     let p = c.in_ok-plant.plant in
     let few : HasFewTurns p = c.has_few_turns.ensures.0 c.if-not-has_few_turns.false in
     let fits = patrol_rows_fit p (game_of c.in_ok-game.game) c.in_ok-rows.rows (subst (IsGameOf p) (sym c.in_ok-game.ensures.game) c.in_ok-plant.ensures.game) c.in_ok-rows.ensures in
-    patrol_held p c.in_ok-rows.rows c.in_ok-plant.ensures.accepted.limits few fits
+    record { limits = c.in_ok-plant.ensures.accepted.limits; few = few; within = fits }
 
 pub returns-clause-made : goal.returns-clause-made
 returns-clause-made g c =
