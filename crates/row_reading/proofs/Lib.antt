@@ -1,6 +1,7 @@
 pub mod Digits
 pub mod RunWords
 pub mod LinesRead
+pub mod Further
 pub mod MoreRuns
 pub mod RowGrammar
 pub mod RowsRead

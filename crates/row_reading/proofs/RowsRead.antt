@@ -1,7 +1,8 @@
 -- Rows that lines give, and the way along these lines.
-use Rattle.std.proofs.Common.{inl, inr, ◌≡◌, ℕ, zero, suc, ◌+◌, ◌<◌, ◌≤◌, List, [], ◌∷◌, ◌++◌, length, map, Option, Some, None, refl, sym, ap, subst, ◌∙◌, arith}
+use Rattle.std.proofs.Common.{inl, inr, ◌≡◌, ℕ, zero, suc, ◌+◌, ◌≤◌, List, [], ◌∷◌, ◌++◌, length, map, Option, Some, None, refl, sym, ap, subst, ◌∙◌, arith}
 use Rattle.std.specs.Prelude.{IfSome}
-use Rattle.std.specs.List.{AllByRecursion}
+use Rattle.std.specs.List.{AllByRecursion, concat}
+use Rattle.std.proofs.lemmas.Option.{same_Some}
 use Rattle.std.proofs.lemmas.List.{length-map}
 use Rattle.std.proofs.lemmas.List.Elements.{recursion_from_All, All-from_recursion, All-from_get_or}
 use Rattle.game_core.specs.declared.game.Row.{Row}
@@ -13,12 +14,12 @@ use Rattle.row_runs.specs.Runs.{MayLead, AreRuns, Gives, EncodeRows, runs_from}
 use Rattle.row_runs.specs.RunText.{run_line}
 use Rattle.row_runs.proofs.RunLaws.{runs_encode, one_list, forward}
 use Rattle.row_runs.proofs.FewRuns.{few_runs}
-use Rattle.text_pieces.specs.Steps.{joined, Leads}
-use Rattle.text_pieces.proofs.Laws.{joined_bytes, few_pieces}
+use Rattle.text_pieces.specs.Steps.{Leads}
 use Rattle.row_reading.specs.declared.row_rules.RowRules.{RowRules}
-use Rattle.row_reading.specs.RowsTexts.{IsRowWithin, IsRunWithin, AreRowsWithin, row_lines, AreRowsAt}
-use Rattle.row_reading.specs.TurnSteps.{RowsDue, Due, MayStandAfter, RunStep, IsRunRefused}
-use Rattle.row_reading.specs.inside.ReadRows.{AreRunsWithin, AreRead}
+use Rattle.row_reading.specs.declared.row_rules.TurnRules.{TurnRules}
+use Rattle.row_reading.specs.RowsTexts.{IsRowWithin, IsRunWithin, AreRowsWithin, row_lines}
+use Rattle.row_reading.specs.TurnSteps.{AfterTurns, MayStandAfter, TurnStep}
+use Rattle.row_reading.specs.inside.ReadRows.{AreRowsAt, AreRunsWithin, last_after, AreRead}
 
 -- ---- the runs of rows that rules allow
 
@@ -44,40 +45,33 @@ module _ (rules : RowRules) (rows : List (Option Row)) (within : AreRowsWithin r
 
 -- ---- their lines lead on
 
-module _ (rules : RowRules) where
+-- the first of some runs may stand after the last one
+abbrev pub FollowOn : TableVersion → Option Run → List Run → Type 0
+FollowOn v last runs = (s : Run) → last ≡ Some s → MayLead v s runs
+
+first_follows : (v : TableVersion) (last : Option Run) (r : Run) (runs : List Run) → FollowOn v last (r ∷ runs) → MayStandAfter v last r
+first_follows v None r runs h = tt
+first_follows v (Some s) r runs h = h s refl
+
+module _ (rules : TurnRules) (j : ℕ) where
   abbrev line_of : Run → List ℕ
-  line_of r = run_line rules.version rules.format r
+  line_of r = run_line rules.rows.version rules.rows.format r
 
-  -- the first of some runs may stand after the last one
-  abbrev pub FollowsOn : Option Run → List Run → Type 0
-  FollowsOn None runs = Unit {0}
-  FollowsOn (Some last) runs = MayLead rules.version last runs
+  runs_lead : (k n : ℕ) (last : Option Run) (runs : List Run) → length runs + n ≡ k → FollowOn rules.rows.version last runs → AreRuns rules.rows.version runs → AllByRecursion (IsRunWithin rules.rows) runs
+      → Leads (TurnStep rules) (AfterTurns j k last) (map line_of runs) (AfterTurns j n (last_after last runs))
+  runs_lead k n last [] e on are each = ap (λ (m : ℕ). AfterTurns j m last) (omega (arith, e))
+  runs_lead zero n last (r ∷ runs) e on are each = absurd (omega (arith, e))
+  runs_lead (suc k) n last (r ∷ runs) e on are each = (
+    AfterTurns j k (Some r),
+    (r, record { cells = are.0; within = each.0; follows = first_follows rules.rows.version last r runs on; line_is = refl }, refl),
+    runs_lead k n (Some r) runs (omega (arith, e)) (λ s is. subst (λ (x : Run). MayLead rules.rows.version x runs) (same_Some r s is) are.1) are.2 each.1,
+  )
 
-  first_follows : (last : Option Run) (r : Run) (runs : List Run) → FollowsOn last (r ∷ runs) → MayStandAfter rules.version last r
-  first_follows None r runs h = tt
-  first_follows (Some s) r runs h = h
-
-  runs_lead : (n : ℕ) (last : Option Run) (runs : List Run) → FollowsOn last runs → AreRuns rules.version runs → AllByRecursion (IsRunWithin rules) runs
-      → (before : Option Run) × Leads (RunStep rules) (Due (length runs + n) last) (map line_of runs) (Due n before)
-  runs_lead n last [] on are each = (last, ap (λ (k : ℕ). Due k last) (omega arith))
-  runs_lead n last (r ∷ runs) on are each =
-      let k : suc (length runs + n) ≡ suc (length runs) + n = omega arith in
-      let step : RunStep rules (Due (suc (length runs + n)) last) (line_of r) (Due (length runs + n) (Some r)) =
-      (r, record { cells = are.0; within = each.0; follows = first_follows last r runs on; line_is = refl }, refl) in
-      let more = runs_lead n (Some r) runs are.1 are.2 each.1 in
-      (more.0, subst (λ (j : ℕ). Leads (RunStep rules) (Due j last) (map line_of (r ∷ runs)) (Due n more.0)) k (Due (length runs + n) (Some r), step, more.1))
-
-  module _ (rows : List (Option Row)) (within : AreRowsWithin rules rows) where
-    abbrev lines : List (List ℕ)
-    lines = row_lines rules.version rules.format rows
-
-    pub rows_lead : (before : Option Run) × Leads (RunStep rules) (Due (length lines) None) lines (Due 0 before)
-    rows_lead =
-        let runs : List Run = runs_from rules.version 0 rows in
-        let are = runs_within rules rows within in
-        let led = runs_lead 0 None runs tt are.order (recursion_from_All (IsRunWithin rules) runs are.each) in
-        let size : length runs + 0 ≡ length lines = omega (arith, length-map runs line_of) in
-        (led.0, subst (λ (n : ℕ). Leads (RunStep rules) (Due n None) lines (Due 0 led.0)) size led.1)
+  pub some_lead : (k n : ℕ) (runs : List Run) → length runs + n ≡ k → AreRunsWithin rules.rows runs → Leads (TurnStep rules) (AfterTurns j k None) (map line_of runs) (AfterTurns j n (last_after None runs))
+  some_lead k n runs e are = runs_lead k n None runs e (λ s is. absurd (none_some s is)) are.order (recursion_from_All (IsRunWithin rules.rows) runs are.each)
+    where
+      none_some : (s : Run) → None ≡ Some s → ⊥
+      none_some s is = cc
 
 -- ---- rows of runs
 
@@ -103,29 +97,11 @@ own_lines rules runs rows are tell =
     let own = runs_encode rules.version rows in
     ap (map (run_line rules.version rules.format)) (one_list rules.version rows runs (runs_from rules.version 0 rows) are.order own.0 tell own.1)
 
-rows_at : (rules : RowRules) (count : ℕ) (runs : List Run) (rows : List (Option Row)) (bytes rest : List ℕ) → length rows ≡ rules.cells → AreRunsWithin rules runs → EncodeRows runs rows → length runs ≡ count
-    → bytes ≡ joined (map (run_line rules.version rules.format) runs) ++ rest → AreRowsAt rules count bytes rows rest
-rows_at rules count runs rows bytes rest size are tell counted text =
-    let line : Run → List ℕ = run_line rules.version rules.format in
-    let lines = own_lines rules runs rows are tell in
+pub all_read : (rules : RowRules) (at count : ℕ) (last : Option Run) (bytes rest : List ℕ) (rows : List (Option Row)) → at ≡ count → AreRead rules at last bytes rest rows → AreRowsAt rules count bytes rows rest
+all_read rules at count last bytes rest rows e read =
+    let lines = own_lines rules read.runs rows read.are read.tell in
     record {
-      within = rows_within rules runs rows size are (λ c row. (tell c row).0);
-      counted = ap length (sym lines) ∙ length-map runs line ∙ counted;
-      text = text ∙ ap (λ (x : List (List ℕ)). joined x ++ rest) lines ∙ ap (λ (x : List ℕ). x ++ rest) (sym (joined_bytes (row_lines rules.version rules.format rows)));
+      within = rows_within rules read.runs rows read.one_each read.are (λ c row. (read.tell c row).0);
+      counted = ap length (sym lines) ∙ length-map read.runs (run_line rules.version rules.format) ∙ read.counted ∙ e;
+      text = read.text ∙ ap (λ (x : List (List ℕ)). concat x ++ rest) lines;
     }
-
-pub all_read : (rules : RowRules) (count : ℕ) (last : Option Run) (bytes rest : List ℕ) (rows : List (Option Row)) → AreRead rules count 0 last bytes rest rows → AreRowsAt rules count bytes rows rest
-all_read rules count last bytes rest rows read = rows_at rules count read.runs rows bytes rest read.one_each read.are read.tell (omega (arith, read.counted)) (read.read).are
-
--- ---- how many lines there may be
-
--- how many row lines are due
-abbrev due_at : RowsDue → ℕ
-due_at (Due n last) = n
-
-takes_one : (rules : RowRules) (q m : RowsDue) (x : List ℕ) → RunStep rules q x m → due_at m < due_at q
-takes_one rules (Due zero last) m x h = absurd h
-takes_one rules (Due (suc n) last) m x h = omega (arith, ap due_at h.2)
-
-pub few_refused : (rules : RowRules) (count : ℕ) (bytes : List ℕ) (n : ℕ) → IsRunRefused rules count bytes n → n ≤ count + 1
-few_refused rules count bytes n r = omega (arith, r.next, few_pieces (RunStep rules) due_at (takes_one rules) (Due count None) r.to r.pieces (r.read).leads)

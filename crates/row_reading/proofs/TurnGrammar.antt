@@ -1,5 +1,5 @@
 -- The lines of turns are a grammar: each is one line, and says one thing.
-use Rattle.std.proofs.Common.{inl, inr, ◌≡◌, ℕ, zero, suc, ◌^◌, ◌<◌, ◌≤◌, List, [], ◌∷◌, length, length-append, Some, None, refl, sym, ap, subst, ◌∙◌, arith}
+use Rattle.std.proofs.Common.{inl, inr, ◌≡◌, ℕ, zero, suc, ◌^◌, ◌<◌, ◌≤◌, List, [], ◌∷◌, length, length-append, Some, None, sym, ap, subst, ◌∙◌, arith}
 use Rattle.std.specs.Prelude.{codes}
 use Rattle.std.specs.List.{join_with_byte}
 use Rattle.std.specs.Fmt.{decimal}
@@ -16,7 +16,7 @@ use Rattle.row_reading.specs.declared.row_rules.TurnHead.{TurnHead}
 use Rattle.row_reading.specs.declared.row_rules.TurnHead.TheVariants.{Count, Numbered}
 use Rattle.row_reading.specs.declared.row_rules.TurnRules.{TurnRules}
 use Rattle.row_reading.specs.RowsTexts.{head_line}
-use Rattle.row_reading.specs.TurnSteps.{RowsDue, Due, RunStep, AreAll, TurnState, AfterTurns, AfterAll, TurnStep, AreOver}
+use Rattle.row_reading.specs.TurnSteps.{TurnState, AfterTurns, AfterAll, TurnStep, AreOver}
 use Rattle.row_reading.specs.inside.RunReading.{AreSmallTurns}
 use Rattle.row_reading.proofs.RowGrammar.{some_byte, row_is_line, row_same}
 use Rattle.row_reading.proofs.TurnHeads.{head_is_line, head_same}
@@ -96,25 +96,3 @@ module _ (rules : TurnRules) where
       let more = few_lines leads.0 r pieces leads.2 in
       let one = step_bytes q leads.0 x leads.1 in
       omega (arith, more, one, length-append x (joined pieces))
-
--- ---- the row lines of one turn
-
--- the position among the lines of all turns, where so many turns stand
-abbrev pub at_place : ℕ → RowsDue → TurnState
-at_place j (Due n last) = AfterTurns j n last
-
-module _ (rules : TurnRules) (j : ℕ) where
-  turn_step : (q m : RowsDue) (x : List ℕ) → RunStep rules.rows q x m → TurnStep rules (at_place j q) x (at_place j m)
-  turn_step (Due zero last) m x h = absurd h
-  turn_step (Due (suc n) last) m x h = (h.0, h.1, ap (at_place j) h.2)
-
-  pub rows_in_turn : (q r : RowsDue) (pieces : List (List ℕ)) → Leads (RunStep rules.rows) q pieces r → Leads (TurnStep rules) (at_place j q) pieces (at_place j r)
-  rows_in_turn q r [] leads = ap (at_place j) leads
-  rows_in_turn q r (x ∷ pieces) leads = (at_place j leads.0, turn_step q leads.0 x leads.1, rows_in_turn leads.0 r pieces leads.2)
-
-  pub stuck_too : (q : RowsDue) (rest : List ℕ) → (AreAll q rest → ⊥) → IsStuck (RunStep rules.rows) q rest → IsStuck (TurnStep rules) (at_place j q) rest
-  stuck_too (Due zero last) rest unclosed stuck = absurd (unclosed tt)
-  stuck_too (Due (suc n) last) rest unclosed stuck = λ piece behind r cut step. stuck piece behind (Due n (Some step.0)) cut (step.0, step.1, refl)
-
-  pub not_over : (q : RowsDue) (rest : List ℕ) → AreOver (at_place j q) rest → ⊥
-  not_over (Due n last) rest over = over
