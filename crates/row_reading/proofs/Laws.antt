@@ -17,8 +17,7 @@ use Rattle.row_reading.specs.RowsTexts.{head_line, IsRunWithin, AreRowsWithin, r
 use Rattle.row_reading.specs.TurnSteps.{AfterTurns, AfterAll, TurnStep, AreOver, AreTurnsRefusedAt}
 use Rattle.row_reading.specs.inside.RunReading.{IsSpelled, AreSmall, AreSmallTurns}
 use Rattle.row_reading.specs.inside.ReadRows.{AreRunsWithin}
-use Rattle.row_reading.proofs.RunWords.{run_same}
-use Rattle.row_reading.proofs.RowGrammar.{spelled_run}
+use Rattle.row_reading.proofs.RunWords.{run_same, spelled_run}
 use Rattle.row_reading.proofs.RowsRead.{runs_within, few_lines as few_rows}
 use Rattle.row_reading.proofs.TurnGrammar.{Met, turns_are_grammar}
 use Rattle.row_reading.proofs.TurnHeads.{head_same}

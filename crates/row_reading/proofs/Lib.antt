@@ -2,10 +2,7 @@ pub mod Digits
 pub mod RunWords
 pub mod LinesRead
 pub mod Further
-pub mod MoreRuns
-pub mod RowGrammar
 pub mod RowsRead
-pub mod SomeRows
 pub mod TurnHeads
 pub mod TurnGrammar
 pub mod TurnsRead

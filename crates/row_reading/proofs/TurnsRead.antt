@@ -9,7 +9,7 @@ use Rattle.row_runs.specs.declared.run.Run.{Run}
 use Rattle.row_runs.specs.Runs.{runs_from}
 use Rattle.row_runs.specs.RunText.{run_line, end_line}
 use Rattle.text_pieces.specs.Steps.{joined, Leads, IsRead, IsFirstRefused}
-use Rattle.text_pieces.proofs.Laws.{both_ways, read_on}
+use Rattle.text_pieces.proofs.Laws.{both_ways, read_on, few_pieces, few_refused}
 use Rattle.row_reading.specs.declared.row_rules.TurnRules.{TurnRules}
 use Rattle.row_reading.specs.RowsTexts.{head_line, row_lines, lines_from, turn_lines, AreRowsWithin, AreTurnsText}
 use Rattle.row_reading.specs.TurnSteps.{TurnState, AfterTurns, AfterAll, TurnStep, AreOver, AreTurnsRefusedAt}
@@ -17,7 +17,7 @@ use Rattle.row_reading.specs.inside.ReadRows.{IsRunRefused, last_after}
 use Rattle.row_reading.specs.inside.ReadTurns.{IsHeadAt, IsTurnRead, IsTurnRefused, AreTurnsRead}
 use Rattle.row_reading.proofs.Further.{lines_on, is_read, refused_here, refused_on}
 use Rattle.row_reading.proofs.RowsRead.{few_lines as few_rows, runs_within, some_lead}
-use Rattle.row_reading.proofs.TurnGrammar.{few_lines}
+use Rattle.row_reading.proofs.TurnGrammar.{none_empty}
 
 module _ (rules : TurnRules) where
   -- the row lines of one turn
@@ -74,7 +74,7 @@ module _ (rules : TurnRules) (bytes : List ℕ) where
     pub lines_are_few : j ≤ rules.turns → lines ≤ length bytes
     lines_are_few le =
         let way = up_to le in
-        let few = few_lines rules (AfterTurns 0 0 None) (AfterTurns j 0 way.0) read_lines way.1.leads in
+        let few = few_pieces (TurnStep rules) (none_empty rules) (AfterTurns 0 0 None) (AfterTurns j 0 way.0) read_lines way.1.leads in
         omega (arith, few, up.counted, ap length way.1.are, length-append (joined read_lines) rest)
 
     -- a turn more
@@ -163,9 +163,7 @@ row_refused rules j count bytes rest lt head n refused last =
 
 -- the number of a refused line is small
 pub line_bound_from : (rules : TurnRules) (q : TurnState) (bytes : List ℕ) (n : ℕ) → IsFirstRefused (TurnStep rules) AreOver q bytes n → n ≤ length bytes + 1
-line_bound_from rules q bytes n r =
-    let lines = few_lines rules q r.to r.pieces (r.read).leads in
-    omega (arith, lines, r.next, ap length (r.read).are, length-append (joined r.pieces) r.rest)
+line_bound_from rules q bytes n r = few_refused (TurnStep rules) AreOver (none_empty rules) q bytes n r
 
 pub line_bound : (rules : TurnRules) (bytes : List ℕ) (n : ℕ) → AreTurnsRefusedAt rules bytes n → n ≤ length bytes + 1
 line_bound rules bytes n r = line_bound_from rules (AfterTurns 0 0 None) bytes n r

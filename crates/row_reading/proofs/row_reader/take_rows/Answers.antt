@@ -1,6 +1,5 @@
 use Rattle.std.proofs.Common.{arith}
-use Rattle.row_reading.proofs.MoreRuns.{nothing_read, read_on, run_refused}
-use Rattle.row_reading.proofs.RowsRead.{all_read}
+use Rattle.row_reading.proofs.RowsRead.{all_read, nothing_read, read_on, run_refused}
 use Rattle.row_reading.proofs.row_reader.take_rows.Goals as goal
 
 pub loop-at-init : goal.loop-at-init
