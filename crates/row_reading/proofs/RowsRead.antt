@@ -2,7 +2,7 @@
 use Rattle.std.proofs.Common.{inl, inr, ◌≡◌, ℕ, zero, suc, ◌+◌, ◌≤◌, List, [], ◌∷◌, ◌++◌, length, map, Option, Some, None, refl, sym, ap, subst, ◌∙◌, arith, ◌-◌, ◌<◌, length-append, replicate, append-nil}
 use Rattle.std.specs.Prelude.{IfSome}
 use Rattle.std.specs.List.{AllByRecursion, concat}
-use Rattle.std.proofs.lemmas.Option.{same_Some}
+use Rattle.std.proofs.lemmas.Option.{none-some, same_Some}
 use Rattle.std.proofs.lemmas.List.{length-map, map-append}
 use Rattle.std.proofs.lemmas.List.Elements.{recursion_from_All, All-from_recursion, All-from_get_or, All-nil, All-push}
 use Rattle.game_core.specs.declared.game.Row.{Row}
@@ -50,9 +50,6 @@ module _ (rules : RowRules) (rows : List (Option Row)) (within : AreRowsWithin r
 
 -- ---- their lines lead on
 
-pub none_some : {X : Type 0} (x : X) → None ≡ Some x → ⊥
-none_some x e = cc
-
 -- the first of some runs may stand after the last one
 abbrev pub FollowOn : TableVersion → Option Run → List Run → Type 0
 FollowOn v last runs = (s : Run) → last ≡ Some s → MayLead v s runs
@@ -76,7 +73,7 @@ module _ (rules : TurnRules) (j : ℕ) where
   )
 
   pub some_lead : (k n : ℕ) (runs : List Run) → length runs + n ≡ k → AreRunsWithin rules.rows runs → Leads (TurnStep rules) (AfterTurns j k None) (map (line_of rules.rows) runs) (AfterTurns j n (last_after None runs))
-  some_lead k n runs e are = runs_lead k n None runs e (λ s is. absurd (none_some s is)) are.order (recursion_from_All (IsRunWithin rules.rows) runs are.each)
+  some_lead k n runs e are = runs_lead k n None runs e (λ s is. absurd (none-some s is)) are.order (recursion_from_All (IsRunWithin rules.rows) runs are.each)
 
 -- ---- rows of runs
 
@@ -130,7 +127,7 @@ module _ (rules : RowRules) (bytes : List ℕ) where
     one_each = ap length are ∙ length-replicate rules.cells None;
     runs = [];
     are = record { order = tt; each = All-nil (IsRunWithin rules) };
-    tell = λ c row. ((λ e. absurd (none_some row (sym (ap (λ (r : List (Option Row)). row_of r c) are ∙ no_row rules.cells c) ∙ e))), (λ given. absurd given));
+    tell = λ c row. ((λ e. absurd (none-some row (sym (ap (λ (r : List (Option Row)). row_of r c) are ∙ no_row rules.cells c) ∙ e))), (λ given. absurd given));
     counted = refl;
     last_is = refl;
     text = refl;

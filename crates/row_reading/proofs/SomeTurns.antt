@@ -3,7 +3,7 @@ use Rattle.std.proofs.Common.{inl, inr, ◌≡◌, ℕ, suc, ◌<◌, ◌≤◌,
 use Rattle.std.specs.Prelude.{◌↔◌}
 use Rattle.std.specs.List.{AllByRecursion, range_with_len}
 use Rattle.std.proofs.lemmas.Bool.{cases_lt}
-use Rattle.std.proofs.lemmas.Option.{same_Some}
+use Rattle.std.proofs.lemmas.Option.{none-some, same_Some}
 use Rattle.std.proofs.lemmas.List.{get_or_past, nil_from_length, length-map}
 use Rattle.std.proofs.lemmas.List.FromFn.{get_or-map-range_with_len, length-map-range_with_len}
 use Rattle.std.proofs.lemmas.List.Elements.{All-from_recursion}
@@ -16,7 +16,7 @@ use Rattle.row_runs.proofs.Encoding.{begin_later, gives_above}
 use Rattle.row_reading.specs.declared.row_rules.RowRules.{RowRules}
 use Rattle.row_reading.specs.RowsTexts.{IsRunWithin, AreRowsWithin, row_lines, head_line, lines_from, turn_lines, AreTurnsText}
 use Rattle.row_reading.specs.inside.ReadRows.{AreRunsWithin}
-use Rattle.row_reading.proofs.RowsRead.{none_some, FollowOn, own_lines, rows_within}
+use Rattle.row_reading.proofs.RowsRead.{FollowOn, own_lines, rows_within}
 use Rattle.text_pieces.specs.Steps.{joined, Leads, IsRead}
 use Rattle.text_pieces.proofs.Laws.{joined_bytes, undeniable}
 use Rattle.row_reading.specs.declared.row_rules.TurnRules.{TurnRules}
@@ -51,7 +51,7 @@ passed r runs c apart rest = record {
 }
 
 given_row : (v : TableVersion) (runs : List Run) (c : ℕ) → AreRuns v runs → IsGiven runs c
-given_row v [] c order = record { row = None; told = λ x. ((λ e. absurd (none_some x e)), (λ g. absurd g)) }
+given_row v [] c order = record { row = None; told = λ x. ((λ e. absurd (none-some x e)), (λ g. absurd g)) }
 given_row v (r ∷ runs) c order =
     let rest = given_row v runs c order.2 in
     elim (cases_lt c r.first) [
@@ -96,7 +96,7 @@ rows_of rules runs order each = record { rows = rows; within = rows_within rules
     tell c row = elim (cases_lt c rules.cells) [
       | inl lt ↦ subst (λ (o : Option Row). (o ≡ Some row) ↔ Gives runs c row) (sym (get_or-map-range_with_len row_at 0 rules.cells c c None lt (omega arith))) ((given_row rules.version runs c order).told row)
       | inr past ↦ (
-        (λ e. absurd (none_some row (sym (get_or_past rows c None (omega (arith, past, size))) ∙ e))),
+        (λ e. absurd (none-some row (sym (get_or_past rows c None (omega (arith, past, size))) ∙ e))),
         (λ g. absurd (let below = given_below rules runs c row each g in omega (arith, past, below))),
       )
     ]
