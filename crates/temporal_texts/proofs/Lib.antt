@@ -1,8 +1,5 @@
-pub mod StayRules
-pub mod PatrolRules
 pub mod OneStayText
 pub mod OnePatrolText
-pub mod StayRefusals
-pub mod PatrolRefusals
+pub mod TextRefusals
 pub mod Trajectories
 pub mod TextLaws
