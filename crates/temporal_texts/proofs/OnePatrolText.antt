@@ -1,4 +1,5 @@
--- The rules of a plant's patrol rows allow the rows that fit it, and no others; a patrol text is the text of its kind, and says one thing.
+-- The rules of a plant's patrol rows allow the rows that fit it, and no others; a patrol text is the text of its
+-- kind, and says one thing.
 use Rattle.std.proofs.Common.{List, get_or, Option, ◌≡◌, ℕ}
 use Rattle.base.proofs.Options.{IfSome-weaker}
 use Rattle.game_core.specs.declared.game.Row.{Row}

@@ -1,4 +1,5 @@
--- The rules of a plant's stay rows allow the rows that fit it, and no others; a stay text is the text of its kind, of one turn, and says one thing.
+-- The rules of a plant's stay rows allow the rows that fit it, and no others; a stay text is the text of its kind,
+-- of one turn, and says one thing.
 use Rattle.std.proofs.Common.{◌≡◌, ◌<◌, List, length, get_or, Option, arith, ℕ, [], ◌∷◌, refl, subst}
 use Rattle.base.proofs.Options.{IfSome-weaker}
 use Rattle.game_core.specs.declared.game.Row.{Row}

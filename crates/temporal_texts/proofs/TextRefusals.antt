@@ -1,4 +1,5 @@
--- A text has one reason to be refused as a stay text, none where it is one, and no text is neither; and so for patrol texts, where the turns are few enough.
+-- A text has one reason to be refused as a stay text, none where it is one, and no text is neither; and so for
+-- patrol texts, where the turns are few enough.
 use Rattle.std.proofs.Common.{◌≡◌, List, [], ◌∷◌, Option, refl, subst}
 use Rattle.base.specs.declared.limits.TheConstants.{TABLE_LIMIT}
 use Rattle.game_core.specs.declared.game.Row.{Row}
