@@ -10,10 +10,11 @@ use Rattle.grid_quantiser.specs.Axes.{cells_of}
 use Rattle.plant_record.specs.Description.{Description, axes_of}
 use Rattle.plant_game.specs.Abstraction.{IsGameOf}
 use Rattle.turn_rows.specs.Targets.{IsInTarget}
-use Rattle.temporal_texts.specs.PatrolText.{IsPatrolRowOf, PatrolRowsFit}
+use Rattle.temporal_texts.specs.PatrolText.{IsPatrolRowOf, PatrolRowsFit, patrol_text, IsPatrolText}
 use Rattle.turn_rows.specs.Rows.{rows_for}
 use Rattle.temporal_games.specs.Patrol.{IsPatrol}
 use Rattle.temporal_games.proofs.PatrolRowLaws.{rows_are_within}
+use Rattle.plant_record.specs.Limits.{IsWithinLimits}
 
 pub patrol_rows_fit : (p : Description) (g : Game) (rows : List (List (Option Row))) → IsGameOf p g → IsPatrol g (IsInTarget p) (length p.targets) rows → PatrolRowsFit p rows
 patrol_rows_fit p g rows a s = record {
@@ -33,3 +34,7 @@ patrol_rows_fit p g rows a s = record {
 
     turn : (j : ℕ) → j < length p.targets → All (λ row. IfSome row (IsPatrolRowOf p)) (rows_for rows j)
     turn j lj = All-from_get_or (λ row. IfSome row (IsPatrolRowOf p)) (rows_for rows j) None (λ c lt. let n = s.one_row_each j lj in fits j c lj (omega (arith, lt, n)) (row_of (rows_for rows j) c) refl)
+
+-- the text of the solution is one
+pub solution_has_patrol_text : (p : Description) (g : Game) (rows : List (List (Option Row))) → IsWithinLimits p → IsGameOf p g → IsPatrol g (IsInTarget p) (length p.targets) rows → IsPatrolText (patrol_text p rows) p rows
+solution_has_patrol_text p g rows within game solution = record { limits = within; fitting = patrol_rows_fit p g rows game solution; text = refl }

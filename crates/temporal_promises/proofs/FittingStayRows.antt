@@ -19,8 +19,9 @@ use Rattle.temporal_games.specs.Stay.{IsStayedBy, IsStayRow, IsStaySolution}
 use Rattle.game_core.proofs.Carried.{remarked_game}
 use Rattle.temporal_games.proofs.Trees.{AreMarksFor, from_wins, to_rank, to_within, from_within}
 use Rattle.plant_game.specs.Abstraction.{IsGameOf}
-use Rattle.temporal_texts.specs.StayText.{IsStayRowOf, StayRowsFit}
+use Rattle.temporal_texts.specs.StayText.{IsStayRowOf, StayRowsFit, stay_text, IsStayText}
 use Rattle.game_core.proofs.Rows.{below_from_row}
+use Rattle.plant_record.specs.Limits.{IsWithinLimits}
 
 -- the mark of a cell that is no end
 abbrev way_mark : Mark → Mark
@@ -163,3 +164,7 @@ stay_rows_fit p g rows a s = record {
       rank = subst (λ (n : ℕ). row.rank < n) a.cells (ranks_fit g a.game rows s c row e);
       input = subst (λ (n : ℕ). row.input < n) a.inputs r.leads.0.0;
     }
+
+-- the text of the solution is one
+pub solution_has_stay_text : (p : Description) (g : Game) (rows : List (Option Row)) → IsWithinLimits p → IsGameOf p g → IsStaySolution g rows → IsStayText (stay_text p rows) p rows
+solution_has_stay_text p g rows within game solution = record { limits = within; fitting = stay_rows_fit p g rows game solution; text = refl }
