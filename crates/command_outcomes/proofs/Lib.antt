@@ -1,7 +1,6 @@
 pub mod Below
 pub mod Undeniable
 pub mod SomeGame
-pub mod SomePlant
 pub mod Stages
 pub mod Outcomes
 pub mod SomeOutcome

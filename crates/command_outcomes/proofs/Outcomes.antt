@@ -90,37 +90,19 @@ read_then {A = A} Reads R Passes Refuses one_thing one either exact = record {
 
 -- ---- a plant
 
--- no earlier equation or input overflows than the first
-no_earlier : (p : Description) (i u j v : ℕ) → IsFirstOverflow p i u → IsFirstOverflow p j v → j < i → ⊥
-no_earlier p i u j v f g lt = g.overflow (f.equations_before j v lt g.input)
-
-no_earlier_input : (p : Description) (i u v : ℕ) → IsFirstOverflow p i u → IsFirstOverflow p i v → v < u → ⊥
-no_earlier_input p i u v f g lt = g.overflow (f.inputs_before v lt)
-
-same_equation : (p : Description) (i u j v : ℕ) → IsFirstOverflow p i u → IsFirstOverflow p j v → i ≡ j
-same_equation p i u j v f g =
-    elim (cases_order i j) [
-      | inl e ↦ e
-      | inr other ↦ elim other [
-        | inl lt ↦ absurd (no_earlier p j v i u g f lt)
-        | inr lt ↦ absurd (no_earlier p i u j v f g lt)
-      ]
-    ]
-
-same_input : (p : Description) (i u v : ℕ) → IsFirstOverflow p i u → IsFirstOverflow p i v → u ≡ v
-same_input p i u v f g =
-    elim (cases_order u v) [
-      | inl e ↦ e
-      | inr other ↦ elim other [
-        | inl lt ↦ absurd (no_earlier_input p i v u g f lt)
-        | inr lt ↦ absurd (no_earlier_input p i u v f g lt)
-      ]
-    ]
+-- of two that are first neither is earlier
+first_is : (i j : ℕ) → (i < j → ⊥) → (j < i → ⊥) → i ≡ j
+first_is i j above below = elim (cases_order i j) [
+  | inl e ↦ e
+  | inr (inl lt) ↦ absurd (above lt)
+  | inr (inr lt) ↦ absurd (below lt)
+]
 
 same_overflow : (p : Description) (i u j v : ℕ) → IsFirstOverflow p i u → IsFirstOverflow p j v → Overflow i u ≡ Overflow j v
 same_overflow p i u j v f g =
-    let equation : i ≡ j = same_equation p i u j v f g in
-    let input : u ≡ v = same_input p j u v (subst (λ (k : ℕ). IsFirstOverflow p k u) equation f) g in
+    let equation : i ≡ j = first_is i j (λ lt. f.overflow (g.equations_before i u lt f.input)) (λ lt. g.overflow (f.equations_before j v lt g.input)) in
+    let here : IsFirstOverflow p j u = subst (λ (k : ℕ). IsFirstOverflow p k u) equation f in
+    let input : u ≡ v = first_is u v (λ lt. here.overflow (g.inputs_before u lt)) (λ lt. g.overflow (here.inputs_before v lt)) in
     ap (λ (k : ℕ). Overflow k u) equation ∙ ap (λ (k : ℕ). Overflow j k) input
 
 pub fits_or_not : (p : Description) (i u : ℕ) → HasNoOverflow p → IsFirstOverflow p i u → ⊥
@@ -158,7 +140,7 @@ one_wrong p rows b c plant f g =
 -- each row of a solution is right for its goal
 each_right : (goal : GoalKind) (g : Game) (rows : List (Option Row)) (c : ℕ) → IsGame g → Solves goal g rows → c < g.cells → IsRightFor goal g rows c
 each_right Reach g rows c game solution lt = (solutions_are_right g rows game solution).each c lt
-each_right Keep g rows c game solution lt = (rows, solution, refl)
+each_right Keep g rows c game solution lt = solution.each c lt
 
 -- the solution has no wrong row
 no_wrong : (p : Description) (rows : List (Option Row)) (c : ℕ) → IsPlant p → IsSolutionOf p rows → IsFirstWrong p rows c → ⊥
@@ -187,23 +169,15 @@ start_exact p rows start =
 
 -- ---- texts
 
--- A refused text, by the fault of its reader.
-record IsFaulty {Fault : Type 0} (IsFault : Fault → Type 0) (refusal_of : Fault → Refusal) (r : Refusal) : Type 0 where
-  fault : Fault
-  refused : IsFault fault
-  is : r ≡ refusal_of fault
+-- a refused text, by the fault of its reader
+abbrev IsFaulty : {Fault : Type 0} → (Fault → Type 0) → (Fault → Refusal) → Refusal → Type 0
+IsFaulty {Fault = Fault} IsFault refusal_of r = (fault : Fault) × IsFault fault × (r ≡ refusal_of fault)
 
 faulty : {Fault : Type 0} (IsFault : Fault → Type 0) (refusal_of : Fault → Refusal) (malformed : ℕ → Fault) (limit : LimitKind → Fault)
     → ((line : ℕ) → Malformed line ≡ refusal_of (malformed line)) → ((what : LimitKind) → Limit what ≡ refusal_of (limit what))
     → (r : Refusal) → IsReadRefusal (λ line. IsFault (malformed line)) (λ what. IsFault (limit what)) r → IsFaulty IsFault refusal_of r
-faulty IsFault refusal_of malformed limit line what r h = elim h [
-  | inl f ↦ record { fault = malformed f.0; refused = f.2; is = f.1 ∙ line f.0 }
-  | inr f ↦ record { fault = limit f.0; refused = f.2; is = f.1 ∙ what f.0 }
-]
-
--- two refusals of a text are one, where its reader has one fault
-one_fault : {Fault : Type 0} (IsFault : Fault → Type 0) (refusal_of : Fault → Refusal) (r s : Refusal) → ((f g : Fault) → IsFault f → IsFault g → f ≡ g) → IsFaulty IsFault refusal_of r → IsFaulty IsFault refusal_of s → r ≡ s
-one_fault IsFault refusal_of r s one f g = f.is ∙ ap refusal_of (one f.fault g.fault f.refused g.refused) ∙ sym g.is
+faulty IsFault refusal_of malformed limit line what r (inl f) = (malformed f.0, f.2, f.1 ∙ line f.0)
+faulty IsFault refusal_of malformed limit line what r (inr f) = (limit f.0, f.2, f.1 ∙ what f.0)
 
 abbrev refusal_of_plant : PlantFault → Refusal
 refusal_of_plant (plants.Malformed line) = Malformed line
@@ -225,8 +199,8 @@ faulty_table bytes r h = faulty (IsTableRefusedFor bytes) refusal_of_table (λ l
 text_exact : (Passes : Description → Type 0) (Refuses : Description → Refusal → Type 0) → ((p : Description) → IsPlant p → IsExact (Passes p) (Refuses p)) → (bytes : List ℕ) → IsExact (SpellPlantWith Passes bytes) (IsTextRefusal Refuses bytes)
 text_exact Passes Refuses exact bytes =
     read_then (IsAccepted bytes) (IsRefused bytes) Passes Refuses (λ p q f g. one_plant_per_text bytes p q f.spells g.spells)
-    (λ r s f g. one_fault (IsRefusedFor bytes) refusal_of_plant r s (one_refusal bytes) (faulty_plant bytes r f) (faulty_plant bytes s g))
-    (λ p accepted r f. let x = faulty_plant bytes r f in read_or_refused bytes p x.fault accepted.spells accepted.short accepted.limits x.refused)
+    (λ r s f g. let x = faulty_plant bytes r f in let y = faulty_plant bytes s g in x.2 ∙ ap refusal_of_plant (one_refusal bytes x.0 y.0 x.1 y.1) ∙ sym y.2)
+    (λ p accepted r f. let x = faulty_plant bytes r f in read_or_refused bytes p x.0 accepted.spells accepted.short accepted.limits x.1)
     (λ p accepted. exact p accepted.limits.plant)
 
 -- tables demand one thing where their plants and rows do
@@ -236,8 +210,8 @@ table_exact Passes Refuses exact bytes =
     exact_by
     (read_then {A = Description × List (Option Row)} (λ t. IsTable bytes t.0 t.1) (IsRefusedTable bytes) (λ t. Passes t.0 t.1) (λ t. Refuses t.0 t.1)
     (λ t u f g. let same = one_table_per_text bytes t.0 u.0 t.1 u.1 f g in λ i. (same.0 i, same.1 i))
-    (λ r s f g. one_fault (IsTableRefusedFor bytes) refusal_of_table r s (one_table_refusal bytes) (faulty_table bytes r f) (faulty_table bytes s g))
-    (λ t table r f. let x = faulty_table bytes r f in table_or_refused bytes t.0 t.1 x.fault table x.refused)
+    (λ r s f g. let x = faulty_table bytes r f in let y = faulty_table bytes s g in x.2 ∙ ap refusal_of_table (one_table_refusal bytes x.0 y.0 x.1 y.1) ∙ sym y.2)
+    (λ t table r f. let x = faulty_table bytes r f in table_or_refused bytes t.0 t.1 x.0 table x.1)
     (λ t table. exact t.0 t.1 table.limits.plant))
     (λ t. ((t.0, t.1), t.2, t.3))
     (λ r f. elim f [

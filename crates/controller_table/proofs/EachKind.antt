@@ -1,5 +1,5 @@
 -- What is known of each kind: its first line gives it, its numbers are small, and its turns are few or many.
-use Rattle.std.proofs.Common.{inl, inr, ◌≡◌, ◌⊎◌, ℕ, ◌+◌, ◌-◌, ◌*◌, ◌^◌, ◌<◌, ◌≤◌, ◌==◌, List, ◌++◌, get_or, refl, sym, ap, ◌∙◌, arith}
+use Rattle.std.proofs.Common.{inl, inr, ◌≡◌, ◌⊎◌, ℕ, ◌+◌, ◌-◌, ◌*◌, ◌^◌, ◌≤◌, ◌==◌, List, ◌++◌, get_or, refl, sym, ap, ◌∙◌, arith}
 use Rattle.std.specs.Prelude.{if◌then◌else◌, length}
 use Rattle.std.proofs.lemmas.Bool.{cases_lt}
 use Rattle.std.proofs.lemmas.List.{append_cancel_left}
@@ -8,12 +8,12 @@ use Rattle.plant_record.specs.declared.aims.GoalKind.{GoalKind}
 use Rattle.plant_record.specs.declared.aims.GoalKind.TheVariants.{Reach, Keep}
 use Rattle.plant_record.specs.Description.{Description, axes_of}
 use Rattle.plant_record.specs.Limits.{IsWithinLimits}
-use Rattle.plant_record.proofs.lemmas.Limits.{small_cells, small_vectors}
 use Rattle.row_runs.specs.declared.run.TableVersion.TheVariants.{First, Second}
 use Rattle.row_reading.specs.inside.RunReading.{AreSmallTurns}
 use Rattle.controller_table.specs.declared.text_kind.TextKind.{TextKind}
 use Rattle.controller_table.specs.declared.text_kind.TextKind.TheVariants.{Table, Stay, Patrol}
 use Rattle.controller_table.specs.TextKinds.{first_line, most_rank_of, turn_rules, HasFewTurnsFor}
+use Rattle.controller_table.proofs.RowLengths.{AreShort}
 
 -- ---- the first line
 
@@ -38,41 +38,40 @@ one_kind k l s t e =
 
 -- ---- its numbers
 
-less : (n : ℕ) → n ≤ 2 ^ 20 → n - 1 < 2 ^ 32
+most_rank : (goal : GoalKind) (cells : ℕ) → cells ≤ 2 ^ 20 → most_rank_of goal cells ≤ 2 ^ 20
+most_rank Reach cells le = omega (arith, le)
+most_rank Keep cells le = omega arith
+
+less : (n : ℕ) → n ≤ 2 ^ 20 → n - 1 ≤ 2 ^ 20
 less n le = omega (arith, le)
 
-few_ranks : (goal : GoalKind) (cells : ℕ) → cells ≤ 2 ^ 20 → most_rank_of goal cells < 2 ^ 32
-few_ranks Reach cells le = less cells le
-few_ranks Keep cells le = omega arith
+pub short_rows : (k : TextKind) (p : Description) → IsWithinLimits p → AreShort (turn_rules k p).rows
+short_rows (Table v) p within = record { cells = within.cells; vectors = within.vectors; most_rank = most_rank p.goal (cells_of (axes_of p)) within.cells }
+short_rows Stay p within = record { cells = within.cells; vectors = within.vectors; most_rank = less (cells_of (axes_of p)) within.cells }
+short_rows Patrol p within = record { cells = within.cells; vectors = within.vectors; most_rank = within.cells }
+
+pub few_turns : (k : TextKind) (p : Description) → IsWithinLimits p → (turn_rules k p).turns ≤ 2 ^ 20
+few_turns (Table v) p within = omega arith
+few_turns Stay p within = omega arith
+few_turns Patrol p within = let bound = within.plant.targets_bound in omega (arith, bound)
 
 pub small_turns : (k : TextKind) (p : Description) → IsWithinLimits p → AreSmallTurns (turn_rules k p)
-small_turns (Table version) p within = record {
-  rows = record { cells = small_cells p within; vectors = small_vectors p within; most_rank = few_ranks p.goal (cells_of (axes_of p)) within.cells };
-  turns = omega arith;
-}
-small_turns Stay p within = record {
-  rows = record { cells = small_cells p within; vectors = small_vectors p within; most_rank = less (cells_of (axes_of p)) within.cells };
-  turns = omega arith;
-}
-small_turns Patrol p within = record {
-  rows = record { cells = small_cells p within; vectors = small_vectors p within; most_rank = small_cells p within };
-  turns = let bound = within.plant.targets_bound in omega (arith, bound);
-}
+small_turns k p within =
+    let short = short_rows k p within in
+    record {
+      rows = record { cells = omega (arith, short.cells); vectors = omega (arith, short.vectors); most_rank = omega (arith, short.most_rank) };
+      turns = let few = few_turns k p within in omega (arith, few);
+    }
 
 pub few_cells : (k : TextKind) (p : Description) → IsWithinLimits p → (turn_rules k p).rows.cells ≤ 2 ^ 20
-few_cells (Table version) p within = within.cells
-few_cells Stay p within = within.cells
-few_cells Patrol p within = within.cells
+few_cells k p within = (short_rows k p within).cells
 
 -- ---- its turns
-
-too_many : (cells turns : ℕ) → 4194304 < cells * turns → cells * turns ≤ 4194304 → ⊥
-too_many cells turns many few = omega (arith, many, few)
 
 pub few_or_many : (k : TextKind) (p : Description) → HasFewTurnsFor k p ⊎ (HasFewTurnsFor k p → ⊥)
 few_or_many (Table version) p = inl tt
 few_or_many Stay p = inl tt
 few_or_many Patrol p = elim (cases_lt 4194304 (cells_of (axes_of p) * length p.targets)) [
-  | inl many ↦ inr (λ few. too_many (cells_of (axes_of p)) (length p.targets) many few)
+  | inl many ↦ inr (λ few. omega (arith, many, few))
   | inr few ↦ inl few
 ]

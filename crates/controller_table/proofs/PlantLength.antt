@@ -1,14 +1,14 @@
 -- How long the canonical text of a plant is at most.
-use Rattle.std.proofs.Common.{◌≡◌, ℕ, zero, suc, ◌+◌, ◌*◌, ◌≤◌, Bool, true, false, cond, List, [], ◌∷◌, ◌++◌, length, length-append, map, take, get_or, sym, subst, arith}
+use Rattle.std.proofs.Common.{inl, inr, ◌≡◌, ℕ, zero, suc, ◌+◌, ◌*◌, ◌≤◌, Bool, true, false, cond, List, [], ◌∷◌, ◌++◌, length, length-append, map, take, get_or, refl, sym, subst, arith}
 use Rattle.std.specs.Prelude.{ℤ, pos, negsuc, nat_lt, codes}
 use Rattle.std.specs.List.{All, AllByRecursion, AllZip, join_with_byte, flat_map}
 use Rattle.std.specs.Fmt.{signed_decimal}
-use Rattle.std.proofs.lemmas.Bool.{and_parts, leb-true}
+use Rattle.std.proofs.lemmas.Bool.{and_parts, cases_lt, leb-true}
 use Rattle.std.proofs.lemmas.Fmt.{length-decimal-le}
-use Rattle.std.proofs.lemmas.List.{length-map}
+use Rattle.std.proofs.lemmas.List.{get_or_past, length-map}
 use Rattle.std.proofs.lemmas.List.Concat.{length-flat_map}
 use Rattle.std.proofs.lemmas.List.Sums.{sum_by-le}
-use Rattle.std.proofs.lemmas.List.Elements.{All-weaker, recursion_from_All}
+use Rattle.std.proofs.lemmas.List.Elements.{All-append, All-map, All-weaker, recursion_from_All}
 use Rattle.fixed_expr.specs.Expression.{Expression, NumExpr, VarExpr, NegExpr, AddExpr, SubExpr, MulExpr, DivExpr, MinExpr, MaxExpr, AbsExpr, LutExpr}
 use Rattle.fixed_expr.specs.Curves.{IsShort as IsShortPoint}
 use Rattle.plant_record.specs.declared.variables.StateVariable.{StateVariable}
@@ -60,20 +60,22 @@ name_length w h =
     let second = (and_parts _ _ first).1 in
     leb-true (length w) 32 (and_parts _ _ second).0
 
-abbrev IsShort : ℕ → List ℕ → Type 0
+abbrev pub IsShort : ℕ → List ℕ → Type 0
 IsShort k w = length w ≤ k
 
-join_length : (k : ℕ) (words : List (List ℕ)) → AllByRecursion (IsShort k) words → length (join_with_byte 32 words) ≤ length words * (k + 1)
-join_length k [] h = omega arith
-join_length k (x ∷ []) h = let one = h.0 in omega (arith, one)
-join_length k (x ∷ y ∷ words) h =
-    let one = h.0 in
-    let more = join_length k (y ∷ words) h.1 in
-    let whole = length-append x (32 ∷ join_with_byte 32 (y ∷ words)) in
-    grind (arith, one, more, whole)
+pub line_more : (w x : List ℕ) (words : List (List ℕ)) → length (line (w ∷ x ∷ words)) ≡ length w + 1 + length (line (x ∷ words))
+line_more w x words =
+    let rest : List ℕ = join_with_byte 32 (x ∷ words) in
+    omega (arith, length-append (w ++ 32 ∷ rest) (codes "\n"), length-append w (32 ∷ rest), length-append rest (codes "\n"))
 
-line_length : (k : ℕ) (words : List (List ℕ)) → AllByRecursion (IsShort k) words → length (line words) ≤ length words * (k + 1) + 1
-line_length k words h = omega (arith, join_length k words h, length-append (join_with_byte 32 words) (codes "\n"))
+pub line_length : (k : ℕ) (words : List (List ℕ)) → AllByRecursion (IsShort k) words → length (line words) ≤ length words * (k + 1) + 1
+line_length k [] h = omega arith
+line_length k (x ∷ []) h = let one = h.0 in omega (arith, one, length-append x (codes "\n"))
+line_length k (x ∷ y ∷ words) h =
+    let one = h.0 in
+    let more = line_length k (y ∷ words) h.1 in
+    let whole = line_more x y words in
+    grind (arith, one, more, whole)
 
 numbers_short : (zs : List ℤ) → AllByRecursion IsLiteral zs → AllByRecursion (IsShort 32) (map signed_decimal zs)
 numbers_short [] h = tt
@@ -140,40 +142,32 @@ called : (open_word a b : List ℕ) (m n : ℕ) → length open_word ≤ 4 → l
 called open_word a b m n few ha hb =
     omega (arith, few, ha, hb, length-append (open_word ++ a ++ codes ", " ++ b) (codes ")"), length-append (open_word ++ a ++ codes ", ") b, length-append (open_word ++ a) (codes ", "), length-append open_word a)
 
-name_at : (names : List (List ℕ)) (i : ℕ) → AllByRecursion (IsShort 32) names → length (get_or names i []) ≤ 32
-name_at [] i h = omega arith
-name_at (name ∷ names) zero h = h.0
-name_at (name ∷ names) (suc i) h = name_at names i h.1
+name_at : (names : List (List ℕ)) (i : ℕ) → All (IsShort 32) names → length (get_or names i []) ≤ 32
+name_at names i short = elim (cases_lt i (length names)) [ inl lt ↦ short i [] lt | inr ge ↦ rw (get_or_past names i [] ge) (omega arith) ]
 
-module _ (names : List (List ℕ)) (short : AllByRecursion (IsShort 32) names) (m : ℕ) where
+module _ (names : List (List ℕ)) (short : All (IsShort 32) names) (m : ℕ) where
+  -- two expressions with so long a sign between them
+  binary : (own asked left right : ℕ) (sign : List ℕ) (a b : Expression) → length sign ≡ 3 → length (expression_text names left a) ≤ node_bytes * nodes_of a → length (expression_text names right b) ≤ node_bytes * nodes_of b
+      → length (at_level own asked (expression_text names left a ++ sign ++ expression_text names right b)) ≤ node_bytes * suc (nodes_of a + nodes_of b)
+  binary own asked left right sign a b three x y =
+      placed own asked (expression_text names left a ++ sign ++ expression_text names right b) (node_bytes * suc (nodes_of a + nodes_of b))
+      (let t = joined (expression_text names left a) (expression_text names right b) sign (node_bytes * nodes_of a) (node_bytes * nodes_of b) (3 + node_bytes * nodes_of a + node_bytes * nodes_of b) x y (omega (arith, three)) in omega (arith, t))
+
   expression_length : (asked : ℕ) (e : Expression) → HasLiterals m e → length (expression_text names asked e) ≤ node_bytes * nodes_of e
   expression_length asked (NumExpr k) h = let n = number_length k h.1 in omega (arith, n)
   expression_length asked (VarExpr i) h = let n = name_at names i short in omega (arith, n)
   expression_length asked (NegExpr a) h = let x = expression_length 3 a h in omega (arith, x)
-  expression_length asked (AddExpr a b) h =
-      let x = expression_length 1 a h.0 in
-      let y = expression_length 2 b h.1 in
-      placed 1 asked (expression_text names 1 a ++ codes " + " ++ expression_text names 2 b) (node_bytes * suc (nodes_of a + nodes_of b)) (let t = joined (expression_text names 1 a) (expression_text names 2 b) (codes " + ") (node_bytes * nodes_of a) (node_bytes * nodes_of b) (3 + node_bytes * nodes_of a + node_bytes * nodes_of b) x y (omega arith) in omega (arith, t))
-  expression_length asked (SubExpr a b) h =
-      let x = expression_length 1 a h.0 in
-      let y = expression_length 2 b h.1 in
-      placed 1 asked (expression_text names 1 a ++ codes " - " ++ expression_text names 2 b) (node_bytes * suc (nodes_of a + nodes_of b)) (let t = joined (expression_text names 1 a) (expression_text names 2 b) (codes " - ") (node_bytes * nodes_of a) (node_bytes * nodes_of b) (3 + node_bytes * nodes_of a + node_bytes * nodes_of b) x y (omega arith) in omega (arith, t))
-  expression_length asked (MulExpr a b) h =
-      let x = expression_length 2 a h.0 in
-      let y = expression_length 3 b h.1 in
-      placed 2 asked (expression_text names 2 a ++ codes " * " ++ expression_text names 3 b) (node_bytes * suc (nodes_of a + nodes_of b)) (let t = joined (expression_text names 2 a) (expression_text names 3 b) (codes " * ") (node_bytes * nodes_of a) (node_bytes * nodes_of b) (3 + node_bytes * nodes_of a + node_bytes * nodes_of b) x y (omega arith) in omega (arith, t))
+  expression_length asked (AddExpr a b) h = binary 1 asked 1 2 (codes " + ") a b refl (expression_length 1 a h.0) (expression_length 2 b h.1)
+  expression_length asked (SubExpr a b) h = binary 1 asked 1 2 (codes " - ") a b refl (expression_length 1 a h.0) (expression_length 2 b h.1)
+  expression_length asked (MulExpr a b) h = binary 2 asked 2 3 (codes " * ") a b refl (expression_length 2 a h.0) (expression_length 3 b h.1)
   expression_length asked (DivExpr a k) h =
       let x = expression_length 2 a h.0 in
       let y = number_length k h.2 in
       placed 2 asked (expression_text names 2 a ++ codes " / " ++ signed_decimal k) (node_bytes * suc (nodes_of a)) (let t = joined (expression_text names 2 a) (signed_decimal k) (codes " / ") (node_bytes * nodes_of a) 32 (35 + node_bytes * nodes_of a) x y (omega arith) in omega (arith, t))
   expression_length asked (MinExpr a b) h =
-      let x = expression_length 1 a h.0 in
-      let y = expression_length 1 b h.1 in
-      called (codes "min(") (expression_text names 1 a) (expression_text names 1 b) (nodes_of a) (nodes_of b) (omega arith) x y
+      called (codes "min(") (expression_text names 1 a) (expression_text names 1 b) (nodes_of a) (nodes_of b) (omega arith) (expression_length 1 a h.0) (expression_length 1 b h.1)
   expression_length asked (MaxExpr a b) h =
-      let x = expression_length 1 a h.0 in
-      let y = expression_length 1 b h.1 in
-      called (codes "max(") (expression_text names 1 a) (expression_text names 1 b) (nodes_of a) (nodes_of b) (omega arith) x y
+      called (codes "max(") (expression_text names 1 a) (expression_text names 1 b) (nodes_of a) (nodes_of b) (omega arith) (expression_length 1 a h.0) (expression_length 1 b h.1)
   expression_length asked (AbsExpr a) h = let x = expression_length 1 a h in omega (arith, x, length-append (codes "abs(" ++ expression_text names 1 a) (codes ")"))
   expression_length asked (LutExpr a points) h =
       let x = expression_length 1 a h.0 in
@@ -204,27 +198,14 @@ module _ (names : List (List ℕ)) (short : AllByRecursion (IsShort 32) names) (
 
 -- ---- the whole text
 
-state_names : (states : List StateVariable) → AllByRecursion IsStateVariable states → AllByRecursion (IsShort 32) (map (λ (s : StateVariable). s.name) states)
-state_names [] h = tt
-state_names (s ∷ states) h = (name_length s.name h.0.name, state_names states h.1)
+names_shorten : {X : Type 0} (Is : X → Type 0) (name : X → List ℕ) → ((x : X) → Is x → IsName (name x)) → (xs : List X) → All Is xs → All (IsShort 32) (map name xs)
+names_shorten Is name named xs each = All-map (IsShort 32) name xs (All-weaker Is (λ x. IsShort 32 (name x)) (λ x is. name_length (name x) (named x is)) xs each)
 
-input_names : (inputs : List InputVariable) → AllByRecursion IsInputVariable inputs → AllByRecursion (IsShort 32) (map (λ (i : InputVariable). i.name) inputs)
-input_names [] h = tt
-input_names (i ∷ inputs) h = (name_length i.name h.0.name, input_names inputs h.1)
-
-noise_names : (noises : List NoiseVariable) → AllByRecursion IsNoiseVariable noises → AllByRecursion (IsShort 32) (map (λ (w : NoiseVariable). w.name) noises)
-noise_names [] h = tt
-noise_names (w ∷ noises) h = (name_length w.name h.0.name, noise_names noises h.1)
-
-both : (xs ys : List (List ℕ)) → AllByRecursion (IsShort 32) xs → AllByRecursion (IsShort 32) ys → AllByRecursion (IsShort 32) (xs ++ ys)
-both [] ys h k = k
-both (x ∷ xs) ys h k = (h.0, both xs ys h.1 k)
-
-names_short : (p : Description) → IsPlant p → AllByRecursion (IsShort 32) (names_of p)
+names_short : (p : Description) → IsPlant p → All (IsShort 32) (names_of p)
 names_short p h =
-    both (map (λ (s : StateVariable). s.name) p.states ++ map (λ (i : InputVariable). i.name) p.inputs) (map (λ (w : NoiseVariable). w.name) p.noises)
-    (both (map (λ (s : StateVariable). s.name) p.states) (map (λ (i : InputVariable). i.name) p.inputs) (state_names p.states (recursion_from_All IsStateVariable p.states h.states)) (input_names p.inputs (recursion_from_All IsInputVariable p.inputs h.inputs)))
-    (noise_names p.noises (recursion_from_All IsNoiseVariable p.noises h.noises))
+    All-append (IsShort 32) _ _
+    (All-append (IsShort 32) _ _ (names_shorten IsStateVariable (λ s. s.name) (λ s is. is.name) p.states h.states) (names_shorten IsInputVariable (λ i. i.name) (λ i is. is.name) p.inputs h.inputs))
+    (names_shorten IsNoiseVariable (λ w. w.name) (λ w is. is.name) p.noises h.noises)
 
 goal_length : (goal : GoalKind) → length (line (codes "goal" ∷ goal_word goal ∷ [])) ≤ 11
 goal_length Reach = omega arith

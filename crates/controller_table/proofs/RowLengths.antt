@@ -1,10 +1,11 @@
 -- How long lines of rows are at most, where cells and ranks have seven digits and inputs four.
-use Rattle.std.proofs.Common.{ℕ, ◌*◌, ◌^◌, ◌<◌, ◌≤◌, Bool, true, false, cond, eqb, List, [], ◌∷◌, ◌++◌, length, length-append, map, Option, arith}
+use Rattle.std.proofs.Common.{ℕ, ◌*◌, ◌^◌, ◌<◌, ◌≤◌, Bool, true, false, cond, eqb, List, [], ◌∷◌, length, length-append, map, Option, arith}
 use Rattle.std.specs.Prelude.{codes}
 use Rattle.std.specs.List.{AllByRecursion, concat}
 use Rattle.std.specs.Fmt.{decimal}
 use Rattle.std.proofs.lemmas.Fmt.{length-decimal-le}
 use Rattle.std.proofs.lemmas.List.Elements.{recursion_from_All}
+use Rattle.base.specs.Lines.{line}
 use Rattle.game_core.specs.declared.game.Row.{Row}
 use Rattle.row_runs.specs.declared.row_format.RowFormat.{RowFormat}
 use Rattle.row_runs.specs.declared.row_format.RowFormat.TheVariants.{InputAboveZero, InputAlone, Both}
@@ -15,6 +16,7 @@ use Rattle.row_runs.specs.Runs.{HasCells, AreRuns, runs_from}
 use Rattle.row_runs.specs.RunText.{run_line, rank_field, input_field}
 use Rattle.row_reading.specs.declared.row_rules.RowRules.{RowRules}
 use Rattle.row_reading.specs.RowsTexts.{IsRunWithin, AreRowsWithin, row_lines}
+use Rattle.controller_table.proofs.PlantLength.{line_more}
 use Rattle.row_runs.proofs.FewRuns.{few_runs}
 use Rattle.row_reading.proofs.RowsRead.{runs_within}
 
@@ -38,21 +40,8 @@ input_length InputAboveZero row lt = chosen (eqb row.rank 0) (four row.input lt)
 input_length InputAlone row lt = four row.input lt
 input_length Both row lt = four row.input lt
 
-words_length : (a b i : List ℕ) → length a ≤ 7 → length b ≤ 7 → length i ≤ 4 → length ((a ++ (32 ∷ (b ++ (32 ∷ i)))) ++ (10 ∷ [])) ≤ 21
-words_length a b i ha hb hi =
-    omega (arith, ha, hb, hi, length-append (a ++ (32 ∷ (b ++ (32 ∷ i)))) (10 ∷ []), length-append a (32 ∷ (b ++ (32 ∷ i))), length-append b (32 ∷ i))
-
-longer_length : (a l b i : List ℕ) → length a ≤ 7 → length l ≤ 7 → length b ≤ 7 → length i ≤ 4 → length ((a ++ (32 ∷ (l ++ (32 ∷ (b ++ (32 ∷ i)))))) ++ (10 ∷ [])) ≤ 29
-longer_length a l b i ha hl hb hi =
-    let inner = words_length l b i hl hb hi in
-    omega (
-      arith,
-      ha,
-      inner,
-      length-append (l ++ (32 ∷ (b ++ (32 ∷ i)))) (10 ∷ []),
-      length-append (a ++ (32 ∷ (l ++ (32 ∷ (b ++ (32 ∷ i)))))) (10 ∷ []),
-      length-append a (32 ∷ (l ++ (32 ∷ (b ++ (32 ∷ i))))),
-    )
+words_length : (a b i : List ℕ) → length a ≤ 7 → length b ≤ 7 → length i ≤ 4 → length (line (a ∷ b ∷ i ∷ [])) ≤ 21
+words_length a b i ha hb hi = omega (arith, ha, hb, hi, line_more a b (i ∷ []), line_more b i [], length-append i (codes "\n"))
 
 -- Numbers of so many digits.
 pub record AreShort (rules : RowRules) : Type 0 where
@@ -68,9 +57,10 @@ module _ (rules : RowRules) (short : AreShort rules) where
       (seven r.first (omega (arith, some, h.cells, short.cells))) (rank_length rules.format r.row (omega (arith, h.row.most, short.most_rank))) (input_length rules.format r.row (omega (arith, h.row.input, short.vectors))) in
       omega (arith, one)
   run_length Second r some h =
-      longer_length (decimal r.first) (decimal r.last) (rank_field rules.format r.row) (input_field rules.format r.row)
-      (seven r.first (omega (arith, some, h.cells, short.cells))) (seven r.last (omega (arith, h.cells, short.cells))) (rank_length rules.format r.row (omega (arith, h.row.most, short.most_rank)))
-      (input_length rules.format r.row (omega (arith, h.row.input, short.vectors)))
+      let last = seven r.last (omega (arith, h.cells, short.cells)) in
+      let rest = words_length (decimal r.last) (rank_field rules.format r.row) (input_field rules.format r.row) last
+      (rank_length rules.format r.row (omega (arith, h.row.most, short.most_rank))) (input_length rules.format r.row (omega (arith, h.row.input, short.vectors))) in
+      omega (arith, rest, seven r.first (omega (arith, some, h.cells, short.cells)), line_more (decimal r.first) (decimal r.last) (rank_field rules.format r.row ∷ input_field rules.format r.row ∷ []))
 
   runs_length : (v : TableVersion) (runs : List Run) → AreRuns v runs → AllByRecursion (IsRunWithin rules) runs → length (concat (map (run_line v rules.format) runs)) ≤ length runs * 29
   runs_length v [] order h = omega arith
@@ -84,6 +74,3 @@ module _ (rules : RowRules) (short : AreShort rules) where
       let are = runs_within rules rows within in
       let long = runs_length rules.version (runs_from rules.version 0 rows) are.order (recursion_from_All (IsRunWithin rules) (runs_from rules.version 0 rows) are.each) in
       omega (arith, long, few_runs rules.version 0 rows, within.one_each)
-
-  pub few_rows : (rows : List (Option Row)) → AreRowsWithin rules rows → length (runs_from rules.version 0 rows) ≤ 2 ^ 20
-  few_rows rows within = omega (arith, few_runs rules.version 0 rows, within.one_each, short.cells)

@@ -1,4 +1,5 @@
--- A followed loop by the table of a plant that is to reach its targets falls in rank with each sample.
+-- A followed loop by the table of a plant: one that is to reach its targets falls in rank with each sample, and
+-- one that is to be kept stays in cells with rows.
 use Rattle.std.proofs.Common.{◌≡◌, ◌≢◌, ℕ, zero, suc, ◌+◌, ◌<◌, ◌≤◌, List, length, Some, None, refl, sym, ap, subst, ◌∙◌, arith}
 use Rattle.std.specs.Prelude.{ℤ, pos}
 use Rattle.std.proofs.lemmas.List.Elements.{All-contains}
@@ -10,7 +11,7 @@ use Rattle.game_core.specs.Solution.{row_of, HasRowBelow, LeadsToGoals}
 use Rattle.game_core.proofs.Promises.{leads_to_goals}
 use Rattle.game_core.proofs.Rows.{below_cells}
 use Rattle.plant_record.specs.declared.aims.GoalKind.{GoalKind}
-use Rattle.plant_record.specs.declared.aims.GoalKind.TheVariants.{Reach}
+use Rattle.plant_record.specs.declared.aims.GoalKind.TheVariants.{Reach, Keep}
 use Rattle.plant_record.specs.Description.{Description}
 use Rattle.plant_record.specs.States.{LiesInSome, IsClear}
 use Rattle.controller_table.specs.Choice.{Applies, HasRowAt}
@@ -25,10 +26,11 @@ use Rattle.text_control.specs.Loops.{AlwaysAnswers}
 use Rattle.text_control.specs.Followed.{FollowedSample}
 use Rattle.driven_loops.specs.Laws.{AlwaysArrived}
 use Rattle.driven_loops.specs.Followed.{IsFollowedLoop}
-use Rattle.driven_loops.specs.FollowedLaws.{FollowedTablesEnd}
+use Rattle.driven_loops.specs.FollowedLaws.{FollowedTablesEnd, FollowedTablesKeep}
 use Rattle.driven_loops.proofs.ReadBack.{HoldsTable, says, holds_table}
 use Rattle.driven_loops.proofs.LeadingOn.{LeadOn, HasNext, clear_at, in_target, led}
 use Rattle.driven_loops.proofs.RowAnswers.{row_answers, has_rank}
+use Rattle.plant_refine.proofs.KeepRows.{cell_below, clear_of, enabled, leads_on}
 
 -- what the law says where this was read
 abbrev EndsLoops : Description → TextModel → Type 0
@@ -114,3 +116,40 @@ pub followed_tables_end : FollowedTablesEnd
 followed_tables_end p bytes text t spells goal given read =
     let h = holds_table p bytes text t spells Reach goal given read in
     subst (EndsLoops p) (sym h.is) (ends p t goal h)
+
+-- what the law says where this was read
+abbrev KeepsLoops : Description → TextModel → Type 0
+KeepsLoops p t = (t.plant ≡ p) × ((x y : List ℤ) (k : ℕ) (samples : List FollowedSample) → IsRank t x k → IsFollowedLoop t x samples y → IsClear p y × AlwaysAnswers t y × ((n : ℕ) × IsRank t y n))
+
+-- any rank may come
+abbrev AnyRank : ℕ → ℕ → ℕ → Type 0
+AnyRank n r k = Unit {0}
+
+module _ (p : Description) (t : TextModel) (goal : p.goal ≡ Keep) (h : HoldsTable Keep p t) where
+  abbrev kept : TextModel
+  kept = says (Table written_version) p h.turns
+
+  pub kept_rows : LeadOn kept (HasNext (due_rows kept) AnyRank)
+  kept_rows = record {
+    plant = h.plant;
+    game = h.game;
+    abstraction = h.abstraction;
+    below = cell_below h.solution;
+    clear = clear_of h.solution;
+    enabled = λ c row is applies. enabled h.solution c row is;
+    leads = λ c row is applies d lt among. let next = leads_on h.solution c row is d lt among in (next.0, next.1, tt);
+  }
+
+  keeps : KeepsLoops p kept
+  keeps = (
+    refl,
+    λ x y k samples rank loop.
+        let end = led {After = AnyRank} kept_rows (λ r. tt) (λ n r i j one rest. tt) x y k samples rank loop in
+        let applies : Applies p.goal end.row end.row.input = subst (λ (g : GoalKind). Applies g end.row end.row.input) (sym goal) refl in
+        (clear_at kept_rows y end.row end.has, row_answers kept y end.row end.has applies, (end.row.rank, has_rank kept y end.row end.has)),
+  )
+
+pub followed_tables_keep : FollowedTablesKeep
+followed_tables_keep p bytes text t spells goal given read =
+    let h = holds_table p bytes text t spells Keep goal given read in
+    subst (KeepsLoops p) (sym h.is) (keeps p t goal h)

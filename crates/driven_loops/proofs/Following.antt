@@ -34,8 +34,7 @@ use Rattle.driven_loops.specs.FollowedLaws.{LoopsAreFollowed}
 use Rattle.text_control.proofs.Answering.{chosen, moves}
 use Rattle.driven_loops.proofs.ReadBack.{Holds, says, holds_table, holds_stay, holds_patrol}
 use Rattle.driven_loops.proofs.LeadingOn.{AppliesEnabled, LeadOn, applies_enabled}
-use Rattle.driven_loops.proofs.Ending.{falling_rows}
-use Rattle.driven_loops.proofs.Keeping.{kept_rows}
+use Rattle.driven_loops.proofs.Ending.{falling_rows, kept_rows}
 use Rattle.driven_loops.proofs.Settling.{settling_rows}
 use Rattle.driven_loops.proofs.Patrolling.{patrol_rows}
 

@@ -4,7 +4,6 @@ pub mod ItsBox
 pub mod RowAnswers
 pub mod LeadingOn
 pub mod Ending
-pub mod Keeping
 pub mod Settling
 pub mod Patrolling
 pub mod Following

@@ -10,7 +10,7 @@ use Rattle.plant_record.specs.States.{IsClear}
 use Rattle.controller_table.specs.Choice.{HasRowAt}
 use Rattle.turn_rows.specs.Targets.{IsInTarget, next_turn}
 use Rattle.turn_rows.specs.Rows.{rows_for}
-use Rattle.temporal_promises.proofs.PatrolRows.{cell_below, reached_by, some_rank, leads_on}
+use Rattle.temporal_promises.proofs.Patrolling.{cell_below, reached_by, some_rank, leads_on}
 use Rattle.controller_table.specs.declared.text_kind.TextKind.TheVariants.{Patrol}
 use Rattle.text_control.specs.declared.visits.Visit.{Visit}
 use Rattle.text_control.specs.declared.visits.Visit.TheVariants.{Next, Same, WrongSize}

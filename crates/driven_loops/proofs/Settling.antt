@@ -3,7 +3,7 @@ use Rattle.std.proofs.Common.{◌≡◌, ℕ, ◌-◌, ◌≤◌, List, length, 
 use Rattle.std.specs.Prelude.{ℤ}
 use Rattle.plant_record.specs.Description.{Description}
 use Rattle.plant_record.specs.States.{LiesInSome, IsClear}
-use Rattle.temporal_promises.proofs.StayRows.{cell_below, stayed, clear_of, goal_of, leads_lower}
+use Rattle.temporal_promises.proofs.Settling.{cell_below, stayed, clear_of, goal_of, leads_lower}
 use Rattle.controller_table.specs.declared.text_kind.TextKind.TheVariants.{Stay}
 use Rattle.text_control.specs.Texts.{TextModel, due_rows}
 use Rattle.text_control.specs.Control.{IsRank}

@@ -9,8 +9,7 @@ use Rattle.text_control.specs.Laws.{EndsTurn}
 use Rattle.text_control.specs.Followed.{FollowedSample}
 use Rattle.driven_loops.specs.Followed.{followed_of, FollowedEndsTurn}
 use Rattle.driven_loops.specs.Laws.{WrittenTablesEnd, WrittenTablesKeep, WrittenStayTextsSettle, WrittenPatrolTextsGoOn}
-use Rattle.driven_loops.proofs.Ending.{followed_tables_end}
-use Rattle.driven_loops.proofs.Keeping.{followed_tables_keep}
+use Rattle.driven_loops.proofs.Ending.{followed_tables_end, followed_tables_keep}
 use Rattle.driven_loops.proofs.Settling.{followed_stay_texts_settle}
 use Rattle.driven_loops.proofs.Patrolling.{followed_patrol_texts_go_on}
 use Rattle.driven_loops.proofs.Following.{loops_are_followed}

@@ -1,4 +1,3 @@
 pub mod Fillings
 pub mod Laid
-pub mod ReadRows
 pub mod RunsLaid

@@ -1,9 +1,6 @@
 -- Lemmas that several proofs use.
 pub mod CanonicalFronts
-pub mod CanonicalLines
 pub mod CanonicalParts
-pub mod CanonicalTrees
-pub mod CanonicalWords
 pub mod ExpressionTokens
 pub mod FrontGrammar
 pub mod LineGrammar

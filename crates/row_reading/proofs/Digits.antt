@@ -84,6 +84,9 @@ one_number m n s b r hm hn e at =
     let cut = one_cut is_digit (decimal m) (decimal n) s s b r (decimal_digits m (omega arith)) (decimal_digits n (omega arith)) e e at in
     (decimal_injective m n (omega arith) (omega arith) cut.front, cut.rest)
 
+pub one_read : (stop : ℕ) (bytes : List ℕ) (y z : ℕ × List ℕ) → is_digit stop ≡ false → IsNumberTo stop bytes y → IsNumberTo stop bytes z → (y.0 ≡ z.0) × (y.1 ≡ z.1)
+one_read stop bytes y z ends h k = one_number y.0 z.0 stop y.1 z.1 h.0 k.0 ends (sym h.1 ∙ k.1)
+
 -- ---- bytes with no number at their front
 
 first_is_digit : (w b r : List ℕ) (x : ℕ) → 0 < length w → list_all is_digit w ≡ true → x ∷ b ≡ w ++ r → is_digit x ≡ true

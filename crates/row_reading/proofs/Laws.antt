@@ -1,6 +1,7 @@
 -- Bytes give one list of rows for each turn or have one first refused line, never both and never neither.
 use Rattle.std.proofs.Common.{◌≡◌, ℕ, suc, ◌^◌, ◌<◌, List, [], ◌∷◌, ◌++◌, length, map, Option, None, refl, sym, ap, ◌∙◌, arith}
 use Rattle.std.specs.List.{AllByRecursion}
+use Rattle.std.proofs.lemmas.List.{same_from_push}
 use Rattle.std.proofs.lemmas.List.Elements.{recursion_from_All}
 use Rattle.base.proofs.Lists.{same_head, same_tail}
 use Rattle.game_core.specs.declared.game.Row.{Row}
@@ -8,7 +9,6 @@ use Rattle.row_runs.specs.declared.run.Run.{Run}
 use Rattle.row_runs.specs.Runs.{AreRuns, runs_from}
 use Rattle.row_runs.specs.RunText.{run_line, end_line}
 use Rattle.row_runs.proofs.RunLaws.{differ}
-use Rattle.row_runs.proofs.Lines.{same_front}
 use Rattle.text_pieces.specs.Steps.{IsStuck}
 use Rattle.text_pieces.proofs.Laws as texts
 use Rattle.row_reading.specs.declared.row_rules.RowRules.{RowRules}
@@ -17,12 +17,11 @@ use Rattle.row_reading.specs.RowsTexts.{head_line, IsRunWithin, AreRowsWithin, r
 use Rattle.row_reading.specs.TurnSteps.{AfterTurns, AfterAll, TurnStep, AreOver, AreTurnsRefusedAt}
 use Rattle.row_reading.specs.inside.RunReading.{IsSpelled, AreSmall, AreSmallTurns}
 use Rattle.row_reading.specs.inside.ReadRows.{AreRunsWithin}
-use Rattle.row_reading.proofs.RunWords.{run_same}
-use Rattle.row_reading.proofs.RowGrammar.{spelled_run}
+use Rattle.row_reading.proofs.RunWords.{run_same, spelled_run}
 use Rattle.row_reading.proofs.RowsRead.{runs_within, few_lines as few_rows}
 use Rattle.row_reading.proofs.TurnGrammar.{Met, turns_are_grammar}
 use Rattle.row_reading.proofs.TurnHeads.{head_same}
-use Rattle.row_reading.proofs.TurnsRead.{own, told_read, each_within}
+use Rattle.row_reading.proofs.TurnsRead.{own, told_read}
 
 -- ---- one list of rows
 
@@ -83,8 +82,8 @@ module _ (rules : TurnRules) (small : AreSmallTurns rules) where
   one_turns bytes turns others h k =
       let even = texts.one_end (TurnStep rules) AreOver Met (turns_are_grammar rules small) (AfterTurns 0 0 None) bytes (turn_lines rules turns) (turn_lines rules others) AfterAll AfterAll [] [] tt
       (told_read rules bytes turns h) (told_read rules bytes others k) stops stops in
-      turns_tell 0 turns others (each_within rules turns h.within) (each_within rules others k.within) (h.within.one_list_each ∙ sym k.within.one_list_each)
-      (same_front (lines_from rules 0 turns) (lines_from rules 0 others) end_line even.pieces)
+      turns_tell 0 turns others (recursion_from_All (AreRowsWithin rules.rows) turns h.within.each) (recursion_from_All (AreRowsWithin rules.rows) others k.within.each) (h.within.one_list_each ∙ sym k.within.one_list_each)
+      (same_from_push (lines_from rules 0 turns) (lines_from rules 0 others) end_line end_line even.pieces).0
     where
       stops : IsStuck (TurnStep rules) AfterAll []
       stops piece after r cut step = step

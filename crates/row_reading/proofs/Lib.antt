@@ -1,10 +1,8 @@
 pub mod Digits
 pub mod RunWords
 pub mod LinesRead
-pub mod MoreRuns
-pub mod RowGrammar
+pub mod Further
 pub mod RowsRead
-pub mod SomeRows
 pub mod TurnHeads
 pub mod TurnGrammar
 pub mod TurnsRead

@@ -1,26 +1,20 @@
--- Lines that are read: the number of rows, the words of a row, and the line of a run.
-use Rattle.std.proofs.Common.{◌≡◌, ℕ, ◌^◌, ◌<◌, ◌≤◌, List, ◌∷◌, ◌++◌, drop, refl, sym, ap, subst, ◌∙◌, eq-eqb, arith}
+-- Lines that are read: the words of a row with a rank, and the line of a run.
+use Rattle.std.proofs.Common.{◌≡◌, ℕ, ◌^◌, ◌<◌, List, ◌∷◌, ◌++◌, refl, sym, ap, subst, ◌∙◌, eq-eqb}
 use Rattle.std.specs.Prelude.{codes}
 use Rattle.std.specs.Fmt.{decimal}
 use Rattle.std.proofs.lemmas.Bool.{ne_eqb}
 use Rattle.game_core.specs.declared.game.Row.{Row}
 use Rattle.row_runs.specs.declared.row_format.RowFormat.{RowFormat}
-use Rattle.row_runs.specs.declared.row_format.RowFormat.TheVariants.{InputAboveZero, InputAlone, Both}
+use Rattle.row_runs.specs.declared.row_format.RowFormat.TheVariants.{InputAboveZero}
 use Rattle.row_runs.specs.declared.run.Run.{Run}
 use Rattle.row_runs.specs.declared.run.TableVersion.{TableVersion}
 use Rattle.row_runs.specs.declared.run.TableVersion.TheVariants.{First, Second}
 use Rattle.row_runs.specs.Runs.{HasCells}
-use Rattle.row_runs.specs.RunText.{input_field, count_line}
+use Rattle.row_runs.specs.RunText.{input_field}
 use Rattle.row_reading.specs.Numbers.{IsNumberTo}
 use Rattle.row_reading.specs.inside.RunReading.{IsLastAt, IsRowAt, IsRunAt, row_format, last_words}
-use Rattle.row_reading.proofs.Digits.{one_number}
-use Rattle.row_reading.proofs.RunWords.{count_words, run_words}
-
--- ---- the number of rows
-
-pub count_is : (bytes number after : List ℕ) (m n : ℕ) (more : List ℕ) → bytes ≡ codes "rows " ++ number → IsNumberTo 10 number (m, after) → n < 2 ^ 32 → bytes ≡ count_line n ++ more → m ≡ n
-count_is bytes number after m n more at is few also =
-    (one_number m n 10 after more is.0 few refl (sym is.1 ∙ ap (drop 5) (sym at ∙ also ∙ count_words n more))).0
+use Rattle.row_reading.proofs.Digits.{one_read}
+use Rattle.row_reading.proofs.RunWords.{run_words}
 
 -- ---- with a rank
 
@@ -30,12 +24,9 @@ dash_at_zero row e = rw (eq-eqb row.rank 0 e) refl
 number_above_zero : (row : Row) → (row.rank ≡ 0 → ⊥) → input_field InputAboveZero row ≡ decimal row.input
 number_above_zero row some = rw (ne_eqb row.rank 0 some) refl
 
-pub no_rank : (words : List ℕ) → ((z : ℕ × List ℕ) → IsNumberTo 32 words z → ⊥) → (y : Row × List ℕ) → IsRowAt InputAboveZero words y → ⊥
-no_rank words none y h = none (y.0.rank, input_field InputAboveZero y.0 ++ 10 ∷ y.1) (h.0.rank, h.1)
-
 module _ (words : List ℕ) (rank : ℕ) (word : List ℕ) (number : IsNumberTo 32 words (rank, word)) where
   rank_told : (y : Row × List ℕ) → IsRowAt InputAboveZero words y → (rank ≡ y.0.rank) × (word ≡ input_field InputAboveZero y.0 ++ 10 ∷ y.1)
-  rank_told y h = one_number rank y.0.rank 32 word (input_field InputAboveZero y.0 ++ 10 ∷ y.1) number.0 h.0.rank refl (sym number.1 ∙ h.1)
+  rank_told y h = one_read 32 words (rank, word) (y.0.rank, input_field InputAboveZero y.0 ++ 10 ∷ y.1) refl number (h.0.rank, h.1)
 
   pub no_dash : rank ≡ 0 → ((after : List ℕ) → word ≡ codes "-\n" ++ after → ⊥) → (y : Row × List ℕ) → IsRowAt InputAboveZero words y → ⊥
   no_dash zero_is none y h =
@@ -47,21 +38,6 @@ module _ (words : List ℕ) (rank : ℕ) (word : List ℕ) (number : IsNumberTo 
       let told = rank_told y h in
       none (y.0.input, y.1) (h.0.input, told.1 ∙ ap (λ (w : List ℕ). w ++ 10 ∷ y.1) (number_above_zero y.0 (λ z. some (told.0 ∙ z))))
 
--- ---- without a rank
-
-pub no_unranked_input : (words word : List ℕ) → words ≡ codes "- " ++ word → ((z : ℕ × List ℕ) → IsNumberTo 10 word z → ⊥) → (y : Row × List ℕ) → IsRowAt InputAlone words y → ⊥
-no_unranked_input words word at none y h = none (y.0.input, y.1) (h.0.input, ap (drop 2) (sym at ∙ h.1))
-
--- ---- both
-
-pub no_full_rank : (words : List ℕ) → ((z : ℕ × List ℕ) → IsNumberTo 32 words z → ⊥) → (y : Row × List ℕ) → IsRowAt Both words y → ⊥
-no_full_rank words none y h = none (y.0.rank, decimal y.0.input ++ 10 ∷ y.1) (h.0.rank, h.1)
-
-pub no_full_input : (words : List ℕ) (rank : ℕ) (word : List ℕ) → IsNumberTo 32 words (rank, word) → ((z : ℕ × List ℕ) → IsNumberTo 10 word z → ⊥) → (y : Row × List ℕ) → IsRowAt Both words y → ⊥
-no_full_input words rank word number none y h =
-    let told = one_number rank y.0.rank 32 word (decimal y.0.input ++ 10 ∷ y.1) number.0 h.0.rank refl (sym number.1 ∙ h.1) in
-    none (y.0.input, y.1) (h.0.input, told.1)
-
 -- ---- runs
 
 -- the last cell of a run whose line this is
@@ -71,30 +47,18 @@ last_told Second r words after cells few at = (cells, (few, at))
 
 one_last : (v : TableVersion) (first : ℕ) (words : List ℕ) (m n : ℕ) (s t : List ℕ) → IsLastAt v first words (m, s) → IsLastAt v first words (n, t) → (m ≡ n) × (s ≡ t)
 one_last First first words m n s t h k = (sym h.0 ∙ k.0, sym h.1 ∙ k.1)
-one_last Second first words m n s t h k = one_number m n 32 s t h.1.0 k.1.0 refl (sym h.1.1 ∙ k.1.1)
+one_last Second first words m n s t h k = one_read 32 words (m, s) (n, t) refl h.1 k.1
 
-module _ (v : TableVersion) (format : RowFormat) (bytes : List ℕ) where
-  pub no_first : ((z : ℕ × List ℕ) → IsNumberTo 32 bytes z → ⊥) → (y : Run × List ℕ) → IsRunAt v format bytes y → ⊥
-  no_first none y h = none (y.0.first, last_words v y.0.last (row_format format y.0.row y.1)) (h.0.first, h.1 ∙ run_words v format y.0 y.1)
+module _ (v : TableVersion) (format : RowFormat) (bytes : List ℕ) (first : ℕ) (words : List ℕ) (number : IsNumberTo 32 bytes (first, words)) where
+  -- the run begins at this cell, and ends at the one that its words spell
+  told : (y : Run × List ℕ) → IsRunAt v format bytes y → (first ≡ y.0.first) × IsLastAt v first words (y.0.last, row_format format y.0.row y.1)
+  told y h =
+      let same = one_read 32 bytes (first, words) (y.0.first, last_words v y.0.last (row_format format y.0.row y.1)) refl number (h.0.first, h.1 ∙ run_words v format y.0 y.1) in
+      (same.0, subst (λ (n : ℕ). IsLastAt v n words (y.0.last, row_format format y.0.row y.1)) (sym same.0) (last_told v y.0 words (row_format format y.0.row y.1) h.0.cells h.0.last same.1))
 
-  module _ (first : ℕ) (words : List ℕ) (number : IsNumberTo 32 bytes (first, words)) where
-    -- the run begins at this cell, and ends at the one that its words spell
-    told : (y : Run × List ℕ) → IsRunAt v format bytes y → (first ≡ y.0.first) × IsLastAt v first words (y.0.last, row_format format y.0.row y.1)
-    told y h =
-        let same = one_number first y.0.first 32 words (last_words v y.0.last (row_format format y.0.row y.1)) number.0 h.0.first refl (sym number.1 ∙ h.1 ∙ run_words v format y.0 y.1) in
-        (same.0, subst (λ (n : ℕ). IsLastAt v n words (y.0.last, row_format format y.0.row y.1)) (sym same.0) (last_told v y.0 words (row_format format y.0.row y.1) h.0.cells h.0.last same.1))
+  pub no_last : ((z : ℕ × List ℕ) → IsLastAt v first words z → ⊥) → (y : Run × List ℕ) → IsRunAt v format bytes y → ⊥
+  no_last none y h = none (y.0.last, row_format format y.0.row y.1) (told y h).1
 
-    pub no_last : ((z : ℕ × List ℕ) → IsLastAt v first words z → ⊥) → (y : Run × List ℕ) → IsRunAt v format bytes y → ⊥
-    no_last none y h = none (y.0.last, row_format format y.0.row y.1) (told y h).1
-
-    module _ (last : ℕ) (more : List ℕ) (ends : IsLastAt v first words (last, more)) where
-      pub no_row : ((z : Row × List ℕ) → IsRowAt format more z → ⊥) → (y : Run × List ℕ) → IsRunAt v format bytes y → ⊥
-      no_row none y h = none (y.0.row, y.1) (h.0.row, (one_last v first words last y.0.last more (row_format format y.0.row y.1) ends (told y h).1).1)
-
--- no other last cell stands there than the one that is read
-pub none_before : (words after : List ℕ) (first last : ℕ) → IsNumberTo 32 words (last, after) → last < first → (y : ℕ × List ℕ) → IsLastAt Second first words y → ⊥
-none_before words after first last is below y h =
-    let same = one_number last y.0 32 after y.1 is.0 h.1.0 refl (sym is.1 ∙ h.1.1) in
-    let one : last ≡ y.0 = same.0 in
-    let ahead : first ≤ y.0 = h.0 in
-    omega (arith, below, one, ahead)
+  module _ (last : ℕ) (more : List ℕ) (ends : IsLastAt v first words (last, more)) where
+    pub no_row : ((z : Row × List ℕ) → IsRowAt format more z → ⊥) → (y : Run × List ℕ) → IsRunAt v format bytes y → ⊥
+    no_row none y h = none (y.0.row, y.1) (h.0.row, (one_last v first words last y.0.last more (row_format format y.0.row y.1) ends (told y h).1).1)

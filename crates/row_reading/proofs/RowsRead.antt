@@ -1,24 +1,30 @@
--- Rows that lines give, and the way along these lines.
-use Rattle.std.proofs.Common.{inl, inr, ◌≡◌, ℕ, zero, suc, ◌+◌, ◌<◌, ◌≤◌, List, [], ◌∷◌, ◌++◌, length, map, Option, Some, None, refl, sym, ap, subst, ◌∙◌, arith}
+-- Rows that lines give, the way along these lines, and how far they are read.
+use Rattle.std.proofs.Common.{inl, inr, ◌≡◌, ℕ, zero, suc, ◌+◌, ◌≤◌, List, [], ◌∷◌, ◌++◌, length, map, Option, Some, None, refl, sym, ap, subst, ◌∙◌, arith, ◌-◌, ◌<◌, length-append, replicate, append-nil}
 use Rattle.std.specs.Prelude.{IfSome}
-use Rattle.std.specs.List.{AllByRecursion}
-use Rattle.std.proofs.lemmas.List.{length-map}
-use Rattle.std.proofs.lemmas.List.Elements.{recursion_from_All, All-from_recursion, All-from_get_or}
+use Rattle.std.specs.List.{AllByRecursion, concat}
+use Rattle.std.proofs.lemmas.Option.{none-some, same_Some}
+use Rattle.std.proofs.lemmas.List.{length-map, map-append}
+use Rattle.std.proofs.lemmas.List.Elements.{recursion_from_All, All-from_recursion, All-from_get_or, All-nil, All-push}
 use Rattle.game_core.specs.declared.game.Row.{Row}
 use Rattle.game_core.specs.Solution.{row_of}
 use Rattle.game_core.proofs.Rows.{below_from_row}
 use Rattle.row_runs.specs.declared.run.Run.{Run}
 use Rattle.row_runs.specs.declared.run.TableVersion.{TableVersion}
-use Rattle.row_runs.specs.Runs.{MayLead, AreRuns, Gives, EncodeRows, runs_from}
+use Rattle.row_runs.specs.Runs.{MayLead, AreRuns, Gives, EncodeRows, runs_from, IsFilled}
 use Rattle.row_runs.specs.RunText.{run_line}
-use Rattle.row_runs.proofs.RunLaws.{runs_encode, one_list, forward}
+use Rattle.row_runs.proofs.RunLaws.{runs_encode, one_list, forward, one_more}
 use Rattle.row_runs.proofs.FewRuns.{few_runs}
-use Rattle.text_pieces.specs.Steps.{joined, Leads}
-use Rattle.text_pieces.proofs.Laws.{joined_bytes, few_pieces}
+use Rattle.text_pieces.specs.Steps.{Leads}
 use Rattle.row_reading.specs.declared.row_rules.RowRules.{RowRules}
-use Rattle.row_reading.specs.RowsTexts.{IsRowWithin, IsRunWithin, AreRowsWithin, row_lines, AreRowsAt}
-use Rattle.row_reading.specs.TurnSteps.{RowsDue, Due, MayStandAfter, RunStep, IsRunRefused}
-use Rattle.row_reading.specs.inside.ReadRows.{AreRunsWithin, AreRead}
+use Rattle.row_reading.specs.declared.row_rules.TurnRules.{TurnRules}
+use Rattle.row_reading.specs.RowsTexts.{IsRowWithin, IsRunWithin, AreRowsWithin, row_lines}
+use Rattle.row_reading.specs.TurnSteps.{AfterTurns, MayStandAfter, TurnStep, AreOver}
+use Rattle.row_reading.specs.inside.ReadRows.{AreRowsAt, AreRunsWithin, last_after, AreRead, IsRunRefused}
+use Rattle.std.proofs.Math.ListN.{length-replicate}
+use Rattle.row_runs.specs.inside.AddedRuns.{MayEnd}
+use Rattle.row_reading.specs.inside.RunReading.{IsNextRunAt}
+use Rattle.game_core.proofs.Gathering.{no_row}
+use Rattle.row_reading.proofs.Further.{lines_on, is_read, refused_here, refused_on}
 
 -- ---- the runs of rows that rules allow
 
@@ -44,40 +50,30 @@ module _ (rules : RowRules) (rows : List (Option Row)) (within : AreRowsWithin r
 
 -- ---- their lines lead on
 
-module _ (rules : RowRules) where
-  abbrev line_of : Run → List ℕ
-  line_of r = run_line rules.version rules.format r
+-- the first of some runs may stand after the last one
+abbrev pub FollowOn : TableVersion → Option Run → List Run → Type 0
+FollowOn v last runs = (s : Run) → last ≡ Some s → MayLead v s runs
 
-  -- the first of some runs may stand after the last one
-  abbrev pub FollowsOn : Option Run → List Run → Type 0
-  FollowsOn None runs = Unit {0}
-  FollowsOn (Some last) runs = MayLead rules.version last runs
+first_follows : (v : TableVersion) (last : Option Run) (r : Run) (runs : List Run) → FollowOn v last (r ∷ runs) → MayStandAfter v last r
+first_follows v None r runs h = tt
+first_follows v (Some s) r runs h = h s refl
 
-  first_follows : (last : Option Run) (r : Run) (runs : List Run) → FollowsOn last (r ∷ runs) → MayStandAfter rules.version last r
-  first_follows None r runs h = tt
-  first_follows (Some s) r runs h = h
+abbrev line_of : RowRules → Run → List ℕ
+line_of rules r = run_line rules.version rules.format r
 
-  runs_lead : (n : ℕ) (last : Option Run) (runs : List Run) → FollowsOn last runs → AreRuns rules.version runs → AllByRecursion (IsRunWithin rules) runs
-      → (before : Option Run) × Leads (RunStep rules) (Due (length runs + n) last) (map line_of runs) (Due n before)
-  runs_lead n last [] on are each = (last, ap (λ (k : ℕ). Due k last) (omega arith))
-  runs_lead n last (r ∷ runs) on are each =
-      let k : suc (length runs + n) ≡ suc (length runs) + n = omega arith in
-      let step : RunStep rules (Due (suc (length runs + n)) last) (line_of r) (Due (length runs + n) (Some r)) =
-      (r, record { cells = are.0; within = each.0; follows = first_follows last r runs on; line_is = refl }, refl) in
-      let more = runs_lead n (Some r) runs are.1 are.2 each.1 in
-      (more.0, subst (λ (j : ℕ). Leads (RunStep rules) (Due j last) (map line_of (r ∷ runs)) (Due n more.0)) k (Due (length runs + n) (Some r), step, more.1))
+module _ (rules : TurnRules) (j : ℕ) where
+  runs_lead : (k n : ℕ) (last : Option Run) (runs : List Run) → length runs + n ≡ k → FollowOn rules.rows.version last runs → AreRuns rules.rows.version runs → AllByRecursion (IsRunWithin rules.rows) runs
+      → Leads (TurnStep rules) (AfterTurns j k last) (map (line_of rules.rows) runs) (AfterTurns j n (last_after last runs))
+  runs_lead k n last [] e on are each = ap (λ (m : ℕ). AfterTurns j m last) (omega (arith, e))
+  runs_lead zero n last (r ∷ runs) e on are each = absurd (omega (arith, e))
+  runs_lead (suc k) n last (r ∷ runs) e on are each = (
+    AfterTurns j k (Some r),
+    (r, record { cells = are.0; within = each.0; follows = first_follows rules.rows.version last r runs on; line_is = refl }, refl),
+    runs_lead k n (Some r) runs (omega (arith, e)) (λ s is. subst (λ (x : Run). MayLead rules.rows.version x runs) (same_Some r s is) are.1) are.2 each.1,
+  )
 
-  module _ (rows : List (Option Row)) (within : AreRowsWithin rules rows) where
-    abbrev lines : List (List ℕ)
-    lines = row_lines rules.version rules.format rows
-
-    pub rows_lead : (before : Option Run) × Leads (RunStep rules) (Due (length lines) None) lines (Due 0 before)
-    rows_lead =
-        let runs : List Run = runs_from rules.version 0 rows in
-        let are = runs_within rules rows within in
-        let led = runs_lead 0 None runs tt are.order (recursion_from_All (IsRunWithin rules) runs are.each) in
-        let size : length runs + 0 ≡ length lines = omega (arith, length-map runs line_of) in
-        (led.0, subst (λ (n : ℕ). Leads (RunStep rules) (Due n None) lines (Due 0 led.0)) size led.1)
+  pub some_lead : (k n : ℕ) (runs : List Run) → length runs + n ≡ k → AreRunsWithin rules.rows runs → Leads (TurnStep rules) (AfterTurns j k None) (map (line_of rules.rows) runs) (AfterTurns j n (last_after None runs))
+  some_lead k n runs e are = runs_lead k n None runs e (λ s is. absurd (none-some s is)) are.order (recursion_from_All (IsRunWithin rules.rows) runs are.each)
 
 -- ---- rows of runs
 
@@ -103,29 +99,63 @@ own_lines rules runs rows are tell =
     let own = runs_encode rules.version rows in
     ap (map (run_line rules.version rules.format)) (one_list rules.version rows runs (runs_from rules.version 0 rows) are.order own.0 tell own.1)
 
-rows_at : (rules : RowRules) (count : ℕ) (runs : List Run) (rows : List (Option Row)) (bytes rest : List ℕ) → length rows ≡ rules.cells → AreRunsWithin rules runs → EncodeRows runs rows → length runs ≡ count
-    → bytes ≡ joined (map (run_line rules.version rules.format) runs) ++ rest → AreRowsAt rules count bytes rows rest
-rows_at rules count runs rows bytes rest size are tell counted text =
-    let line : Run → List ℕ = run_line rules.version rules.format in
-    let lines = own_lines rules runs rows are tell in
+pub all_read : (rules : RowRules) (at count : ℕ) (last : Option Run) (bytes rest : List ℕ) (rows : List (Option Row)) → at ≡ count → AreRead rules at last bytes rest rows → AreRowsAt rules count bytes rows rest
+all_read rules at count last bytes rest rows e read =
+    let lines = own_lines rules read.runs rows read.are read.tell in
     record {
-      within = rows_within rules runs rows size are (λ c row. (tell c row).0);
-      counted = ap length (sym lines) ∙ length-map runs line ∙ counted;
-      text = text ∙ ap (λ (x : List (List ℕ)). joined x ++ rest) lines ∙ ap (λ (x : List ℕ). x ++ rest) (sym (joined_bytes (row_lines rules.version rules.format rows)));
+      within = rows_within rules read.runs rows read.one_each read.are (λ c row. (read.tell c row).0);
+      counted = ap length (sym lines) ∙ length-map read.runs (run_line rules.version rules.format) ∙ read.counted ∙ e;
+      text = read.text ∙ ap (λ (x : List (List ℕ)). concat x ++ rest) lines;
     }
 
-pub all_read : (rules : RowRules) (count : ℕ) (last : Option Run) (bytes rest : List ℕ) (rows : List (Option Row)) → AreRead rules count 0 last bytes rest rows → AreRowsAt rules count bytes rows rest
-all_read rules count last bytes rest rows read = rows_at rules count read.runs rows bytes rest read.one_each read.are read.tell (omega (arith, read.counted)) (read.read).are
+-- ---- the last run
 
--- ---- how many lines there may be
+may_end : (v : TableVersion) (runs : List Run) (r : Run) → MayStandAfter v (last_after None runs) r → MayEnd v runs r
+may_end v [] r h = tt
+may_end v (x ∷ []) r h = h
+may_end v (x ∷ y ∷ runs) r h = may_end v (y ∷ runs) r h
 
--- how many row lines are due
-abbrev due_at : RowsDue → ℕ
-due_at (Due n last) = n
+last_pushed : (before : Option Run) (runs : List Run) (r : Run) → last_after before (runs ++ r ∷ []) ≡ Some r
+last_pushed before [] r = refl
+last_pushed before (x ∷ runs) r = last_pushed (Some x) runs r
 
-takes_one : (rules : RowRules) (q m : RowsDue) (x : List ℕ) → RunStep rules q x m → due_at m < due_at q
-takes_one rules (Due zero last) m x h = absurd h
-takes_one rules (Due (suc n) last) m x h = omega (arith, ap due_at h.2)
+-- ---- reading on
 
-pub few_refused : (rules : RowRules) (count : ℕ) (bytes : List ℕ) (n : ℕ) → IsRunRefused rules count bytes n → n ≤ count + 1
-few_refused rules count bytes n r = omega (arith, r.next, few_pieces (RunStep rules) due_at (takes_one rules) (Due count None) r.to r.pieces (r.read).leads)
+module _ (rules : RowRules) (bytes : List ℕ) where
+  pub nothing_read : (rows : List (Option Row)) → rows ≡ replicate rules.cells None → AreRead rules 0 None bytes bytes rows
+  nothing_read rows are = record {
+    one_each = ap length are ∙ length-replicate rules.cells None;
+    runs = [];
+    are = record { order = tt; each = All-nil (IsRunWithin rules) };
+    tell = λ c row. ((λ e. absurd (none-some row (sym (ap (λ (r : List (Option Row)). row_of r c) are ∙ no_row rules.cells c) ∙ e))), (λ given. absurd given));
+    counted = refl;
+    last_is = refl;
+    text = refl;
+  }
+
+  module _ (at : ℕ) (last : Option Run) (rest : List ℕ) (rows : List (Option Row)) (read : AreRead rules at last bytes rest rows) where
+    pub read_on : (r : Run) (rest_after : List ℕ) (after : List (Option Row)) → IsNextRunAt rules last rest (r, rest_after) → IsFilled r rows after → length after ≡ length rows → AreRead rules (at + 1) (Some r) bytes rest_after after
+    read_on r rest_after after (line, next, cut) filled size =
+        let follows : MayStandAfter rules.version (last_after None read.runs) r = subst (λ (b : Option Run). MayStandAfter rules.version b r) read.last_is next.follows in
+        let longer = one_more rules.version read.runs r rows after read.are.order next.cells (may_end rules.version read.runs r follows) read.tell filled in
+        let one : rest ≡ concat (line_of rules r ∷ []) ++ rest_after = cut ∙ ap (λ (x : List ℕ). x ++ rest_after) (next.line_is ∙ sym (append-nil (line_of rules r))) in
+        record {
+          one_each = size ∙ read.one_each;
+          runs = read.runs ++ r ∷ [];
+          are = record { order = longer.0; each = All-push (IsRunWithin rules) read.runs r read.are.each next.within };
+          tell = longer.1;
+          counted = omega (arith, length-append read.runs (r ∷ []), read.counted);
+          last_is = sym (last_pushed None read.runs r);
+          text = lines_on (map (line_of rules) read.runs) (line_of rules r ∷ []) bytes rest rest_after read.text one ∙ ap (λ (x : List (List ℕ)). concat x ++ rest_after) (sym (map-append (line_of rules) read.runs (r ∷ [])));
+        }
+
+    pub run_refused : (count : ℕ) → at < count → ((y : Run × List ℕ) → IsNextRunAt rules last rest y → ⊥) → IsRunRefused rules count bytes (at + 1)
+    run_refused count lt none turns head j =
+        let all : TurnRules = record { rows = rules; turns = turns; head = head } in
+        let before : Option Run = last_after None read.runs in
+        let due : ℕ = count - (at + 1) in
+        let none_next : (y : Run × List ℕ) → IsNextRunAt rules before rest y → ⊥ = subst (λ (b : Option Run). (y : Run × List ℕ) → IsNextRunAt rules b rest y → ⊥) read.last_is none in
+        let lines = some_lead all j count (suc due) read.runs (omega (arith, lt, read.counted)) read.are in
+        refused_on (TurnStep all) AreOver (AfterTurns j count None) (AfterTurns j (suc due) before) bytes rest (map (line_of rules) read.runs) at 1
+        (is_read (TurnStep all) (AfterTurns j count None) (AfterTurns j (suc due) before) bytes rest (map (line_of rules) read.runs) lines read.text) (length-map read.runs (line_of rules) ∙ read.counted)
+        (refused_here (TurnStep all) AreOver (AfterTurns j (suc due) before) rest (λ piece behind q cut step. none_next (step.0, behind) (piece, step.1, cut)) (λ over. over))

@@ -1,5 +1,5 @@
 -- The lines of rows: each is one line, and says one thing.
-use Rattle.std.proofs.Common.{◌≡◌, ℕ, ◌^◌, ◌<◌, Bool, true, false, cond, eqb, List, [], ◌∷◌, ◌++◌, drop, refl, sym, ap, subst, ◌∙◌, append_assoc, arith}
+use Rattle.std.proofs.Common.{◌≡◌, ℕ, ◌^◌, ◌<◌, Bool, true, false, cond, eqb, List, Option, [], ◌∷◌, ◌++◌, drop, refl, sym, ap, subst, ◌∙◌, append_assoc, arith}
 use Rattle.std.specs.Prelude.{codes}
 use Rattle.std.specs.List.{list_all}
 use Rattle.std.specs.Fmt.{decimal}
@@ -11,9 +11,13 @@ use Rattle.row_runs.specs.declared.row_format.RowFormat.TheVariants.{InputAboveZ
 use Rattle.row_runs.specs.declared.run.Run.{Run}
 use Rattle.row_runs.specs.declared.run.TableVersion.{TableVersion}
 use Rattle.row_runs.specs.declared.run.TableVersion.TheVariants.{First, Second}
+use Rattle.row_runs.specs.Runs.{HasCells}
 use Rattle.row_runs.specs.RunText.{rank_field, input_field, run_line, count_line}
-use Rattle.row_reading.specs.RowsTexts.{Determines}
-use Rattle.row_reading.specs.inside.RunReading.{IsSpelled, IsSpelledRow, row_format, last_words}
+use Rattle.row_runs.proofs.RunLaws.{forward}
+use Rattle.row_reading.specs.declared.row_rules.RowRules.{RowRules}
+use Rattle.row_reading.specs.RowsTexts.{Determines, IsRunWithin}
+use Rattle.row_reading.specs.TurnSteps.{IsNextRow}
+use Rattle.row_reading.specs.inside.RunReading.{IsSpelled, IsSpelledRow, row_format, last_words, AreSmall}
 use Rattle.row_runs.proofs.Cuts.{one_cut}
 use Rattle.row_runs.proofs.Lines.{IsLine, no_feed}
 use Rattle.row_runs.proofs.RunWords.{is_inner, decimal_inner, decimal_no_feed, no_feed_in, both_no_feed}
@@ -131,3 +135,23 @@ one_run v format a b s t h k e =
 
 pub run_same : (v : TableVersion) (format : RowFormat) (a b : Run) → IsSpelled v format a → IsSpelled v format b → run_line v format a ≡ run_line v format b → a ≡ b
 run_same v format a b h k e = one_run v format a b [] [] h k (ap (λ (x : List ℕ). x ++ []) e)
+
+-- ---- lines that rules allow
+
+pub spelled_run : (rules : RowRules) (r : Run) → AreSmall rules → HasCells rules.version r → IsRunWithin rules r → IsSpelled rules.version rules.format r
+spelled_run rules r small some h =
+    let ahead = forward rules.version r some in
+    record {
+      first = omega (arith, ahead, h.cells, small.cells);
+      last = omega (arith, h.cells, small.cells);
+      cells = some;
+      row = record { rank = omega (arith, h.row.most, small.most_rank); input = omega (arith, h.row.input, small.vectors); tells = h.row.told };
+    }
+
+module _ (rules : RowRules) (small : AreSmall rules) where
+  pub row_is_line : (last : Option Run) (r : Run) (line : List ℕ) → IsNextRow rules last r line → IsLine line
+  row_is_line last r line h = subst IsLine (sym h.line_is) (run_is_line rules.version rules.format r (spelled_run rules r small h.cells h.within))
+
+  pub row_same : (last : Option Run) (r s : Run) (line : List ℕ) → IsNextRow rules last r line → IsNextRow rules last s line → r ≡ s
+  row_same last r s line h k =
+      run_same rules.version rules.format r s (spelled_run rules r small h.cells h.within) (spelled_run rules s small k.cells k.within) (sym h.line_is ∙ k.line_is)

@@ -1,5 +1,5 @@
 -- The lines of turns are a grammar: each is one line, and says one thing.
-use Rattle.std.proofs.Common.{inl, inr, ◌≡◌, ℕ, zero, suc, ◌^◌, ◌<◌, ◌≤◌, List, [], ◌∷◌, length, length-append, Some, None, refl, sym, ap, subst, ◌∙◌, arith}
+use Rattle.std.proofs.Common.{inl, inr, ◌≡◌, ℕ, zero, suc, ◌^◌, ◌<◌, ◌≤◌, List, [], ◌∷◌, length, length-append, Some, None, sym, ap, subst, ◌∙◌, arith}
 use Rattle.std.specs.Prelude.{codes}
 use Rattle.std.specs.List.{join_with_byte}
 use Rattle.std.specs.Fmt.{decimal}
@@ -11,19 +11,42 @@ use Rattle.row_runs.specs.declared.run.TableVersion.TheVariants.{First, Second}
 use Rattle.row_runs.specs.RunText.{rank_field, input_field, run_line}
 use Rattle.row_runs.proofs.Lines.{IsLine, one_line}
 use Rattle.row_runs.proofs.RunWords.{end_is_line}
-use Rattle.text_pieces.specs.Steps.{joined, Leads, IsStuck, IsGrammar}
+use Rattle.text_pieces.specs.Steps.{IsStuck, IsGrammar}
 use Rattle.row_reading.specs.declared.row_rules.TurnHead.{TurnHead}
 use Rattle.row_reading.specs.declared.row_rules.TurnHead.TheVariants.{Count, Numbered}
 use Rattle.row_reading.specs.declared.row_rules.TurnRules.{TurnRules}
 use Rattle.row_reading.specs.RowsTexts.{head_line}
-use Rattle.row_reading.specs.TurnSteps.{RowsDue, Due, RunStep, AreAll, TurnState, AfterTurns, AfterAll, TurnStep, AreOver}
+use Rattle.row_reading.specs.TurnSteps.{TurnState, AfterTurns, AfterAll, TurnStep, AreOver}
 use Rattle.row_reading.specs.inside.RunReading.{AreSmallTurns}
-use Rattle.row_reading.proofs.RowGrammar.{some_byte, row_is_line, row_same}
+use Rattle.row_reading.proofs.RunWords.{row_is_line, row_same}
 use Rattle.row_reading.proofs.TurnHeads.{head_is_line, head_same}
 
 -- where turns are given, the state plays no part
 abbrev pub Met : TurnState → Type 0
 Met q = Unit {0}
+
+-- ---- no line is empty
+
+no_line : (words : List (List ℕ)) → [] ≡ line words → ⊥
+no_line words e = omega (arith, ap length e, length-append (join_with_byte 32 words) (codes "\n"))
+
+no_run : (v : TableVersion) (format : RowFormat) (r : Run) → [] ≡ run_line v format r → ⊥
+no_run First format r e = no_line (decimal r.first ∷ rank_field format r.row ∷ input_field format r.row ∷ []) e
+no_run Second format r e = no_line (decimal r.first ∷ decimal r.last ∷ rank_field format r.row ∷ input_field format r.row ∷ []) e
+
+no_head : (head : TurnHead) (j n : ℕ) → [] ≡ head_line head j n → ⊥
+no_head Count j n e = no_line (codes "rows" ∷ decimal n ∷ []) e
+no_head Numbered j n e = no_line (codes "turn" ∷ decimal j ∷ codes "rows" ∷ decimal n ∷ []) e
+
+pub none_empty : (rules : TurnRules) (q m : TurnState) → TurnStep rules q [] m → ⊥
+none_empty rules (AfterTurns j zero last) m step = elim step [
+  | inl turn ↦ no_head rules.head j turn.1 turn.3
+  | inr end ↦ omega (arith, ap length end.1)
+]
+none_empty rules (AfterTurns j (suc n) last) m step = no_run rules.rows.version rules.rows.format step.0 step.1.line_is
+none_empty rules AfterAll m step = step
+
+-- ---- each is one line, and says one thing
 
 module _ (rules : TurnRules) (small : AreSmallTurns rules) where
   few : (n : ℕ) → n ≤ rules.rows.cells → n < 2 ^ 64
@@ -63,58 +86,6 @@ module _ (rules : TurnRules) (small : AreSmallTurns rules) where
     one_piece = λ q m n x y rest others met a b e. (one_line x y rest others (step_is_line q m x a) (step_is_line q n y b) e).line;
     one_state = λ q m n x met a b. one_state q m n x a b;
     met = λ q m x met step. tt;
-    some = λ q m behind met step. some_byte (step_is_line q m [] step);
+    some = λ q m behind met step. none_empty rules q m step;
     ends = λ q rest met over. stops q rest over;
   }
-
--- ---- no more lines are read than there are bytes
-
--- a line has its line feed
-some_bytes : (words : List (List ℕ)) → 1 ≤ length (line words)
-some_bytes words = omega (arith, length-append (join_with_byte 32 words) (codes "\n"))
-
-run_bytes : (v : TableVersion) (format : RowFormat) (r : Run) → 1 ≤ length (run_line v format r)
-run_bytes First format r = some_bytes (decimal r.first ∷ rank_field format r.row ∷ input_field format r.row ∷ [])
-run_bytes Second format r = some_bytes (decimal r.first ∷ decimal r.last ∷ rank_field format r.row ∷ input_field format r.row ∷ [])
-
-head_bytes : (head : TurnHead) (j n : ℕ) → 1 ≤ length (head_line head j n)
-head_bytes Count j n = some_bytes (codes "rows" ∷ decimal n ∷ [])
-head_bytes Numbered j n = some_bytes (codes "turn" ∷ decimal j ∷ codes "rows" ∷ decimal n ∷ [])
-
-module _ (rules : TurnRules) where
-  step_bytes : (q m : TurnState) (x : List ℕ) → TurnStep rules q x m → 1 ≤ length x
-  step_bytes (AfterTurns j zero last) m x h = elim h [
-    | inl turn ↦ subst (λ (y : List ℕ). 1 ≤ length y) (sym turn.3) (head_bytes rules.head j turn.1)
-    | inr end ↦ subst (λ (y : List ℕ). 1 ≤ length y) (sym end.1) (omega arith)
-  ]
-  step_bytes (AfterTurns j (suc n) last) m x h = subst (λ (y : List ℕ). 1 ≤ length y) (sym h.1.line_is) (run_bytes rules.rows.version rules.rows.format h.0)
-  step_bytes AfterAll m x h = absurd h
-
-  pub few_lines : (q r : TurnState) (pieces : List (List ℕ)) → Leads (TurnStep rules) q pieces r → length pieces ≤ length (joined pieces)
-  few_lines q r [] leads = omega arith
-  few_lines q r (x ∷ pieces) leads =
-      let more = few_lines leads.0 r pieces leads.2 in
-      let one = step_bytes q leads.0 x leads.1 in
-      omega (arith, more, one, length-append x (joined pieces))
-
--- ---- the row lines of one turn
-
--- the position among the lines of all turns, where so many turns stand
-abbrev pub at_place : ℕ → RowsDue → TurnState
-at_place j (Due n last) = AfterTurns j n last
-
-module _ (rules : TurnRules) (j : ℕ) where
-  turn_step : (q m : RowsDue) (x : List ℕ) → RunStep rules.rows q x m → TurnStep rules (at_place j q) x (at_place j m)
-  turn_step (Due zero last) m x h = absurd h
-  turn_step (Due (suc n) last) m x h = (h.0, h.1, ap (at_place j) h.2)
-
-  pub rows_in_turn : (q r : RowsDue) (pieces : List (List ℕ)) → Leads (RunStep rules.rows) q pieces r → Leads (TurnStep rules) (at_place j q) pieces (at_place j r)
-  rows_in_turn q r [] leads = ap (at_place j) leads
-  rows_in_turn q r (x ∷ pieces) leads = (at_place j leads.0, turn_step q leads.0 x leads.1, rows_in_turn leads.0 r pieces leads.2)
-
-  pub stuck_too : (q : RowsDue) (rest : List ℕ) → (AreAll q rest → ⊥) → IsStuck (RunStep rules.rows) q rest → IsStuck (TurnStep rules) (at_place j q) rest
-  stuck_too (Due zero last) rest unclosed stuck = absurd (unclosed tt)
-  stuck_too (Due (suc n) last) rest unclosed stuck = λ piece behind r cut step. stuck piece behind (Due n (Some step.0)) cut (step.0, step.1, refl)
-
-  pub not_over : (q : RowsDue) (rest : List ℕ) → AreOver (at_place j q) rest → ⊥
-  not_over (Due n last) rest over = over

@@ -11,10 +11,8 @@ use Rattle.row_runs.proofs.RunWords.{decimal_no_feed, count_is_line}
 use Rattle.row_reading.specs.declared.row_rules.TurnHead.{TurnHead}
 use Rattle.row_reading.specs.declared.row_rules.TurnHead.TheVariants.{Count, Numbered}
 use Rattle.row_reading.specs.Found.{Finds}
-use Rattle.row_reading.specs.Numbers.{IsNumberTo}
 use Rattle.row_reading.specs.RowsTexts.{head_line}
 use Rattle.row_reading.specs.inside.ReadTurns.{IsCountAt, IsNumberAt, IsHeadAt}
-use Rattle.row_reading.proofs.Digits.{one_number}
 use Rattle.row_reading.proofs.RunWords.{count_same}
 
 turn_words : (j n : ℕ) → head_line Numbered j n ≡ codes "turn " ++ (decimal j ++ 32 ∷ count_line n)
@@ -45,30 +43,12 @@ pub finds_as : {X Y : Type 0} (view : X → Y) (P Q : Y → Type 0) → ((y : Y)
 finds_as view P Q to from None h = λ y q. h y (from y q)
 finds_as view P Q to from (Some x) h = to (view x) h
 
-module _ (turn : ℕ) (bytes words : List ℕ) (begun : bytes ≡ codes "turn " ++ words) where
-  at_words : (rest : List ℕ) → IsNumberAt turn bytes rest → words ≡ decimal turn ++ 32 ∷ rest
-  at_words rest h = ap (drop 5) (sym begun ∙ h)
-
-  pub no_number : turn < 2 ^ 32 → ((z : ℕ × List ℕ) → IsNumberTo 32 words z → ⊥) → (rest : List ℕ) → IsNumberAt turn bytes rest → ⊥
-  no_number small none rest h = none (turn, rest) (small, at_words rest h)
-
-  module _ (number : ℕ) (after : List ℕ) (read : IsNumberTo 32 words (number, after)) where
-    pub other_number : turn < 2 ^ 32 → (number ≡ turn → ⊥) → (rest : List ℕ) → IsNumberAt turn bytes rest → ⊥
-    other_number small apart rest h = apart (one_number number turn 32 after rest read.0 small refl (sym read.1 ∙ at_words rest h)).0
-
-    pub this_number : number ≡ turn → IsNumberAt turn bytes after
-    this_number same = begun ∙ ap (λ (x : List ℕ). codes "turn " ++ x) (read.1 ∙ ap (λ (n : ℕ). decimal n ++ 32 ∷ after) same)
-
 -- after the number stands how many rows follow
-module _ (turn most : ℕ) (bytes : List ℕ) where
-  pub no_head : ((rest : List ℕ) → IsNumberAt turn bytes rest → ⊥) → (y : ℕ × List ℕ) → IsHeadAt Numbered turn most bytes y → ⊥
-  no_head none y h = none (count_line y.0 ++ y.1) (h.1 ∙ turn_front turn y.0 y.1)
+module _ (turn most : ℕ) (bytes rest : List ℕ) (number : IsNumberAt turn bytes rest) where
+  pub to_head : (y : ℕ × List ℕ) → IsCountAt most rest y → IsHeadAt Numbered turn most bytes y
+  to_head y h = (h.0, number ∙ ap (λ (x : List ℕ). codes "turn " ++ (decimal turn ++ 32 ∷ x)) h.1 ∙ sym (turn_front turn y.0 y.1))
 
-  module _ (rest : List ℕ) (number : IsNumberAt turn bytes rest) where
-    pub to_head : (y : ℕ × List ℕ) → IsCountAt most rest y → IsHeadAt Numbered turn most bytes y
-    to_head y h = (h.0, number ∙ ap (λ (x : List ℕ). codes "turn " ++ (decimal turn ++ 32 ∷ x)) h.1 ∙ sym (turn_front turn y.0 y.1))
-
-    pub from_head : (y : ℕ × List ℕ) → IsHeadAt Numbered turn most bytes y → IsCountAt most rest y
-    from_head y h =
-        let words : decimal turn ++ 32 ∷ rest ≡ decimal turn ++ 32 ∷ (count_line y.0 ++ y.1) = ap (drop 5) (sym number ∙ h.1 ∙ turn_front turn y.0 y.1) in
-        (h.0, same_tail 32 32 rest (count_line y.0 ++ y.1) (append_cancel_left (decimal turn) (32 ∷ rest) (32 ∷ (count_line y.0 ++ y.1)) words))
+  pub from_head : (y : ℕ × List ℕ) → IsHeadAt Numbered turn most bytes y → IsCountAt most rest y
+  from_head y h =
+      let words : decimal turn ++ 32 ∷ rest ≡ decimal turn ++ 32 ∷ (count_line y.0 ++ y.1) = ap (drop 5) (sym number ∙ h.1 ∙ turn_front turn y.0 y.1) in
+      (h.0, same_tail 32 32 rest (count_line y.0 ++ y.1) (append_cancel_left (decimal turn) (32 ∷ rest) (32 ∷ (count_line y.0 ++ y.1)) words))

@@ -1,24 +1,23 @@
 -- What is read of the lines of turns, and which line is refused.
-use Rattle.std.proofs.Common.{inl, inr, ◌≡◌, ℕ, suc, ◌+◌, ◌<◌, ◌≤◌, List, [], ◌∷◌, ◌++◌, length, length-append, Option, None, refl, sym, ap, subst, ◌∙◌, append_assoc, append-nil, arith}
+use Rattle.std.proofs.Common.{inl, inr, ◌≡◌, ℕ, suc, ◌+◌, ◌<◌, ◌≤◌, List, [], ◌∷◌, ◌++◌, length, length-append, Option, None, refl, sym, ap, ◌∙◌, append_assoc, append-nil, arith}
 use Rattle.std.specs.List.{AllByRecursion, concat}
+use Rattle.std.proofs.lemmas.List.{length-map}
 use Rattle.std.proofs.lemmas.List.Folds.{concat-append}
-use Rattle.std.proofs.lemmas.List.Elements.{recursion_from_All, All-from_recursion}
+use Rattle.std.proofs.lemmas.List.Elements.{recursion_from_All, All-nil, All-push}
 use Rattle.game_core.specs.declared.game.Row.{Row}
 use Rattle.row_runs.specs.declared.run.Run.{Run}
-use Rattle.row_runs.specs.RunText.{end_line}
-use Rattle.text_pieces.specs.Steps.{joined, Leads, IsRead}
-use Rattle.text_pieces.proofs.Laws.{joined_bytes, both_ways}
-use Rattle.row_reading.specs.declared.row_fault.RowFault.{RowFault}
-use Rattle.row_reading.specs.declared.row_fault.RowFault.TheVariants.{Malformed, Memory}
+use Rattle.row_runs.specs.Runs.{runs_from}
+use Rattle.row_runs.specs.RunText.{run_line, end_line}
+use Rattle.text_pieces.specs.Steps.{joined, Leads, IsRead, IsFirstRefused}
+use Rattle.text_pieces.proofs.Laws.{both_ways, read_on, few_pieces, few_refused}
 use Rattle.row_reading.specs.declared.row_rules.TurnRules.{TurnRules}
-use Rattle.row_reading.specs.RowsTexts.{head_line, row_lines, lines_from, turn_lines, AreRowsWithin, AreTurnsWithin, AreTurnsText}
-use Rattle.row_reading.specs.TurnSteps.{Due, AfterTurns, AfterAll, TurnStep, IsRunRefused, AreTurnsRefusedAt, IsRefusedAt, fault_after}
+use Rattle.row_reading.specs.RowsTexts.{head_line, row_lines, lines_from, turn_lines, AreRowsWithin, AreTurnsText}
+use Rattle.row_reading.specs.TurnSteps.{TurnState, AfterTurns, AfterAll, TurnStep, AreOver, AreTurnsRefusedAt}
+use Rattle.row_reading.specs.inside.ReadRows.{IsRunRefused, last_after}
 use Rattle.row_reading.specs.inside.ReadTurns.{IsHeadAt, IsTurnRead, IsTurnRefused, AreTurnsRead}
-use Rattle.row_reading.proofs.RowsRead.{few_lines as few_rows, rows_lead}
-use Rattle.row_reading.proofs.TurnGrammar.{few_lines, at_place, rows_in_turn, stuck_too, not_over}
-
-joined-append : (xs ys : List (List ℕ)) → joined (xs ++ ys) ≡ joined xs ++ joined ys
-joined-append xs ys = sym (joined_bytes (xs ++ ys)) ∙ concat-append xs ys ∙ ap (λ (z : List ℕ). z ++ concat ys) (joined_bytes xs) ∙ ap (λ (z : List ℕ). joined xs ++ z) (joined_bytes ys)
+use Rattle.row_reading.proofs.Further.{lines_on, is_read, refused_here, refused_on}
+use Rattle.row_reading.proofs.RowsRead.{few_lines as few_rows, runs_within, some_lead}
+use Rattle.row_reading.proofs.TurnGrammar.{none_empty}
 
 module _ (rules : TurnRules) where
   -- the row lines of one turn
@@ -39,164 +38,82 @@ module _ (rules : TurnRules) where
       ap (λ (x : List (List ℕ)). head_line rules.head j (length (own s)) ∷ own s ++ x) (turns_on (suc j) turns r ∙ ap (λ (n : ℕ). lines_from rules (suc j) turns ++ lines_of n r) k)
       ∙ ap (λ (x : List (List ℕ)). head_line rules.head j (length (own s)) ∷ x) (sym (append_assoc (own s) (lines_from rules (suc j) turns) (lines_of (j + suc (length turns)) r)))
 
-  within_on : (turns : List (List (Option Row))) (r : List (Option Row)) → AllByRecursion (AreRowsWithin rules.rows) turns → AreRowsWithin rules.rows r → AllByRecursion (AreRowsWithin rules.rows) (turns ++ r ∷ [])
-  within_on [] r each one = (one, tt)
-  within_on (s ∷ turns) r each one = (each.0, within_on turns r each.1 one)
-
-  -- the way along the lines of one turn
-  turn_leads : (j : ℕ) (last : Option Run) (r : List (Option Row)) → j < rules.turns → AreRowsWithin rules.rows r → (before : Option Run) × Leads (TurnStep rules) (AfterTurns j 0 last) (lines_of j r) (AfterTurns (suc j) 0 before)
-  turn_leads j last r lt are =
-      let led = rows_lead rules.rows r are in (
-        led.0,
+  -- the way along the lines of the turns from one on
+  turns_lead : (j k : ℕ) (last : Option Run) (turns : List (List (Option Row))) → j + length turns ≡ k → k ≤ rules.turns → AllByRecursion (AreRowsWithin rules.rows) turns
+      → (before : Option Run) × Leads (TurnStep rules) (AfterTurns j 0 last) (lines_from rules j turns) (AfterTurns k 0 before)
+  turns_lead j k last [] e few are = (last, ap (λ (n : ℕ). AfterTurns n 0 last) (omega (arith, e)))
+  turns_lead j k last (r ∷ turns) e few are =
+      let count : ℕ = length (own r) in
+      let runs : List Run = runs_from rules.rows.version 0 r in
+      let between : Option Run = last_after None runs in
+      let rows = some_lead rules (suc j) count 0 runs (omega (arith, length-map runs (run_line rules.rows.version rules.rows.format))) (runs_within rules.rows r are.0) in
+      let more = turns_lead (suc j) k between turns (omega (arith, e)) few are.1 in (
+        more.0,
         (
-          AfterTurns (suc j) (length (own r)) None,
-          inl (lt, length (own r), few_rows rules.rows r are, refl, refl),
-          rows_in_turn rules (suc j) (Due (length (own r)) None) (Due 0 led.0) (own r) led.1,
+          AfterTurns (suc j) count None,
+          inl (omega (arith, e, few), count, few_rows rules.rows r are.0, refl, refl),
+          both_ways (TurnStep rules) (AfterTurns (suc j) count None) (AfterTurns (suc j) 0 between) (AfterTurns k 0 more.0) (own r) (lines_from rules (suc j) turns) rows more.1,
         ),
       )
-
-  -- the way along the lines of the turns from one on
-  pub turns_lead : (j : ℕ) (last : Option Run) (turns : List (List (Option Row))) → j + length turns ≤ rules.turns → AllByRecursion (AreRowsWithin rules.rows) turns
-      → (before : Option Run) × Leads (TurnStep rules) (AfterTurns j 0 last) (lines_from rules j turns) (AfterTurns (j + length turns) 0 before)
-  turns_lead j last [] few are = (last, ap (λ (k : ℕ). AfterTurns k 0 last) (omega arith))
-  turns_lead j last (r ∷ turns) few are =
-      let first = turn_leads j last r (omega (arith, few)) are.0 in
-      let more = turns_lead (suc j) first.0 turns (omega (arith, few)) are.1 in
-      let k : suc j + length turns ≡ j + suc (length turns) = omega arith in (
-        more.0,
-        subst (λ (n : ℕ). Leads (TurnStep rules) (AfterTurns j 0 last) (lines_from rules j (r ∷ turns)) (AfterTurns n 0 more.0)) k
-            (both_ways (TurnStep rules) (AfterTurns j 0 last) (AfterTurns (suc j) 0 first.0) (AfterTurns (suc j + length turns) 0 more.0) (lines_of j r) (lines_from rules (suc j) turns) first.1 more.1),
-      )
-
-  pub each_within : (turns : List (List (Option Row))) → AreTurnsWithin rules turns → AllByRecursion (AreRowsWithin rules.rows) turns
-  each_within turns within = recursion_from_All (AreRowsWithin rules.rows) turns within.each
-
-  -- the text of all turns is read
-  pub told_read : (bytes : List ℕ) (turns : List (List (Option Row))) → AreTurnsText rules bytes turns → IsRead (TurnStep rules) (AfterTurns 0 0 None) bytes (turn_lines rules turns) AfterAll []
-  told_read bytes turns told =
-      let size = told.within.one_list_each in
-      let way = turns_lead 0 None turns (omega (arith, size)) (each_within turns told.within) in
-      record {
-        leads = both_ways (TurnStep rules) (AfterTurns 0 0 None) (AfterTurns (0 + length turns) 0 way.0) AfterAll (lines_from rules 0 turns) (end_line ∷ []) way.1 (AfterAll, inr (omega (arith, size), refl, refl), refl);
-        are = told.text ∙ joined_bytes (turn_lines rules turns) ∙ sym (append-nil (joined (turn_lines rules turns)));
-      }
 
 -- ---- some turns are read
 
 module _ (rules : TurnRules) (bytes : List ℕ) where
-  pub nothing_read : AreTurnsRead rules 0 bytes bytes []
-  nothing_read = record { within = tt; counted = refl; last = None; read = record { leads = refl; are = refl } }
+  pub nothing_read : AreTurnsRead rules 0 0 bytes bytes []
+  nothing_read = record { size = refl; within = All-nil (AreRowsWithin rules.rows); counted = refl; text = refl }
 
-  module _ (lines : ℕ) (rest : List ℕ) (turns : List (List (Option Row))) (up : AreTurnsRead rules lines bytes rest turns) where
+  module _ (j lines : ℕ) (rest : List ℕ) (turns : List (List (Option Row))) (up : AreTurnsRead rules j lines bytes rest turns) where
     abbrev read_lines : List (List ℕ)
     read_lines = lines_from rules 0 turns
 
-    pub lines_are_few : lines ≤ length bytes
-    lines_are_few =
-        let few = few_lines rules (AfterTurns 0 0 None) (AfterTurns (length turns) 0 up.last) read_lines (up.read).leads in
-        omega (arith, few, up.counted, ap length (up.read).are, length-append (joined read_lines) rest)
+    up_to : j ≤ rules.turns → (last : Option Run) × IsRead (TurnStep rules) (AfterTurns 0 0 None) bytes read_lines (AfterTurns j 0 last) rest
+    up_to le =
+        let way = turns_lead rules 0 j None turns (omega (arith, up.size)) le (recursion_from_All (AreRowsWithin rules.rows) turns up.within) in
+        (way.0, is_read (TurnStep rules) (AfterTurns 0 0 None) (AfterTurns j 0 way.0) bytes rest read_lines way.1 up.text)
 
-    -- further pieces at the front of the rest
-    are_on : (pieces : List (List ℕ)) (after : List ℕ) → rest ≡ joined pieces ++ after → bytes ≡ joined (read_lines ++ pieces) ++ after
-    are_on pieces after cut =
-        (up.read).are
-        ∙ ap (λ (x : List ℕ). joined read_lines ++ x) cut
-        ∙ sym (append_assoc (joined read_lines) (joined pieces) after)
-        ∙ ap (λ (x : List ℕ). x ++ after) (sym (joined-append read_lines pieces))
+    pub lines_are_few : j ≤ rules.turns → lines ≤ length bytes
+    lines_are_few le =
+        let way = up_to le in
+        let few = few_pieces (TurnStep rules) (none_empty rules) (AfterTurns 0 0 None) (AfterTurns j 0 way.0) read_lines way.1.leads in
+        omega (arith, few, up.counted, ap length way.1.are, length-append (joined read_lines) rest)
 
-    -- ---- a turn more
+    -- a turn more
+    pub turn_read : (count : ℕ) (r : List (Option Row)) (after : List ℕ) → IsTurnRead rules j count rest r after → AreTurnsRead rules (j + 1) (lines + (1 + count)) bytes after (turns ++ r ∷ [])
+    turn_read count r after turn =
+        let at = turn.at in
+        let on : lines_from rules 0 (turns ++ r ∷ []) ≡ read_lines ++ lines_of rules j r = turns_on rules 0 turns r ∙ ap (λ (k : ℕ). read_lines ++ lines_of rules k r) (omega (arith, up.size)) in
+        let cut : rest ≡ concat (lines_of rules j r) ++ after =
+        turn.first.1
+        ∙ ap (λ (n : ℕ). head_line rules.head j n ++ turn.rest) (sym at.counted)
+        ∙ ap (λ (x : List ℕ). head_line rules.head j (length (own rules r)) ++ x) at.text
+        ∙ sym (append_assoc (head_line rules.head j (length (own rules r))) (concat (own rules r)) after) in
+        record {
+          size = omega (arith, length-append turns (r ∷ []), up.size);
+          within = All-push (AreRowsWithin rules.rows) turns r up.within at.within;
+          counted = ap length on ∙ omega (arith, length-append read_lines (lines_of rules j r), up.counted, at.counted);
+          text = lines_on read_lines (lines_of rules j r) bytes rest after up.text cut ∙ ap (λ (x : List (List ℕ)). concat x ++ after) (sym on);
+        }
 
-    module _ (lt : length turns < rules.turns) where
-      pub turn_read : (count : ℕ) (r : List (Option Row)) (after : List ℕ) → IsTurnRead rules (length turns) count rest r after → AreTurnsRead rules (lines + (1 + count)) bytes after (turns ++ r ∷ [])
-      turn_read count r after turn =
-          let own_lines : List (List ℕ) = lines_of rules (length turns) r in
-          let at = turn.at in
-          let on : lines_from rules 0 (turns ++ r ∷ []) ≡ read_lines ++ own_lines = turns_on rules 0 turns r ∙ ap (λ (j : ℕ). read_lines ++ lines_of rules j r) (omega arith) in
-          let way = turn_leads rules (length turns) up.last r lt at.within in
-          let size : suc (length turns) ≡ length (turns ++ r ∷ []) = omega (arith, length-append turns (r ∷ [])) in
-          let all : Leads (TurnStep rules) (AfterTurns 0 0 None) (read_lines ++ own_lines) (AfterTurns (suc (length turns)) 0 way.0) =
-          both_ways (TurnStep rules) (AfterTurns 0 0 None) (AfterTurns (length turns) 0 up.last) (AfterTurns (suc (length turns)) 0 way.0) read_lines own_lines (up.read).leads way.1 in
-          let cut : rest ≡ joined own_lines ++ after =
-          turn.first.1
-          ∙ ap (λ (n : ℕ). head_line rules.head (length turns) n ++ turn.rest) (sym at.counted)
-          ∙ ap (λ (x : List ℕ). head_line rules.head (length turns) (length (own rules r)) ++ x) (at.text ∙ ap (λ (x : List ℕ). x ++ after) (joined_bytes (own rules r)))
-          ∙ sym (append_assoc (head_line rules.head (length turns) (length (own rules r))) (joined (own rules r)) after) in
-          record {
-            within = within_on rules turns r up.within at.within;
-            counted = ap length on ∙ omega (arith, length-append read_lines own_lines, up.counted, at.counted);
-            last = way.0;
-            read = record {
-              leads = subst (λ (x : List (List ℕ)). Leads (TurnStep rules) (AfterTurns 0 0 None) x (AfterTurns (length (turns ++ r ∷ [])) 0 way.0)) (sym on)
-                  (subst (λ (n : ℕ). Leads (TurnStep rules) (AfterTurns 0 0 None) (read_lines ++ own_lines) (AfterTurns n 0 way.0)) size all);
-              are = are_on own_lines after cut ∙ ap (λ (x : List (List ℕ)). joined x ++ after) (sym on);
-            };
-          }
+    pub turn_refused : j < rules.turns → (n : ℕ) → IsTurnRefused rules j rest n → AreTurnsRefusedAt rules bytes (lines + n)
+    turn_refused lt n refused =
+        let way = up_to (omega (arith, lt)) in
+        refused_on (TurnStep rules) AreOver (AfterTurns 0 0 None) (AfterTurns j 0 way.0) bytes rest read_lines lines n way.1 up.counted (refused way.0)
 
-      -- no line of this turn stands there
-      no_turn : ((y : ℕ × List ℕ) → IsHeadAt rules.head (length turns) rules.rows.cells rest y → ⊥) → AreTurnsRefusedAt rules bytes (lines + 1)
-      no_turn none = record {
-        pieces = read_lines;
-        next = omega (arith, up.counted);
-        to = AfterTurns (length turns) 0 up.last;
-        rest = rest;
-        read = up.read;
-        stuck = λ piece behind q cut step. elim step [
-          | inl turn ↦ none (turn.1, behind) (turn.2, cut ∙ ap (λ (x : List ℕ). x ++ behind) turn.3)
-          | inr end ↦ (let eq = end.0 in omega (arith, lt, eq))
-        ];
-        unclosed = λ over. over;
-      }
-
-      no_row : (count : ℕ) (text : List ℕ) → IsHeadAt rules.head (length turns) rules.rows.cells rest (count, text) → (line : ℕ) → IsRunRefused rules.rows count text line → AreTurnsRefusedAt rules bytes (lines + suc line)
-      no_row count text first line r =
-          let own_lines : List (List ℕ) = head_line rules.head (length turns) count ∷ r.pieces in
-          let j : ℕ = suc (length turns) in
-          let cut : rest ≡ joined own_lines ++ r.rest =
-          first.1
-          ∙ ap (λ (x : List ℕ). head_line rules.head (length turns) count ++ x) (r.read).are
-          ∙ sym (append_assoc (head_line rules.head (length turns) count) (joined r.pieces) r.rest) in
-          record {
-            pieces = read_lines ++ own_lines;
-            next = omega (arith, r.next, up.counted, length-append read_lines own_lines);
-            to = at_place j r.to;
-            rest = r.rest;
-            read = record {
-              leads = both_ways (TurnStep rules) (AfterTurns 0 0 None) (AfterTurns (length turns) 0 up.last) (at_place j r.to) read_lines own_lines (up.read).leads
-                  (AfterTurns j count None, inl (lt, count, first.0, refl, refl), rows_in_turn rules j (Due count None) r.to r.pieces (r.read).leads);
-              are = are_on own_lines r.rest cut;
-            };
-            stuck = stuck_too rules j r.to r.rest r.unclosed r.stuck;
-            unclosed = not_over rules j r.to r.rest;
-          }
-
-      pub turn_refused : (n : ℕ) → IsTurnRefused rules (length turns) rest n → AreTurnsRefusedAt rules bytes (lines + n)
-      turn_refused n h = elim h [
-        | inl none ↦ subst (λ (k : ℕ). AreTurnsRefusedAt rules bytes (lines + k)) (sym none.0) (no_turn none.1)
-        | inr row ↦ subst (λ (k : ℕ). AreTurnsRefusedAt rules bytes (lines + k)) (sym row.4) (no_row row.0 row.1 row.2 row.3 row.5)
-      ]
-
-    -- ---- all turns are read
-
-    module _ (all : length turns ≡ rules.turns) where
+    -- all turns are read
+    module _ (all : j ≡ rules.turns) where
       pub no_end : ((rest_after : List ℕ) → rest ≡ end_line ++ rest_after → ⊥) → AreTurnsRefusedAt rules bytes (lines + 1)
-      no_end none = record {
-        pieces = read_lines;
-        next = omega (arith, up.counted);
-        to = AfterTurns (length turns) 0 up.last;
-        rest = rest;
-        read = up.read;
-        stuck = λ piece behind q cut step. elim step [
-          | inl turn ↦ (let lt = turn.0 in omega (arith, lt, all))
-          | inr end ↦ none behind (cut ∙ ap (λ (x : List ℕ). x ++ behind) end.1)
-        ];
-        unclosed = λ over. over;
-      }
+      no_end none =
+          let way = up_to (omega (arith, all)) in
+          refused_on (TurnStep rules) AreOver (AfterTurns 0 0 None) (AfterTurns j 0 way.0) bytes rest read_lines lines 1 way.1 up.counted
+          (refused_here (TurnStep rules) AreOver (AfterTurns j 0 way.0) rest (λ piece behind q cut step. elim step [
+            | inl turn ↦ (let lt = turn.0 in omega (arith, lt, all))
+            | inr end ↦ none behind (cut ∙ ap (λ (x : List ℕ). x ++ behind) end.1)
+          ]) (λ over. over))
 
-      ended : (rest_after : List ℕ) → rest ≡ end_line ++ rest_after → IsRead (TurnStep rules) (AfterTurns 0 0 None) bytes (turn_lines rules turns) AfterAll rest_after
-      ended rest_after cut = record {
-        leads = both_ways (TurnStep rules) (AfterTurns 0 0 None) (AfterTurns (length turns) 0 up.last) AfterAll read_lines (end_line ∷ []) (up.read).leads (AfterAll, inr (all, refl, refl), refl);
-        are = are_on (end_line ∷ []) rest_after (cut ∙ ap (λ (x : List ℕ). x ++ rest_after) (sym (append-nil end_line)));
-      }
+      pub ended : (rest_after : List ℕ) → rest ≡ end_line ++ rest_after → IsRead (TurnStep rules) (AfterTurns 0 0 None) bytes (turn_lines rules turns) AfterAll rest_after
+      ended rest_after cut =
+          let way = up_to (omega (arith, all)) in
+          read_on (TurnStep rules) (AfterTurns 0 0 None) (AfterTurns j 0 way.0) AfterAll bytes rest end_line rest_after read_lines way.1 cut (inr (all, refl, refl))
 
       pub more_after : (rest_after : List ℕ) → (rest_after ≡ [] → ⊥) → rest ≡ end_line ++ rest_after → AreTurnsRefusedAt rules bytes (lines + 2)
       more_after rest_after some cut = record {
@@ -211,25 +128,42 @@ module _ (rules : TurnRules) (bytes : List ℕ) where
 
       pub whole_text : rest ≡ end_line ++ [] → AreTurnsText rules bytes turns
       whole_text cut = record {
-        within = record { one_list_each = all; each = All-from_recursion (AreRowsWithin rules.rows) turns up.within };
-        text = (ended [] cut).are ∙ append-nil (joined (turn_lines rules turns)) ∙ sym (joined_bytes (turn_lines rules turns));
+        within = record { one_list_each = up.size ∙ all; each = up.within };
+        text = lines_on read_lines (end_line ∷ []) bytes rest [] up.text (cut ∙ ap (λ (x : List ℕ). x ++ []) (sym (append-nil end_line))) ∙ append-nil (concat (turn_lines rules turns));
       }
 
+-- the text of all turns is read
+pub told_read : (rules : TurnRules) (bytes : List ℕ) (turns : List (List (Option Row))) → AreTurnsText rules bytes turns → IsRead (TurnStep rules) (AfterTurns 0 0 None) bytes (turn_lines rules turns) AfterAll []
+told_read rules bytes turns told = ended rules bytes rules.turns (length lines) (end_line ++ []) turns up refl [] refl
+  where
+    lines : List (List ℕ)
+    lines = lines_from rules 0 turns
+
+    up : AreTurnsRead rules rules.turns (length lines) bytes (end_line ++ []) turns
+    up = record { size = told.within.one_list_each; within = told.within.each; counted = refl; text = told.text ∙ concat-append lines (end_line ∷ []) }
+
+-- ---- a turn that is refused
+
+-- no line of the turn stands there
+pub no_head : (rules : TurnRules) (j : ℕ) (bytes : List ℕ) → j < rules.turns → ((y : ℕ × List ℕ) → IsHeadAt rules.head j rules.rows.cells bytes y → ⊥) → IsTurnRefused rules j bytes 1
+no_head rules j bytes lt none last =
+    refused_here (TurnStep rules) AreOver (AfterTurns j 0 last) bytes (λ piece behind q cut step. elim step [
+      | inl turn ↦ none (turn.1, behind) (turn.2, cut ∙ ap (λ (x : List ℕ). x ++ behind) turn.3)
+      | inr end ↦ (let eq = end.0 in omega (arith, lt, eq))
+    ]) (λ over. over)
+
+-- a row line of the turn is refused after the turn's own line
+pub row_refused : (rules : TurnRules) (j count : ℕ) (bytes rest : List ℕ) → j < rules.turns → IsHeadAt rules.head j rules.rows.cells bytes (count, rest) → (n : ℕ) → IsRunRefused rules.rows count rest n → IsTurnRefused rules j bytes (1 + n)
+row_refused rules j count bytes rest lt head n refused last =
+    refused_on (TurnStep rules) AreOver (AfterTurns j 0 last) (AfterTurns (suc j) count None) bytes rest (head_line rules.head j count ∷ []) 1 n
+    (record {
+      leads = (AfterTurns (suc j) count None, inl (lt, count, head.0, refl, refl), refl);
+      are = head.1 ∙ ap (λ (x : List ℕ). x ++ rest) (sym (append-nil (head_line rules.head j count)));
+    }) refl (refused rules.turns rules.head (suc j))
+
 -- the number of a refused line is small
+pub line_bound_from : (rules : TurnRules) (q : TurnState) (bytes : List ℕ) (n : ℕ) → IsFirstRefused (TurnStep rules) AreOver q bytes n → n ≤ length bytes + 1
+line_bound_from rules q bytes n r = few_refused (TurnStep rules) AreOver (none_empty rules) q bytes n r
+
 pub line_bound : (rules : TurnRules) (bytes : List ℕ) (n : ℕ) → AreTurnsRefusedAt rules bytes n → n ≤ length bytes + 1
-line_bound rules bytes n r =
-    let lines = few_lines rules (AfterTurns 0 0 None) r.to r.pieces (r.read).leads in
-    omega (arith, lines, r.next, ap length (r.read).are, length-append (joined r.pieces) r.rest)
-
--- ---- faults
-
--- a refused row line of a turn is refused after the turn's own line
-pub row_fault : (rules : TurnRules) (turn count : ℕ) (bytes rest : List ℕ) → IsHeadAt rules.head turn rules.rows.cells bytes (count, rest) → (fault : RowFault) → IsRefusedAt (IsRunRefused rules.rows count rest) fault → IsRefusedAt (IsTurnRefused rules turn bytes) (fault_after 1 fault)
-row_fault rules turn count bytes rest head (Malformed line) refused = inr (count, rest, head, line, omega arith, refused)
-row_fault rules turn count bytes rest head Memory refused = tt
-
--- and a refused line of a turn after the lines of those before it
-pub turn_fault : (rules : TurnRules) (bytes : List ℕ) (lines : ℕ) (rest : List ℕ) (turns : List (List (Option Row))) → AreTurnsRead rules lines bytes rest turns → length turns < rules.turns → (fault : RowFault) → IsRefusedAt (IsTurnRefused rules (length turns) rest) fault
-    → IsRefusedAt (AreTurnsRefusedAt rules bytes) (fault_after lines fault)
-turn_fault rules bytes lines rest turns up lt (Malformed line) refused = turn_refused rules bytes lines rest turns up lt line refused
-turn_fault rules bytes lines rest turns up lt Memory refused = tt
+line_bound rules bytes n r = line_bound_from rules (AfterTurns 0 0 None) bytes n r

@@ -69,9 +69,3 @@ pub record AreTurnsWithin (rules : TurnRules) (turns : List (List (Option Row)))
 pub record AreTurnsText (rules : TurnRules) (bytes : List ℕ) (turns : List (List (Option Row))) : Type 0 where
   pub within : AreTurnsWithin rules turns
   pub text : bytes ≡ concat (turn_lines rules turns)
-
--- So many lines of rows stand at the front, and give these rows.
-pub record AreRowsAt (rules : RowRules) (count : ℕ) (bytes : List ℕ) (rows : List (Option Row)) (rest : List ℕ) : Type 0 where
-  pub within : AreRowsWithin rules rows
-  pub counted : length (row_lines rules.version rules.format rows) ≡ count
-  pub text : bytes ≡ concat (row_lines rules.version rules.format rows) ++ rest

@@ -24,20 +24,6 @@ pub record IsNextRow (rules : RowRules) (last : Option Run) (r : Run) (line : Li
   pub follows : MayStandAfter rules.version last r
   pub line_is : line ≡ run_line rules.version rules.format r
 
--- so many row lines are due, after the last one
-pub data RowsDue : Type 0 where
-  Due : (rows : ℕ) (last : Option Run) → RowsDue
-
--- while rows are due, a row line leads on
-abbrev pub RunStep : RowRules → RowsDue → List ℕ → RowsDue → Type 0
-RunStep rules (Due zero last) line to = ⊥
-RunStep rules (Due (suc n) last) line to = (r : Run) × IsNextRow rules last r line × (to ≡ Due n (Some r))
-
--- no row is due any more
-abbrev pub AreAll : RowsDue → List ℕ → Type 0
-AreAll (Due zero last) rest = Unit {0}
-AreAll (Due (suc n) last) rest = ⊥
-
 -- the lines of so many turns stand, but for so many row lines that are due after the last one; or all stand
 pub data TurnState : Type 0 where
   AfterTurns : (turns rows : ℕ) (last : Option Run) → TurnState
@@ -59,10 +45,6 @@ AreOver AfterAll rest = rest ≡ []
 -- the n-th line, from 1, is the first that is refused where rows are given turn by turn
 abbrev pub AreTurnsRefusedAt : TurnRules → List ℕ → ℕ → Type 0
 AreTurnsRefusedAt rules bytes n = IsFirstRefused (TurnStep rules) AreOver (AfterTurns 0 0 None) bytes n
-
--- the n-th line, from 1, is the first that is refused where so many row lines are to stand
-abbrev pub IsRunRefused : RowRules → ℕ → List ℕ → ℕ → Type 0
-IsRunRefused rules count bytes n = IsFirstRefused (RunStep rules) AreAll (Due count None) bytes n
 
 -- a line that is refused is refused so
 abbrev pub IsRefusedAt : (ℕ → Type 0) → RowFault → Type 0

@@ -2,8 +2,8 @@
 
 ghost use Rattle.std.specs.Prelude.{◌≤◌, IfOk, IfErr};
 ghost use Rattle.base.specs.declared.limits.TheConstants.{CELLS_LIMIT};
-ghost use Rattle.row_reading.specs.RowsTexts.{AreRowsAt};
-ghost use Rattle.row_reading.specs.TurnSteps.{IsRunRefused, IsRefusedAt};
+ghost use Rattle.row_reading.specs.TurnSteps.{IsRefusedAt};
+ghost use Rattle.row_reading.specs.inside.ReadRows.{AreRowsAt, IsRunRefused};
 
 use crate::row_fault::RowFault;
 use crate::row_rules::RowRules;

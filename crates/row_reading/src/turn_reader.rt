@@ -50,7 +50,9 @@ fn take_turn(
     turn: u32,
     bytes: &[u8],
 ) -> Result<(Answer, u32, &[u8]), RowFault>
-    requires { rules.rows.cells ≤ CELLS_LIMIT }
+    requires cells { rules.rows.cells ≤ CELLS_LIMIT }
+    requires turn { turn < rules.turns }
+    requires size { length bytes.now < 2 ^ 31 }
     ensures read { IfOk result (λ r. IsTurnRead rules turn r.1 bytes.now r.0 r.2.now) }
     ensures refused { IfErr result (λ fault. IsRefusedAt (IsTurnRefused rules turn bytes.now) fault) }
 {

@@ -9,7 +9,7 @@ use Rattle.row_runs.specs.declared.run.TableVersion.{TableVersion}
 use Rattle.row_runs.specs.declared.run.TableVersion.TheVariants.{First, Second}
 use Rattle.row_runs.specs.Runs.{is_same_row, prepend_row, runs_from, MayFollow, HasCells, MayLead, AreRuns, Gives}
 use Rattle.row_runs.specs.Laws.{RunsEncodeTheRows}
-use Rattle.std.proofs.lemmas.Option.{same_Some}
+use Rattle.std.proofs.lemmas.Option.{none-some, same_Some}
 
 same_row : (a b : Row) → is_same_row a b ≡ true → a ≡ b
 same_row a b e =
@@ -66,14 +66,11 @@ pub record AreOf (v : TableVersion) (c : ℕ) (rows : List (Option Row)) (runs :
   pub begin : BeginAt c runs
   pub encode : (i : ℕ) (row : Row) → (row_of rows i ≡ Some row) ↔ Gives runs (c + i) row
 
-none_here : (row : Row) → None ≡ Some row → ⊥
-none_here row e = cc
-
 skipped : (v : TableVersion) (c : ℕ) (rows : List (Option Row)) (runs : List Run) → AreOf v (suc c) rows runs → AreOf v c (None ∷ rows) runs
 skipped v c rows runs h = record { are = h.are; begin = begin_lower c (suc c) runs (omega arith) h.begin; encode = encodes }
   where
     encodes : (i : ℕ) (row : Row) → (row_of (None ∷ rows) i ≡ Some row) ↔ Gives runs (c + i) row
-    encodes zero row = ((λ e. absurd (none_here row e)), (λ given. absurd (let above = gives_above v (suc c) runs (c + 0) row h.are h.begin given in omega (arith, above))))
+    encodes zero row = ((λ e. absurd (none-some row e)), (λ given. absurd (let above = gives_above v (suc c) runs (c + 0) row h.are h.begin given in omega (arith, above))))
     encodes (suc i) row =
         let same : suc c + i ≡ c + suc i = omega arith in
         subst (λ (n : ℕ). (row_of rows i ≡ Some row) ↔ Gives runs n row) same (h.encode i row)
@@ -159,7 +156,7 @@ put Second c row rows (r ∷ runs) h = by (eqb r.first (suc c)) (is_same_row row
     by false t e f = single Second c row rows (r ∷ runs) (omega arith) (apart (inl (λ is. false≢true (sym e ∙ eq-eqb r.first (suc c) is)))) h
 
 pub runs_are : (v : TableVersion) (c : ℕ) (rows : List (Option Row)) → AreOf v c rows (runs_from v c rows)
-runs_are v c [] = record { are = tt; begin = tt; encode = λ i row. ((λ e. absurd (none_here row e)), (λ given. absurd given)) }
+runs_are v c [] = record { are = tt; begin = tt; encode = λ i row. ((λ e. absurd (none-some row e)), (λ given. absurd given)) }
 runs_are v c (None ∷ rows) = skipped v c rows (runs_from v (suc c) rows) (runs_are v (suc c) rows)
 runs_are v c (Some row ∷ rows) = put v c row rows (runs_from v (suc c) rows) (runs_are v (suc c) rows)
 

@@ -1,9 +1,7 @@
 pub mod Encoding
 pub mod Uniqueness
-pub mod NextRun
 pub mod NextRows
 pub mod MoreRuns
-pub mod SameRows
 pub mod RunLaws
 pub mod Cuts
 pub mod Lines

@@ -2,4 +2,4 @@
 pub use Rattle.row_runs.proofs.Encoding.{runs_encode, forward}
 pub use Rattle.row_runs.proofs.Uniqueness.{one_list}
 pub use Rattle.row_runs.proofs.MoreRuns.{one_more}
-pub use Rattle.row_runs.proofs.SameRows.{differ}
+pub use Rattle.row_runs.proofs.Uniqueness.{differ}

@@ -1,13 +1,16 @@
--- Two lists of runs that give the same rows are one.
-use Rattle.std.proofs.Common.{◌≡◌, ℕ, suc, ◌<◌, ◌≤◌, List, [], ◌∷◌, refl, sym, ap₂, ◌∙◌, arith, inl, inr}
+-- Two lists of runs that give the same rows are one, and as many rows that have the same runs are the same.
+use Rattle.std.proofs.Common.{◌≡◌, ℕ, suc, ◌<◌, ◌≤◌, List, [], ◌∷◌, refl, sym, ap₂, ◌∙◌, arith, inl, inr, Option, Some, None, subst}
 use Rattle.std.proofs.lemmas.Bool.{cases_lt}
 use Rattle.game_core.specs.declared.game.Row.{Row}
 use Rattle.row_runs.specs.declared.run.Run.{Run}
 use Rattle.row_runs.specs.declared.run.TableVersion.{TableVersion}
 use Rattle.row_runs.specs.declared.run.TableVersion.TheVariants.{First, Second}
-use Rattle.row_runs.specs.Runs.{HasCells, AreRuns, Gives}
-use Rattle.row_runs.specs.Laws.{OneListOfRuns}
-use Rattle.row_runs.proofs.Encoding.{gives_above, begin_later, forward}
+use Rattle.row_runs.specs.Runs.{HasCells, AreRuns, Gives, runs_from, EncodeRows}
+use Rattle.row_runs.specs.Laws.{OneListOfRuns, RunsDiffer}
+use Rattle.row_runs.proofs.Encoding.{gives_above, begin_later, forward, runs_encode}
+use Rattle.std.proofs.lemmas.List.{get_or_default, same_lists}
+use Rattle.std.proofs.lemmas.Option.{none-some}
+use Rattle.game_core.specs.Solution.{row_of}
 
 -- one list gives what the other gives
 abbrev GiveAs : List Run → List Run → Type 0
@@ -88,3 +91,15 @@ one_list v rows runs others are also encode told =
     same_runs v runs others are also
     (λ c row given. (told c row).0 ((encode c row).1 given))
     (λ c row given. (encode c row).0 ((told c row).1 given))
+
+same_option : (a b : Option Row) → ((row : Row) → a ≡ Some row → b ≡ Some row) → ((row : Row) → b ≡ Some row → a ≡ Some row) → a ≡ b
+same_option None None f g = refl
+same_option None (Some row) f g = absurd (none-some row (g row refl))
+same_option (Some row) b f g = sym (f row refl)
+
+pub differ : RunsDiffer
+differ v rows others len e =
+    let told = (runs_encode v rows).1 in
+    let also : EncodeRows (runs_from v 0 rows) others = subst (λ (runs : List Run). EncodeRows runs others) (sym e) (runs_encode v others).1 in
+    let same : (c : ℕ) → row_of rows c ≡ row_of others c = λ c. same_option (row_of rows c) (row_of others c) (λ row is. (also c row).1 ((told c row).0 is)) (λ row is. (told c row).1 ((also c row).0 is)) in
+    same_lists rows others len (λ c d lt. get_or_default rows c d None lt ∙ same c ∙ sym (get_or_default others c d None (omega (arith, lt, len))))

@@ -11,9 +11,11 @@ use Rattle.turn_rows.specs.Targets.{IsInTarget}
 use Rattle.row_reading.specs.RowsTexts.{IsRowWithin, AreRowsWithin, AreTurnsWithin}
 use Rattle.controller_table.specs.declared.text_kind.TextKind.TheVariants.{Patrol}
 use Rattle.controller_table.specs.TextKinds.{patrol_rules, turn_rules}
+use Rattle.temporal_texts.specs.PatrolText.{patrol_text, IsPatrolText}
 use Rattle.turn_rows.specs.Rows.{rows_for}
 use Rattle.temporal_games.specs.Patrol.{IsPatrol}
 use Rattle.temporal_games.proofs.PatrolRowLaws.{rows_are_within}
+use Rattle.plant_record.specs.Limits.{IsWithinLimits}
 
 pub patrol_rows_fit : (p : Description) (g : Game) (rows : List (List (Option Row))) → IsGameOf p g → IsPatrol g (IsInTarget p) (length p.targets) rows → AreTurnsWithin (turn_rules Patrol p) rows
 patrol_rows_fit p g rows a s = record {
@@ -32,3 +34,7 @@ patrol_rows_fit p g rows a s = record {
       one_each = s.one_row_each j lj ∙ a.cells;
       each = All-from_get_or (λ row. IfSome row (IsRowWithin (patrol_rules p))) (rows_for rows j) None (λ c lt. let n = s.one_row_each j lj in fits j c lj (omega (arith, lt, n)) (row_of (rows_for rows j) c) refl);
     }
+
+-- the text of the solution is one
+pub solution_has_patrol_text : (p : Description) (g : Game) (rows : List (List (Option Row))) → IsWithinLimits p → IsGameOf p g → IsPatrol g (IsInTarget p) (length p.targets) rows → IsPatrolText (patrol_text p rows) p rows
+solution_has_patrol_text p g rows within game solution = record { limits = within; within = patrol_rows_fit p g rows game solution; text = refl }

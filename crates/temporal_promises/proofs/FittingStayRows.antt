@@ -20,8 +20,12 @@ use Rattle.game_core.proofs.Carried.{remarked_game}
 use Rattle.temporal_games.proofs.Trees.{AreMarksFor, from_wins, to_rank, to_within, from_within}
 use Rattle.plant_game.specs.Abstraction.{IsGameOf}
 use Rattle.row_reading.specs.RowsTexts.{IsRowWithin, AreRowsWithin}
-use Rattle.controller_table.specs.TextKinds.{stay_rules}
+use Rattle.controller_table.specs.TextKinds.{stay_rules, turn_rules}
+use Rattle.controller_table.specs.declared.text_kind.TextKind.TheVariants.{Stay}
+use Rattle.controller_table.proofs.TableTexts.{one_within}
+use Rattle.temporal_texts.specs.StayText.{stay_text, IsStayText}
 use Rattle.game_core.proofs.Rows.{below_from_row}
+use Rattle.plant_record.specs.Limits.{IsWithinLimits}
 
 -- the mark of a cell that is no end
 abbrev way_mark : Mark → Mark
@@ -166,3 +170,7 @@ stay_rows_fit p g rows a s = record {
       most = let below = ranks_fit g a.game rows s c row e in omega (arith, below, a.cells);
       input = subst (λ (n : ℕ). row.input < n) a.inputs r.leads.0.0;
     }
+
+-- the text of the solution is one
+pub solution_has_stay_text : (p : Description) (g : Game) (rows : List (Option Row)) → IsWithinLimits p → IsGameOf p g → IsStaySolution g rows → IsStayText (stay_text p rows) p rows
+solution_has_stay_text p g rows within game solution = record { limits = within; within = one_within (turn_rules Stay p) rows refl (stay_rows_fit p g rows game solution); text = refl }

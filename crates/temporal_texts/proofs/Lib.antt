@@ -1,6 +1,5 @@
 pub mod OneStayText
 pub mod OnePatrolText
-pub mod StayRefusals
-pub mod PatrolRefusals
+pub mod TextRefusals
 pub mod Trajectories
 pub mod TextLaws

@@ -1,5 +1,5 @@
 -- What texts promise of their plants holds along every trajectory by their rows: by induction on the samples.
-use Rattle.std.proofs.Common.{inl, inr, ◌≡◌, ℕ, zero, suc, ◌-◌, ◌<◌, ◌≤◌, List, [], ◌∷◌, length, map, take, Option, None, refl, sym, ap, subst, ◌∙◌, arith}
+use Rattle.std.proofs.Common.{inl, inr, ◌≡◌, ℕ, zero, suc, ◌-◌, ◌<◌, ◌≤◌, List, [], ◌∷◌, length, map, take, Option, None, refl, sym, subst, ◌∙◌, arith}
 use Rattle.std.specs.Prelude.{ℤ, IfSome}
 use Rattle.std.specs.List.{AllByRecursion, Any}
 use Rattle.std.proofs.lemmas.Option.{same_Some}
@@ -32,11 +32,8 @@ noises_of samples = map (λ (s : Sample). s.noise) samples
 one_stay_row : (bytes : List ℕ) (x : List ℤ) (a b : Row) → HasStayRow bytes x a → HasStayRow bytes x b → a ≡ b
 one_stay_row bytes x a b h k =
     let same = one_stay_text bytes h.plant k.plant h.rows k.rows h.table k.table in
-    same_Some a b
-    (sym h.is
-    ∙ ap (λ (r : List (Option Row)). row_of r (cell_of (axes_of h.plant) x)) same.1
-    ∙ ap (λ (d : Description). row_of k.rows (cell_of (axes_of d) x)) same.0
-    ∙ k.is)
+    let at : row_of h.rows (cell_of (axes_of h.plant) x) ≡ row_of k.rows (cell_of (axes_of k.plant) x) = λ i. row_of (same.1 i) (cell_of (axes_of (same.0 i)) x) in
+    same_Some a b (sym h.is ∙ at ∙ k.is)
 
 module _ (p : Description) (bytes : List ℕ) where
   stay_noises : (samples : List Sample) (x y : List ℤ) → IsStayTrajectory p bytes x samples y → AllByRecursion (IsNoise p.noises) (noises_of samples)
@@ -63,11 +60,8 @@ stay_trajectories_settle p bytes settles x y row samples has t =
 one_patrol_row : (bytes : List ℕ) (j : ℕ) (x : List ℤ) (a b : Row) → HasPatrolRow bytes j x a → HasPatrolRow bytes j x b → a ≡ b
 one_patrol_row bytes j x a b h k =
     let same = one_patrol_text bytes h.plant k.plant h.rows k.rows h.table k.table in
-    same_Some a b
-    (sym h.is
-    ∙ ap (λ (r : List (List (Option Row))). row_of (rows_for r j) (cell_of (axes_of h.plant) x)) same.1
-    ∙ ap (λ (d : Description). row_of (rows_for k.rows j) (cell_of (axes_of d) x)) same.0
-    ∙ k.is)
+    let at : row_of (rows_for h.rows j) (cell_of (axes_of h.plant) x) ≡ row_of (rows_for k.rows j) (cell_of (axes_of k.plant) x) = λ i. row_of (rows_for (same.1 i) j) (cell_of (axes_of (same.0 i)) x) in
+    same_Some a b (sym h.is ∙ at ∙ k.is)
 
 module _ (p : Description) (bytes : List ℕ) where
   patrol_noises : (samples : List Sample) (j i : ℕ) (x y : List ℤ) → IsPatrolTrajectory p bytes j x samples i y → AllByRecursion (IsNoise p.noises) (noises_of samples)

@@ -4,7 +4,6 @@ mod Replies
 pub mod OneText
 mod HeldRows
 mod Told
-mod Numbers
 pub mod ByText
 pub mod TurnChanges
 pub mod Answering

@@ -1,8 +1,9 @@
 -- Loops of the answers of tables that drive or keep their plants.
-use Rattle.std.proofs.Common.{inl, inr, ◌≡◌, ◌⊎◌, ℕ, zero, suc, ◌<◌, List, [], ◌∷◌, length, refl, sym, ap, subst, ◌∙◌, arith}
+use Rattle.std.proofs.Common.{inl, inr, ◌≡◌, ◌⊎◌, ℕ, zero, suc, ◌<◌, List, [], ◌∷◌, length, replicate, refl, sym, ap, subst, ◌∙◌, arith}
 use Rattle.std.specs.Prelude.{ℤ}
 use Rattle.std.specs.Int.Signed.{≤ℤ_refl}
 use Rattle.std.specs.List.{All, AllByRecursion}
+use Rattle.std.proofs.Math.ListN.{length-replicate}
 use Rattle.std.proofs.lemmas.List.Elements.{All-head, All-tail, All-from_recursion}
 use Rattle.plant_record.specs.declared.variables.NoiseVariable.{NoiseVariable}
 use Rattle.plant_record.specs.Description.{Description, vector_of}
@@ -36,17 +37,7 @@ low_is_noise (v ∷ noises) each =
     let one = All-head IsNoiseVariable v noises each in
     (≤ℤ_refl v.low, one.ordered, low_is_noise noises (All-tail IsNoiseVariable v noises each))
 
-low_noises : List NoiseVariable → ℕ → List (List ℤ)
-low_noises noises zero = []
-low_noises noises (suc n) = low_noise noises ∷ low_noises noises n
-
-so_many : (noises : List NoiseVariable) (n : ℕ) → length (low_noises noises n) ≡ n
-unfolding low_noises
-so_many noises zero = refl
-so_many noises (suc n) = ap suc (so_many noises n)
-
-each_is_noise : (noises : List NoiseVariable) (n : ℕ) → All IsNoiseVariable noises → AllByRecursion (IsNoise noises) (low_noises noises n)
-unfolding low_noises
+each_is_noise : (noises : List NoiseVariable) (n : ℕ) → All IsNoiseVariable noises → AllByRecursion (IsNoise noises) (replicate n (low_noise noises))
 each_is_noise noises zero each = tt
 each_is_noise noises (suc n) each = (low_is_noise noises each, each_is_noise noises n each)
 
@@ -90,12 +81,11 @@ module _ (bytes : List ℕ) (t : TextModel) (version : TableVersion) (tells : Te
   LiesThere x = LiesInSome p p.targets x
 
   at_end : (y : List ℤ) (n : ℕ) → ComesIn n y → IsClear p y × (LiesThere y ⊎ ((0 < n) × AlwaysAnswers t y))
-  unfolding low_noises
   at_end y zero comes =
       let c = comes [] refl tt in
       (c.0, inl c.1)
   at_end y (suc n) comes =
-      let c = comes (low_noises p.noises (suc n)) (so_many p.noises (suc n)) (each_is_noise p.noises (suc n) noises) in (
+      let c = comes (replicate (suc n) (low_noise p.noises)) (length-replicate (suc n) (low_noise p.noises)) (each_is_noise p.noises (suc n) noises) in (
         c.0,
         elim c.1 [
           | inl there ↦ inl there

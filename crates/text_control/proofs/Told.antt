@@ -7,8 +7,7 @@ use Rattle.std.proofs.lemmas.Bool.Decides.{leb_tells}
 use Rattle.std.proofs.lemmas.List.{get_or_append_left, get_or_default, get_or_push, length_push}
 use Rattle.std.proofs.lemmas.List.FromFn.{fill_by_all, get_or-map-range_with_len, length-map-range_with_len}
 use Rattle.std.proofs.lemmas.List.Sums.{sum_by_push, count_by-le-length}
-use Rattle.std.proofs.lemmas.List.Sorted.{IsNonDecreasingBy-push, IsNonDecreasingBy-short}
-use Rattle.base.specs.Counts.{one_if}
+use Rattle.std.proofs.lemmas.List.Sorted.{IsNonDecreasingBy-push}
 use Rattle.base.proofs.Counts.{count-cons}
 use Rattle.game_core.specs.declared.game.Row.{Row}
 use Rattle.game_core.specs.Solution.{row_of}
@@ -44,13 +43,6 @@ pub record ToldBelow (rows : List (Option Row)) (words : List ℕ) (c : ℕ) : T
   pub words_are : AreWords words c
   pub below : All (λ word. cell_in word < c) words
   pub told : (k : ℕ) → k < c → row_of rows k ≡ row_told words k
-
-pub told_none : (rows : List (Option Row)) → ToldBelow rows [] 0
-told_none rows = record {
-  words_are = record { rising = IsNonDecreasingBy-short cell_in [] (omega arith); some = λ h. absurd (omega (arith, h)); first = refl; few = omega arith };
-  below = λ k d lt. absurd (omega (arith, lt));
-  told = λ k lt. absurd (omega (arith, lt));
-}
 
 -- the cell has the row of the one before it
 pub told_same : (rows : List (Option Row)) (words : List ℕ) (c : ℕ) → ToldBelow rows words c → 0 < c → row_of rows c ≡ row_of rows (c - 1) → ToldBelow rows words (c + 1)
@@ -123,41 +115,10 @@ row_at_cell words cells c lt = get_or-map-range_with_len (row_told words) 0 cell
 pub as_many : (words : List ℕ) (cells : ℕ) → length (decoded_rows words cells) ≡ cells
 as_many words cells = length-map-range_with_len (row_told words) 0 cells
 
--- the last of them is one of the words
-pub up_to_last : (words : List ℕ) (c : ℕ) → words_up_to words c ≤ length words
-up_to_last words c = count_by-le-length (λ word. leb (cell_in word) c) words
-
 pub searched : (words : List ℕ) (c i : ℕ) → i ≤ length words → AllWithin (λ word. leb (cell_in word) c ≡ true) words 0 i → AllWithin (λ word. leb (cell_in word) c ≡ false) words i (length words) → i ≡ words_up_to words c
 searched words c i le passes fails = sym (count_point (λ word. leb (cell_in word) c) words i le passes fails)
 
 module _ (words : List ℕ) (c : ℕ) (rising : IsNonDecreasingBy cell_in words) where
-  narrowed_up : (position size half : ℕ) → IsNarrowed words c position size → 1 < size → half ≡ size / 2 → cell_in (get_or words (position + half) 0) ≤ c → IsNarrowed words c (position + half) (size - half)
-  narrowed_up position size half h many is le = record {
-    some = omega (arith, many, is);
-    within = omega (arith, h.within, many, is);
-    before = le;
-    after = λ k low high. h.after k (omega (arith, low, many, is)) high;
-  }
-
-  narrowed_down : (position size half : ℕ) → IsNarrowed words c position size → 1 < size → half ≡ size / 2 → c < cell_in (get_or words (position + half) 0) → IsNarrowed words c position (size - half)
-  narrowed_down position size half h many is lt = record {
-    some = omega (arith, many, is);
-    within = omega (arith, h.within, many, is);
-    before = h.before;
-    after = λ k low high. let order = rising (position + half) k 0 (omega (arith, low, many, is)) high in omega (arith, order, lt);
-  }
-
-  pub narrowed : (position size half told : ℕ) → IsNarrowed words c position size → 1 < size → half ≡ size / 2 → told ≡ one_if (leb (cell_in (get_or words (position + half) 0)) c) → IsNarrowed words c (position + half * told) (size - half)
-  narrowed position size half told h many is tells =
-      elim (leb_tells (cell_in (get_or words (position + half) 0)) c) [
-        | inl le ↦
-            let one : told ≡ 1 = tells ∙ ap one_if le.0 in
-            subst (λ (n : ℕ). IsNarrowed words c n (size - half)) (rw one (omega arith)) (narrowed_up position size half h many is le.1)
-        | inr gt ↦
-            let none : told ≡ 0 = tells ∙ ap one_if gt.0 in
-            subst (λ (n : ℕ). IsNarrowed words c n (size - half)) (rw none (omega arith)) (narrowed_down position size half h many is gt.1)
-      ]
-
   same_at : (k d : ℕ) → k < length words → get_or words k d ≡ get_or words k 0
   same_at k d lt = get_or_default words k d 0 lt
 

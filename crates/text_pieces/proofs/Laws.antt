@@ -23,18 +23,6 @@ both_ways Step q m r (x ∷ pieces) more first second = (first.0, first.1, both_
 pub one_more : {S A : Type 0} (Step : S → List A → S → Type 0) (q m r : S) (pieces : List (List A)) (piece : List A) → Leads Step q pieces m → Step m piece r → Leads Step q (pieces ++ piece ∷ []) r
 one_more Step q m r pieces piece leads step = both_ways Step q m r pieces (piece ∷ []) leads (r, step, refl)
 
--- a way of steps that are others
-pub other_steps : {S A : Type 0} (Step Other : S → List A → S → Type 0) → ((q r : S) (piece : List A) → Step q piece r → Other q piece r) → (q r : S) (pieces : List (List A)) → Leads Step q pieces r → Leads Other q pieces r
-other_steps Step Other turn q r [] leads = leads
-other_steps Step Other turn q r (x ∷ pieces) leads = (leads.0, turn q leads.0 x leads.1, other_steps Step Other turn leads.0 r pieces leads.2)
-
--- a way up to its last piece
-pub split_last : {S A : Type 0} (Step : S → List A → S → Type 0) (q r : S) (pieces : List (List A)) (piece : List A) → Leads Step q (pieces ++ piece ∷ []) r → (m : S) × Leads Step q pieces m × Step m piece r
-split_last Step q r [] piece leads = (q, refl, subst (λ (x : _). Step q piece x) (sym leads.2) leads.1)
-split_last Step q r (x ∷ pieces) piece leads =
-    let l = split_last Step leads.0 r pieces piece leads.2 in
-    (l.0, (leads.0, leads.1, l.1), l.2)
-
 pub read_on : {S A : Type 0} (Step : S → List A → S → Type 0) (from to r : S) (text rest piece after : List A) (pieces : List (List A)) → IsRead Step from text pieces to rest → rest ≡ piece ++ after → Step to piece r → IsRead Step from text (pieces ++ piece ∷ []) r after
 read_on {A = A} Step from to r text rest piece after pieces read cut step = record {
   leads = one_more Step from to r pieces piece read.leads step;
@@ -49,10 +37,16 @@ pub kept : {S A : Type 0} (Step : S → List A → S → Type 0) (Is : S → Typ
 kept Step Is keep q [] r is leads = subst Is (sym leads) is
 kept Step Is keep q (x ∷ pieces) r is leads = kept Step Is keep leads.0 pieces r (keep q leads.0 x is leads.1) leads.2
 
--- a way has no more pieces than its steps take from a number
-pub few_pieces : {S A : Type 0} (Step : S → List A → S → Type 0) (left : S → ℕ) → ((q m : S) (x : List A) → Step q x m → left m < left q) → (q r : S) (pieces : List (List A)) → Leads Step q pieces r → length pieces + left r ≤ left q
-few_pieces Step left less q r [] leads = omega (arith, ap left leads)
-few_pieces Step left less q r (x ∷ pieces) leads = omega (arith, less q leads.0 x leads.1, few_pieces Step left less leads.0 r pieces leads.2)
+-- where no piece is empty, there are no more of them than elements
+pub few_pieces : {S A : Type 0} (Step : S → List A → S → Type 0) → ((q m : S) → Step q [] m → ⊥) → (q r : S) (pieces : List (List A)) → Leads Step q pieces r → length pieces ≤ length (joined pieces)
+few_pieces Step some q r [] leads = omega arith
+few_pieces Step some q r ([] ∷ pieces) leads = absurd (some q leads.0 leads.1)
+few_pieces Step some q r ((a ∷ x) ∷ pieces) leads = omega (arith, few_pieces Step some leads.0 r pieces leads.2, length-append (a ∷ x) (joined pieces))
+
+-- and the first piece that is refused is at most the one after them
+pub few_refused : {S A : Type 0} (Step : S → List A → S → Type 0) (Closed : S → List A → Type 0) → ((q m : S) → Step q [] m → ⊥) → (q : S) (text : List A) (n : ℕ) → IsFirstRefused Step Closed q text n → n ≤ length text + 1
+few_refused Step Closed some q text n r =
+    omega (arith, few_pieces Step some q r.to r.pieces (r.read).leads, r.next, ap length (r.read).are, length-append (joined r.pieces) r.rest)
 
 -- The second way goes on where the first ends.
 pub record GoesOn {S A : Type 0} (Step : S → List A → S → Type 0) (first second : List (List A)) (m n : S) (rest others : List A) : Type 0 where

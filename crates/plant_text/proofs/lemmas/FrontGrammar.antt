@@ -22,8 +22,7 @@ use Rattle.plant_text.specs.inside.ReadInFront.{IsReadInFront}
 use Rattle.plant_text.proofs.lemmas.RulesKept.{rules_of_nothing, rules_stated}
 use Rattle.plant_text.proofs.lemmas.LineGrammar.{one_stated}
 use Rattle.plant_text.proofs.lemmas.LinesLead.{has_equations, whole_is_plant}
-use Rattle.plant_text.proofs.lemmas.CanonicalParts.{orderly_nothing, orderly_extended, text_extended}
-use Rattle.plant_text.proofs.lemmas.CanonicalLines.{printable_line}
+use Rattle.plant_text.proofs.lemmas.CanonicalParts.{orderly_extended, text_extended, printable_line}
 
 -- ---- what a part keeps on the way
 
@@ -32,7 +31,7 @@ pub record IsOnTheWay (q : PartialPlant) : Type 0 where
   pub orderly : IsOrderly q
 
 pub at_the_beginning : IsOnTheWay nothing_yet
-at_the_beginning = record { rules = rules_of_nothing; orderly = orderly_nothing }
+at_the_beginning = record { rules = rules_of_nothing; orderly = record { unbegun = λ _. refl; stateless = λ _. (refl, refl) } }
 
 onwards : (q : PartialPlant) (line : List ℕ) (r : PartialPlant) → IsOnTheWay q → ExtendsCanonically q line r → IsOnTheWay r
 onwards q line r w e = record {

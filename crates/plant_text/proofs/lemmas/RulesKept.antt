@@ -27,15 +27,6 @@ use Rattle.plant_text.proofs.lemmas.TreeLiterals.{tree_literals}
 use Rattle.plant_text.proofs.lemmas.Lists.{differ}
 
 -- a new name at the end of the names
-pub with_state : (q : PartialPlant) (s : StateVariable) → q.inputs ≡ [] → q.noises ≡ [] → names_in (with_statement q (State s)) ≡ names_in q ++ s.name ∷ []
-with_state q s i w = rw (i, w, map-append (λ (t : StateVariable). t.name) q.states (s ∷ [])) (simp (append_assoc, append-nil))
-
-pub with_input : (q : PartialPlant) (i : InputVariable) → q.noises ≡ [] → names_in (with_statement q (Input i)) ≡ names_in q ++ i.name ∷ []
-with_input q i w = rw (w, map-append (λ (t : InputVariable). t.name) q.inputs (i ∷ [])) (simp (append_assoc, append-nil))
-
-pub with_noise : (q : PartialPlant) (w : NoiseVariable) → names_in (with_statement q (Noise w)) ≡ names_in q ++ w.name ∷ []
-with_noise q w = rw (map-append (λ (t : NoiseVariable). t.name) q.noises (w ∷ [])) (simp append_assoc)
-
 pub rules_of_nothing : KeepsRules nothing_yet
 rules_of_nothing = record {
   unbegun = λ _. refl;
@@ -71,7 +62,7 @@ no_equations q none has = let count : length q.equations ≡ 0 = ap length none 
 
 rules_state : (q : PartialPlant) (s : StateVariable) → KeepsRules q → IsStateVariable s → FitsAfter q (State s) → KeepsRules (with_statement q (State s))
 rules_state q s k is fits =
-    let names : names_in (with_statement q (State s)) ≡ names_in q ++ s.name ∷ [] = with_state q s fits.1 fits.2 in
+    let names : names_in (with_statement q (State s)) ≡ names_in q ++ s.name ∷ [] = rw (fits.1, fits.2, map-append (λ (t : StateVariable). t.name) q.states (s ∷ [])) (simp (append_assoc, append-nil)) in
     let capacity : length q.states < 6 = fits.4 in
     let aims = aimless q k (no_equations q fits.3) in
     record {
@@ -98,7 +89,7 @@ rules_state q s k is fits =
 
 rules_input : (q : PartialPlant) (i : InputVariable) → KeepsRules q → IsInputVariable i → FitsAfter q (Input i) → KeepsRules (with_statement q (Input i))
 rules_input q i k is fits =
-    let names : names_in (with_statement q (Input i)) ≡ names_in q ++ i.name ∷ [] = with_input q i fits.1 in
+    let names : names_in (with_statement q (Input i)) ≡ names_in q ++ i.name ∷ [] = rw (fits.1, map-append (λ (t : InputVariable). t.name) q.inputs (i ∷ [])) (simp (append_assoc, append-nil)) in
     let capacity : length q.inputs < 3 = fits.3 in
     record {
       unbegun = k.unbegun;
@@ -124,7 +115,7 @@ rules_input q i k is fits =
 
 rules_noise : (q : PartialPlant) (w : NoiseVariable) → KeepsRules q → IsNoiseVariable w → FitsAfter q (Noise w) → KeepsRules (with_statement q (Noise w))
 rules_noise q w k is fits =
-    let names : names_in (with_statement q (Noise w)) ≡ names_in q ++ w.name ∷ [] = with_noise q w in
+    let names : names_in (with_statement q (Noise w)) ≡ names_in q ++ w.name ∷ [] = rw (map-append (λ (t : NoiseVariable). t.name) q.noises (w ∷ [])) (simp append_assoc) in
     let capacity : length q.noises < 6 = fits.2 in
     record {
       unbegun = k.unbegun;

@@ -1,15 +1,16 @@
 -- How the lines of turns are read. No public clause names this.
-use Rattle.std.specs.Prelude.{◌≡◌, ◌⊎◌, ℕ, suc, ◌≤◌, List, ◌∷◌, ◌++◌, length, Option, None, codes}
-use Rattle.std.specs.List.{AllByRecursion}
+use Rattle.std.specs.Prelude.{◌≡◌, ℕ, ◌≤◌, List, ◌∷◌, ◌++◌, length, Option, codes}
+use Rattle.std.specs.List.{All, concat}
 use Rattle.std.specs.Fmt.{decimal}
 use Rattle.game_core.specs.declared.game.Row.{Row}
 use Rattle.row_runs.specs.declared.run.Run.{Run}
 use Rattle.row_runs.specs.RunText.{count_line}
-use Rattle.text_pieces.specs.Steps.{IsRead}
+use Rattle.text_pieces.specs.Steps.{IsFirstRefused}
 use Rattle.row_reading.specs.declared.row_rules.TurnHead.{TurnHead}
 use Rattle.row_reading.specs.declared.row_rules.TurnRules.{TurnRules}
-use Rattle.row_reading.specs.RowsTexts.{head_line, lines_from, AreRowsWithin, AreRowsAt}
-use Rattle.row_reading.specs.TurnSteps.{AfterTurns, TurnStep, IsRunRefused}
+use Rattle.row_reading.specs.RowsTexts.{head_line, lines_from, AreRowsWithin}
+use Rattle.row_reading.specs.TurnSteps.{AfterTurns, TurnStep, AreOver}
+use Rattle.row_reading.specs.inside.ReadRows.{AreRowsAt}
 
 -- the line that says how many row lines there are, at most this number, and what stands after it
 abbrev pub IsCountAt : ℕ → List ℕ → ℕ × List ℕ → Type 0
@@ -31,13 +32,11 @@ pub record IsTurnRead (rules : TurnRules) (turn count : ℕ) (bytes : List ℕ) 
 
 -- the n-th line, from 1, is the first that is refused: the turn's own, or a row line after it
 abbrev pub IsTurnRefused : TurnRules → ℕ → List ℕ → ℕ → Type 0
-IsTurnRefused rules turn bytes n =
-    ((n ≡ 1) × ((y : ℕ × List ℕ) → IsHeadAt rules.head turn rules.rows.cells bytes y → ⊥))
-    ⊎ ((count : ℕ) × (rest : List ℕ) × IsHeadAt rules.head turn rules.rows.cells bytes (count, rest) × (line : ℕ) × (n ≡ suc line) × IsRunRefused rules.rows count rest line)
+IsTurnRefused rules turn bytes n = (last : Option Run) → IsFirstRefused (TurnStep rules) AreOver (AfterTurns turn 0 last) bytes n
 
--- The lines of some turns are read, so many lines, which give the rows.
-pub record AreTurnsRead (rules : TurnRules) (lines : ℕ) (bytes rest : List ℕ) (turns : List (List (Option Row))) : Type 0 where
-  pub within : AllByRecursion (AreRowsWithin rules.rows) turns
+-- The lines of so many turns are read, so many lines, which give the rows.
+pub record AreTurnsRead (rules : TurnRules) (j lines : ℕ) (bytes rest : List ℕ) (turns : List (List (Option Row))) : Type 0 where
+  pub size : length turns ≡ j
+  pub within : All (AreRowsWithin rules.rows) turns
   pub counted : length (lines_from rules 0 turns) ≡ lines
-  pub last : Option Run
-  pub read : IsRead (TurnStep rules) (AfterTurns 0 0 None) bytes (lines_from rules 0 turns) (AfterTurns (length turns) 0 last) rest
+  pub text : bytes ≡ concat (lines_from rules 0 turns) ++ rest

@@ -1,4 +1,4 @@
-use Rattle.driven_loops.proofs.Keeping as laws
+use Rattle.driven_loops.proofs.Ending as laws
 use Rattle.driven_loops.proofs.followed.followed_tables_keep.Goals as goal
 
 pub returns : goal.returns

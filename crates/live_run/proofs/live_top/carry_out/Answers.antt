@@ -1,6 +1,5 @@
-use Rattle.std.proofs.Common.{refl, subst}
+use Rattle.std.proofs.Common.{refl}
 use Rattle.run_devices.specs.Devices.{reading, writing}
-use Rattle.live_run.specs.inside.LiveWorking.{IsWrittenOut}
 use Rattle.live_run.proofs.Ending.{ends_stopped, ends_written_out}
 use Rattle.live_run.proofs.live_top.carry_out.Goals as goal
 

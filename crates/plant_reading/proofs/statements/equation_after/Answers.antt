@@ -8,7 +8,7 @@ use Rattle.expression_reading.specs.SyntaxTrees.{AreTokensOf}
 use Rattle.line_words.specs.Words.{words_of}
 use Rattle.line_words.specs.Tokens.{tokens_of}
 use Rattle.line_words.proofs.lemmas.RefusalsPassOn.{exits, refuses}
-use Rattle.plant_reading.proofs.lemmas.KeywordsDiffer.{only_next}
+use Rattle.plant_reading.proofs.lemmas.OneStatement.{only_next}
 use Rattle.plant_reading.proofs.statements.equation_after.Goals as goal
 
 pub returns-in_err-equation : goal.returns-in_err-equation

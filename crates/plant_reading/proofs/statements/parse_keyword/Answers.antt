@@ -1,5 +1,5 @@
 use Rattle.std.proofs.Common.{sym, ◌∙◌}
-use Rattle.plant_reading.proofs.lemmas.KeywordsDiffer.{none_more, no_keyword}
+use Rattle.plant_reading.proofs.lemmas.OneStatement.{none_more, no_keyword}
 use Rattle.plant_reading.proofs.statements.parse_keyword.Goals as goal
 
 pub loop-keyword-preserved : goal.loop-keyword-preserved

@@ -5,7 +5,7 @@ use Rattle.plant_reading.specs.Statements.{States}
 use Rattle.line_words.specs.Words.{words_of}
 use Rattle.plant_reading.specs.declared.statements.Keyword.{Keyword}
 use Rattle.line_words.proofs.lemmas.RefusalsPassOn.{refused_whole, in_place}
-use Rattle.plant_reading.proofs.lemmas.KeywordsDiffer.{has_keyword}
+use Rattle.plant_reading.proofs.lemmas.OneStatement.{has_keyword}
 use Rattle.plant_reading.proofs.statements.parse_statement.Goals as goal
 
 pub returns-in_err-keyword-clause-refused : goal.returns-in_err-keyword-clause-refused

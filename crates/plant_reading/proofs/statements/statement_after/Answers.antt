@@ -6,7 +6,7 @@ use Rattle.plant_reading.specs.Statements.{States}
 use Rattle.statement_words.specs.LineReaders.{SpellsVersion}
 use Rattle.line_words.specs.Words.{words_of}
 use Rattle.line_words.proofs.lemmas.RefusalsPassOn.{exits_from_place}
-use Rattle.plant_reading.proofs.lemmas.KeywordsDiffer.{only_version, only_end}
+use Rattle.plant_reading.proofs.lemmas.OneStatement.{only_version, only_end}
 use Rattle.plant_reading.proofs.statements.statement_after.Goals as goal
 
 pub returns-in_err-parse_version-in-Plant : goal.returns-in_err-parse_version-in-Plant

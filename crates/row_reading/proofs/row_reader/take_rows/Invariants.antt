@@ -1,6 +1,5 @@
-use Rattle.std.proofs.Common.{◌-◌}
 use Rattle.row_reading.specs.inside.ReadRows.{AreRead}
 use Rattle.row_reading.proofs.row_reader.take_rows.Given as goal
 
 abbrev pub invariant-loop-at : goal.invariant-loop-at
-invariant-loop-at l = AreRead l.rules l.count (l.count - l.at) l.before l.fn.bytes l.rest l.answer
+invariant-loop-at l = AreRead l.rules l.at l.before l.fn.bytes l.rest l.answer

@@ -1,8 +1,7 @@
 use Rattle.std.proofs.Common.{◌≡◌, ℕ, List, ◌++◌, subst, ap, sym, ◌∙◌}
 use Rattle.row_reading.specs.RowsTexts.{IsRunWithin}
 use Rattle.row_reading.specs.TurnSteps.{MayStandAfter}
-use Rattle.row_reading.proofs.RunWords.{one_run}
-use Rattle.row_reading.proofs.RowGrammar.{spelled_run}
+use Rattle.row_reading.proofs.RunWords.{one_run, spelled_run}
 use Rattle.row_reading.proofs.run_reader.take_run_within.Goals as goal
 use Rattle.row_reading.proofs.run_reader.take_run_within.Goals.{else-may_follow-via-then-may_follow+else-is_within, else-may_follow-via-else-may_follow}
 

@@ -1,4 +1,4 @@
-use Rattle.row_runs.proofs.SameRows.{differ}
+use Rattle.row_runs.proofs.Uniqueness.{differ}
 use Rattle.row_runs.proofs.laws.different_rows_have_different_runs.Goals as goal
 
 pub returns : goal.returns

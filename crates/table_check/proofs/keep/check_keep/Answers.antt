@@ -1,4 +1,4 @@
-use Rattle.std.proofs.Common.{◌≡◌, ◌<◌, length, sym, ◌∙◌, subst}
+use Rattle.std.proofs.Common.{◌≡◌, ℕ, ◌<◌, length, sym, ◌∙◌, subst}
 use Rattle.game_core.specs.Keep.{IsKeepRow, IsKeepSolution}
 use Rattle.game_core.specs.Solution.{row_of}
 use Rattle.game_core.proofs.Keep.{same_keep_row, one_keep_solution}
@@ -15,7 +15,7 @@ returns g c =
     let rows = c.args.t.now.rows in
     let kept = c.in_ok-kept.kept in
     let solution : IsKeepSolution game kept = c.in_ok-kept.ensures in
-    let kept_row = λ b lt. solution.each b (subst (λ n. b < n) solution.one_each lt) in
+    let kept_row : (b : ℕ) → b < length kept → IsKeepRow game b (row_of kept b) = λ b lt. solution.each b (subst (λ n. b < n) solution.one_each lt) in
     subst (λ n. IsVerdict (IsKeepSolution game rows) (λ b. IsKeepRow game b (row_of rows b)) n c.compare.result) solution.one_each
     (same_verdict (rows ≡ kept) (λ b. row_of rows b ≡ row_of kept b) (length kept) (IsKeepSolution game rows) (λ b. IsKeepRow game b (row_of rows b)) c.compare.result
     (λ e. subst (IsKeepSolution game) (sym e) solution, λ s. one_keep_solution game rows kept s solution)

@@ -1,5 +1,5 @@
 use Rattle.std.proofs.Common.{map, length, refl, ap, ◌∙◌}
-use Rattle.edge_rows.proofs.ReadRows.{shown, kept, full, finish_stores}
+use Rattle.edge_rows.proofs.Laid.{shown, kept, full, finish_stores}
 use Rattle.edge_rows.proofs.fill.RowFill.finish.Goals as goal
 
 pub invariant_of-result : goal.invariant_of-result

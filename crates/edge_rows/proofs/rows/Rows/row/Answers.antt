@@ -1,5 +1,5 @@
 use Rattle.std.proofs.Common.{arith}
-use Rattle.edge_rows.proofs.ReadRows.{count, ordered, is_filled, is_row}
+use Rattle.edge_rows.proofs.Laid.{count, ordered, is_filled, is_row}
 use Rattle.edge_rows.proofs.rows.Rows.row.Goals as goal
 
 pub index-requires : goal.index-requires

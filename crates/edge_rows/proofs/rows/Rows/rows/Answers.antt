@@ -1,5 +1,5 @@
 use Rattle.std.proofs.Common.{arith}
-use Rattle.edge_rows.proofs.ReadRows.{count, few}
+use Rattle.edge_rows.proofs.Laid.{count, few}
 use Rattle.edge_rows.proofs.rows.Rows.rows.Goals as goal
 
 pub overflow_cast-result : goal.overflow_cast-result

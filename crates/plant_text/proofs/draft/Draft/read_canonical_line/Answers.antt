@@ -4,7 +4,7 @@ use Rattle.line_words.specs.Words.{words_of}
 use Rattle.plant_text.specs.inside.DraftsInMemory.{partial_of}
 use Rattle.plant_reading.specs.StatementsRead.{statement_of}
 use Rattle.plant_text.proofs.lemmas.RulesKept.{rules_stated}
-use Rattle.plant_text.proofs.lemmas.CanonicalLines.{formed, extends_canonically, leads_nowhere}
+use Rattle.plant_text.proofs.lemmas.CanonicalParts.{formed, extends_canonically, leads_nowhere}
 use Rattle.plant_text.proofs.draft.Draft.read_canonical_line.Goals as goal
 
 pub check_canonical-requires-clause-formed : goal.check_canonical-requires-clause-formed
