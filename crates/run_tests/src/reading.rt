@@ -55,9 +55,9 @@ fn has_patrol_rows(alloc: Global) -> bool {
     if patrol.turns() != 2 {
         return false;
     }
-    let rows = patrol.answers().turn(1);
-    rows.cells() == 5
-        && rows.row(4) == Some(Row { rank: 2, input: 0 })
+    let rows = patrol.answers();
+    rows.turn(1).cells() == 5
+        && rows.row(1, 4) == Some(Row { rank: 2, input: 0 })
         && matches!(
             read_patrol(alloc, SAME_TURN),
             Err(PatrolFault::Malformed { line: 12 })

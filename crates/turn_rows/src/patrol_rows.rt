@@ -1,8 +1,9 @@
 //! The rows of each turn, of a patrol or of a text with one turn.
 ghost use Rattle.std.specs.Prelude.{◌≡◌, ◌<◌, ◌^◌, [], ◌∷◌, length};
+ghost use Rattle.game_core.specs.Solution.{row_of};
 ghost use Rattle.turn_rows.specs.Rows.{rows_for};
 
-use game_core::Answer;
+use game_core::{Answer, Row};
 use std::marker::Model;
 
 /// The rows of each turn, seen as a list of lists of optional rows.
@@ -36,6 +37,15 @@ impl PatrolRows {
         ensures { result ≡ length self.now }
     {
         self.answers.len() as u32
+    }
+
+    /// None exactly where the cell has no row for the turn.
+    pub fn row(&self, turn: u32, c: u32) -> Option<Row>
+        requires turn { turn < length self.now }
+        requires cell { c < length (rows_for self.now turn) }
+        ensures { result ≡ row_of (rows_for self.now turn) c }
+    {
+        self.turn(turn).row(c)
     }
 
     /// The rows of the only turn.
