@@ -30,4 +30,5 @@ pub use table_reader::read_table;
 pub use table_writer::TableWriter;
 pub use text_fault::TextFault;
 pub use text_kind::{PATROL_LIMIT, TextKind, take_kind};
+pub use text_pieces::Pieces;
 pub use text_reader::read_after;

@@ -11,6 +11,7 @@ mod reach_and_stay;
 mod stay_marks;
 mod turns;
 
+pub use base::NoMemory;
 pub use patrol_solver::patrol;
 pub use reach_and_stay::stay;
 pub use turn_rows::PatrolRows;

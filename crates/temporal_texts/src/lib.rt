@@ -14,10 +14,12 @@ mod stay_reader;
 mod stay_table;
 mod stay_writer;
 
-pub use controller_table::{PATROL_LIMIT, TextFault as PatrolFault};
+pub use base::NoMemory;
+pub use controller_table::{PATROL_LIMIT, TableFault, TextFault as PatrolFault};
 pub use patrol_reader::read_patrol;
 pub use patrol_table::PatrolTable;
 pub use patrol_writer::PatrolWriter;
 pub use stay_reader::read_stay;
 pub use stay_table::StayTable;
 pub use stay_writer::StayWriter;
+pub use text_pieces::Pieces;
