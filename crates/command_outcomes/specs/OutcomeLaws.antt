@@ -13,7 +13,7 @@ use Rattle.command_outcomes.specs.Traces.{IsTraceFor}
 abbrev pub SomeGamePerPlant : Type 0
 SomeGamePerPlant = (p : Description) → IsWithinLimits p → ((g : Game) → IsGameOf p g → ⊥) → ⊥
 
--- a text demands one thing of a command
+-- a text demands at most one thing of a command
 abbrev pub OneOutcomePerText : Type 0
 OneOutcomePerText = (command : Command) (bytes : List ℕ) (a b : Outcome) → IsOutcomeFor command bytes a → IsOutcomeFor command bytes b → a ≡ b
 
@@ -21,6 +21,6 @@ OneOutcomePerText = (command : Command) (bytes : List ℕ) (a b : Outcome) → I
 abbrev pub SomeOutcomePerText : Type 0
 SomeOutcomePerText = (command : Command) (bytes : List ℕ) → ((outcome : Outcome) → IsOutcomeFor command bytes outcome → ⊥) → ⊥
 
--- bytes have one trace, from a start under the noises of a seed
+-- bytes have at most one trace, from a start under the noises of a seed
 abbrev pub OneTraceForBytes : Type 0
 OneTraceForBytes = (bytes : List ℕ) (samples seed : ℕ) (start : List ℤ) (a b : List ℕ) → IsTraceFor bytes samples seed start a → IsTraceFor bytes samples seed start b → a ≡ b

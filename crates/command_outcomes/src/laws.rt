@@ -2,12 +2,12 @@
 
 ghost use Rattle.command_outcomes.specs.OutcomeLaws.{OneOutcomePerText, OneTraceForBytes, SomeGamePerPlant, SomeOutcomePerText};
 
-/// A table has one trace, from a start under the noises of a seed: `sim` has no choice of what to write.
+/// A table has at most one trace, from a start under the noises of a seed: `sim` has no choice of what to write.
 pub fn one_trace_for_bytes()
     ensures { OneTraceForBytes }
 {}
 
-/// A text demands one thing: one refusal, or one answer.
+/// A text demands at most one thing: one refusal, or one answer.
 pub fn one_outcome_per_text()
     ensures { OneOutcomePerText }
 {}

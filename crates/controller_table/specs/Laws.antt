@@ -17,7 +17,7 @@ abbrev pub OneTablePerText : Type 0
 OneTablePerText =
     (bytes : List ℕ) (p q : Description) (rows others : List (Option Row)) (table : IsTable bytes p rows) (other : IsTable bytes q others) → (p ≡ q) × (rows ≡ others) × (table.version ≡ other.version)
 
--- a table chooses one input at a state, and its row there has one rank
+-- the table that bytes are chooses at most one input at a state
 abbrev pub OneChoice : Type 0
 OneChoice = (bytes : List ℕ) (x : List ℤ) (u v : ℕ) → IsChoice bytes x u → IsChoice bytes x v → u ≡ v
 
@@ -25,7 +25,7 @@ OneChoice = (bytes : List ℕ) (x : List ℤ) (u v : ℕ) → IsChoice bytes x u
 abbrev pub OneRank : Type 0
 OneRank = (bytes : List ℕ) (x : List ℤ) (j k : ℕ) → HasRank bytes x j → HasRank bytes x k → j ≡ k
 
--- a text has one reason to be refused, and none where it is a table
+-- a text has at most one reason to be refused as a table
 abbrev pub OneTableRefusal : Type 0
 OneTableRefusal = (bytes : List ℕ) (f g : TableFault) → IsTableRefusedFor bytes f → IsTableRefusedFor bytes g → f ≡ g
 

@@ -9,6 +9,6 @@ use Rattle.base.specs.declared.limits.TheConstants.{TABLE_LIMIT}
 abbrev pub IsShortTable : List ℕ → Type 0
 IsShortTable bytes = length bytes ≤ TABLE_LIMIT
 
--- why a text is refused as a table: of both versions' first lines, by the rules of the rows of its plant
+-- why bytes are no table: there are more than 67,108,864, or by the first line of either version, the plant and its rows
 abbrev pub IsTableRefusedFor : List ℕ → TableFault → Type 0
 IsTableRefusedFor bytes fault = IsTextRefusedFor Table TABLE_LIMIT bytes (text_fault fault)

@@ -17,12 +17,12 @@ pub fn one_choice()
     ensures { OneChoice }
 {}
 
-/// A table has one rank at a state.
+/// A table has at most one rank at a state.
 pub fn one_rank()
     ensures { OneRank }
 {}
 
-/// A text has one reason to be refused as a table.
+/// A text has at most one reason to be refused as a table.
 pub fn one_table_refusal()
     ensures { OneTableRefusal }
 {}

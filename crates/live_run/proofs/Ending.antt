@@ -113,7 +113,7 @@ ends_stopped (Unanswered fault) source out h untouched = ends_unanswered fault s
 
 ends_done : (text : List ℕ) (source : Reading) (read : List ℕ) (out : Writing) → IsRead source read → IsLiveText read text → GainsWhole out text → IsLiveEnd Done source out
 ends_done text source read out is answers whole = record {
-  ends = tt;
+  ends = of_some (λ script. (answered : List ℕ) × IsLiveText script answered) source.before source.after read is.up_to (λ bytes lt h. (h.0, answers_whole h.0 bytes lt h.1)) (text, answers);
   answered = λ _. of_whole (λ script. IsAnswered script out) source.before source.after read is.up_to (λ bytes lt h. (h.0, answers_whole h.0 bytes lt h.1, h.2)) (text, answers, whole);
   cut_off = λ e. absurd (let clash : Done ≡ Failed Write = e in cc);
   read = λ _ _. to_the_limit source.before source.after read is.up_to;
@@ -147,19 +147,16 @@ of_refusal script fault refused = record {
   refused = λ other h. inl (ap (λ (f : ScriptFault). status_of (of_script f)) (one_script_refusal script fault other refused h));
 }
 
-pub complete : (outcome : Outcome) (before : Option (List ℕ)) → Ends before outcome → (outcome ≡ Failed Read → ⊥) → (outcome ≡ Failed Write → ⊥) → (outcome ≡ Done → IfSome before (λ script. (text : List ℕ) × IsLiveText script text)) → IfSome before (IsCompleteAnswer (status_of outcome))
-complete outcome None ends read write done = tt
-complete Done (Some script) ends read write done = record {
+pub complete : (outcome : Outcome) (before : Option (List ℕ)) → Ends before outcome → (outcome ≡ Failed Read → ⊥) → (outcome ≡ Failed Write → ⊥) → IfSome before (IsCompleteAnswer (status_of outcome))
+complete outcome None ends read write = tt
+complete Done (Some script) ends read write = record {
   answered = λ commands is. inl refl;
-  refused = λ fault h. absurd (let d = done refl in script_or_refused script d.1.commands fault d.1.is_script h);
+  refused = λ fault h. absurd (let is = ends.2.1 in script_or_refused ends.0 is.commands fault is.is_script (subst (λ (all : List ℕ). IsScriptRefusedFor all fault) ends.1 h));
 }
-complete Usage (Some script) ends read write done = absurd ends
-complete (Refused refusal) (Some script) ends read write done =
+complete Usage (Some script) ends read write = absurd ends
+complete (Refused refusal) (Some script) ends read write =
     let why = ends.2 in
     subst (λ (o : Outcome). IsCompleteAnswer (status_of o) script) (sym why.1) (of_refusal script why.0 (subst (λ (all : List ℕ). IsScriptRefusedFor all why.0) (sym ends.1) why.2))
-complete (Failed Read) (Some script) ends read write done = absurd (read refl)
-complete (Failed Write) (Some script) ends read write done = absurd (write refl)
-complete (Failed Memory) (Some script) ends read write done = record { answered = λ commands is. inr refl; refused = λ fault h. inr refl }
-
-pub some_text : (script : List ℕ) (out : Writing) → IsAnswered script out → (text : List ℕ) × IsLiveText script text
-some_text script out h = (h.0, h.1)
+complete (Failed Read) (Some script) ends read write = absurd (read refl)
+complete (Failed Write) (Some script) ends read write = absurd (write refl)
+complete (Failed Memory) (Some script) ends read write = record { answered = λ commands is. inr refl; refused = λ fault h. inr refl }

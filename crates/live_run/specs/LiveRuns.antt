@@ -32,11 +32,13 @@ IsAnswered script out = (text : List ℕ) × IsLiveText script text × GainsWhol
 abbrev pub IsCutOff : List ℕ → Writing → Type 0
 IsCutOff script out = (text : List ℕ) × IsLiveText script text × GainsPart out text
 
--- how the command ends: for a refusal of its script, or of some script where the source doesn't tell its bytes, or else
+-- how the command ends: by answers to its script or a refusal of it, or of some script where the source doesn't tell its bytes, or by a
+-- failure
 abbrev pub Ends : Option (List ℕ) → Outcome → Type 0
 Ends told Usage = ⊥
+Ends told Done = (script : List ℕ) × IfSome told (λ all. all ≡ script) × ((text : List ℕ) × IsLiveText script text)
 Ends told (Refused refusal) = (script : List ℕ) × IfSome told (λ all. all ≡ script) × ((fault : ScriptFault) × (Refused refusal ≡ of_script fault) × IsScriptRefusedFor script fault)
-Ends told outcome = Unit {0}
+Ends told (Failed failure) = Unit {0}
 
 -- What a run of the command gives, by how it ends.
 pub record IsLiveEnd (outcome : Outcome) (source : Reading) (out : Writing) : Type 0 where

@@ -12,7 +12,7 @@ use Rattle.plant_text.specs.Grammar.{Spells}
 use Rattle.plant_text.specs.CanonicalFronts.{IsFront, IsFrontRefusedFor}
 use Rattle.plant_text.specs.PlantRefusals.{IsShort, IsRefusedFor}
 
--- no bytes spell two plants, and what they spell is a plant
+-- no bytes spell two plants
 abbrev pub OnePlantPerText : Type 0
 OnePlantPerText = (bytes : List ℕ) (p q : Description) → Spells bytes p → Spells bytes q → p ≡ q
 
@@ -29,7 +29,7 @@ abbrev pub OnePlantAtTheFront : Type 0
 OnePlantAtTheFront =
     (first second : Description) (rest others : List ℕ) → IsPlant first → IsPlant second → text_of first ++ rest ≡ text_of second ++ others → (first ≡ second) × (rest ≡ others)
 
--- a text has at most one reason to be refused, and none where it spells a plant within the limits
+-- a text has at most one reason to be refused
 abbrev pub OneRefusal : Type 0
 OneRefusal = (bytes : List ℕ) (f g : PlantFault) → IsRefusedFor bytes f → IsRefusedFor bytes g → f ≡ g
 
@@ -45,7 +45,7 @@ NumbersAreWords = (z : ℤ) → IsLiteral z → is_word (signed_decimal z) ≡ t
 abbrev pub OneFront : Type 0
 OneFront = (bytes : List ℕ) (p q : Description) (m n : ℕ) → IsFront bytes p m → IsFront bytes q n → (p ≡ q) × (m ≡ n)
 
--- bytes have at most one reason why no plant is read at their front, and none where a plant within the limits stands there
+-- bytes have at most one reason why no plant is read at their front
 abbrev pub OneFrontRefusal : Type 0
 OneFrontRefusal = (bytes : List ℕ) (f g : PlantFault) → IsFrontRefusedFor bytes f → IsFrontRefusedFor bytes g → f ≡ g
 

@@ -26,7 +26,7 @@ use Rattle.command_outcomes.specs.Traces.{IsTraceFor}
 -- The text is the table of the solution of a plant's game.
 -- With `goal reach`: ranks are least depths of winning strategies in the abstraction, cells without a row have none, and
 -- from every state of a ranked cell, under all bounded disturbances, the table read back brings the plant into the target
--- within rank samples, meeting no obstacle at any sample.
+-- within rank samples, and until then meeting no obstacle at any sample.
 -- With `goal keep`: a cell has a row exactly where it is kept: where for every number of samples some strategy in the
 -- abstraction stays off the obstacles for so long; and from every state of a cell with a row, under all bounded
 -- disturbances and for every length of run, the table read back keeps the plant in the domain, off every obstacle.

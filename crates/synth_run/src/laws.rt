@@ -14,17 +14,17 @@ pub mod demo {
     };
 }
 
-/// Bytes that spell a plant have one table: `synth` has no choice of what to write.
+/// Bytes that spell a plant have at most one table: `synth` has no choice of what to write.
 pub fn one_table_for_bytes()
     ensures { OneTableForBytes }
 {}
 
-/// Bytes that spell a plant have one text of reach and stay: `stay` has no choice of what to write.
+/// Bytes that spell a plant have at most one text of reach and stay: `stay` has no choice of what to write.
 pub fn one_stay_text_for_bytes()
     ensures { OneStayTextForBytes }
 {}
 
-/// Bytes that spell a plant have one text of a patrol: `patrol` has no choice of what to write.
+/// Bytes that spell a plant have at most one text of a patrol: `patrol` has no choice of what to write.
 pub fn one_patrol_text_for_bytes()
     ensures { OnePatrolTextForBytes }
 {}

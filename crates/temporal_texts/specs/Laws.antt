@@ -20,7 +20,7 @@ abbrev pub OneStayText : Type 0
 OneStayText =
     (bytes : List ℕ) (p q : Description) (rows others : List (Option Row)) → IsStayText bytes p rows → IsStayText bytes q others → (p ≡ q) × (rows ≡ others)
 
--- a text has one reason to be refused as a stay text
+-- a text has at most one reason to be refused as a stay text
 abbrev pub OneStayRefusal : Type 0
 OneStayRefusal = (bytes : List ℕ) (f g : TableFault) → IsStayRefusedFor bytes f → IsStayRefusedFor bytes g → f ≡ g
 
@@ -37,7 +37,7 @@ abbrev pub OnePatrolText : Type 0
 OnePatrolText =
     (bytes : List ℕ) (p q : Description) (rows others : List (List (Option Row))) → IsPatrolText bytes p rows → IsPatrolText bytes q others → (p ≡ q) × (rows ≡ others)
 
--- a text has one reason to be refused as a patrol text
+-- a text has at most one reason to be refused as a patrol text
 abbrev pub OnePatrolRefusal : Type 0
 OnePatrolRefusal = (bytes : List ℕ) (f g : TextFault) → IsPatrolRefusedFor bytes f → IsPatrolRefusedFor bytes g → f ≡ g
 

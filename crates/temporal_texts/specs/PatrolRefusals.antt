@@ -5,6 +5,6 @@ use Rattle.controller_table.specs.declared.text_kind.TextKind.TheVariants.{Patro
 use Rattle.controller_table.specs.declared.text_kind.TheConstants.{PATROL_LIMIT}
 use Rattle.controller_table.specs.HeadedTexts.{alone, IsTextRefusedFor}
 
--- why a text is refused as a patrol text: its first line is one, it has at most 134,217,728 bytes, and its plant few enough turns
+-- why bytes are no patrol text: there are more than 134,217,728, or by the first line `patrol 1`, the plant, its number of turns and its rows
 abbrev pub IsPatrolRefusedFor : List ℕ → TextFault → Type 0
 IsPatrolRefusedFor bytes fault = IsTextRefusedFor (alone Patrol) PATROL_LIMIT bytes fault

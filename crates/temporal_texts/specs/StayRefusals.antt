@@ -5,6 +5,6 @@ use Rattle.controller_table.specs.declared.text_kind.TextKind.TheVariants.{Stay}
 use Rattle.controller_table.specs.HeadedTexts.{alone, IsTextRefusedFor, text_fault}
 use Rattle.base.specs.declared.limits.TheConstants.{TABLE_LIMIT}
 
--- why a text is refused as a stay text: its first line is one, and it has at most 67,108,864 bytes
+-- why bytes are no stay text: there are more than 67,108,864, or by the first line `stay 1`, the plant and its rows
 abbrev pub IsStayRefusedFor : List ℕ → TableFault → Type 0
 IsStayRefusedFor bytes fault = IsTextRefusedFor (alone Stay) TABLE_LIMIT bytes (text_fault fault)

@@ -7,7 +7,7 @@ pub fn one_stay_text()
     ensures { OneStayText }
 {}
 
-/// A text has one reason to be refused as a stay text.
+/// A text has at most one reason to be refused as a stay text.
 pub fn one_stay_refusal()
     ensures { OneStayRefusal }
 {}
@@ -27,7 +27,7 @@ pub fn one_patrol_text()
     ensures { OnePatrolText }
 {}
 
-/// A text has one reason to be refused as a patrol text.
+/// A text has at most one reason to be refused as a patrol text.
 pub fn one_patrol_refusal()
     ensures { OnePatrolRefusal }
 {}
