@@ -2,15 +2,16 @@
 
    Link libgaffcurrant.a or libgaffcurrant.so, which tools/library makes for Linux on x86-64, and with --target aarch64
    for Linux on ARM64 (tried under an emulator, on no board). The library is proved (crates/controller_c): for any bytes
-   that tell what a controller holds, the answer 1 of gaffcurrant_control says that the values are those of the input
-   vector that the text applies at the state. Each answer below is proved in both directions, but for want of memory,
-   which is never excluded. This header is written by hand, and nothing proves that it fits the library.
+   with the text that a controller holds, the answer 1 of gaffcurrant_control says that the values are those of the
+   input vector that these bytes apply at the state. Each answer below is proved in both directions, but for want of
+   memory, which is never excluded. This header is written by hand, and nothing proves that it fits the library.
 
    A text isn't judged. One whose inputs or ranks were changed opens if it is still a text, and then its promise may
-   fail. `gaffcurrant check` judges a table; no command judges a stay text or a patrol text. Open what `synth`, `stay`
-   or `patrol` wrote, byte for byte. Then every loop that applies the values answered with 1 comes to its targets, stays
-   or goes on as the goal says (proved, crates/driven_loops). This holds if the plant obeys its equations with its
-   noises in their ranges. Whatever moves the plant, it holds as long as gaffcurrant_follows answers 1 at each sample.
+   fail. The command `check` judges a table (proved). tools/check, installed as gaffcurrant-check, judges a stay text or
+   a patrol text by solving its plant again (tested). Open what `synth`, `stay` or `patrol` wrote, byte for byte. Then
+   every loop that applies the values answered with 1 comes to its targets, stays or goes on as the goal says (proved,
+   crates/driven_loops). This holds if the plant obeys its equations with its noises in their ranges. Whatever moves the
+   plant, it holds as long as gaffcurrant_follows answers 1 at each sample.
 
    When a loop has come. By a table with `goal reach` go on while the answer is 1, and end at the answer 0, which comes
    within as many samples as the first rank. The first state in a target isn't the end: if its cell isn't wholly in the
@@ -22,7 +23,7 @@
    times the unit. Every number of a text is below 10^18 in size; a state may be any number of 64 bits.
 
    What the caller upholds:
-   - each pointer is valid for as many elements as the call is told, and the arguments of a call don't overlap. Where a
+   - each pointer is valid for as many elements as the call is given, and the arguments of a call don't overlap. Where a
      length is 0 the pointer may be NULL; the other pointers may not be;
    - a controller begins as {0}, is changed by these calls alone, and isn't used through a copy;
    - one thread at a time uses a controller. If another thread goes on, a lock, a thread's start or its join orders the
@@ -65,7 +66,7 @@ extern "C" {
 #define GAFFCURRANT_DONE 0         /* the call did what it was asked for */
 #define GAFFCURRANT_APPLY 1        /* the inputs are to be applied */
 #define GAFFCURRANT_ARRIVED 0      /* the state has come to the targets: nothing has to be applied */
-#define GAFFCURRANT_RANKED 1       /* gaffcurrant_rank: the state has a row, of the rank that is told */
+#define GAFFCURRANT_RANKED 1       /* gaffcurrant_rank: the state has a row, of the rank that is given */
 #define GAFFCURRANT_NO_ROW (-1)    /* the text promises nothing at the state */
 #define GAFFCURRANT_WRONG_SIZE (-2)/* not as many numbers as the text has states and inputs, or no such turn */
 #define GAFFCURRANT_CLOSED (-3)    /* the controller holds no text */
@@ -104,7 +105,7 @@ int32_t gaffcurrant_control(struct gaffcurrant *controller, const int64_t *state
    do the inputs, `input_numbers` in all. replies[k] is what gaffcurrant_control answers at the k-th state. If that
    isn't 1, the k-th inputs are unchanged.
 
-   0: told. -2: state_numbers isn't count times the number of states, or input_numbers isn't count times that of the
+   0: answered. -2: state_numbers isn't count times the number of states, or input_numbers isn't count times that of the
    input variables. -3: closed. At -2 and -3 inputs and replies are unchanged. */
 int32_t gaffcurrant_control_each(struct gaffcurrant *controller, const int64_t *states, size_t state_numbers,
                                  int64_t *inputs, size_t input_numbers, int32_t *replies, size_t count);
@@ -125,15 +126,15 @@ int32_t gaffcurrant_begin_turn(struct gaffcurrant *controller, uint32_t turn);
 
 /* How many states and input variables the text's plant has: 1 to 6, and 0 to 3.
 
-   0: told. -3: closed, and both are 0. */
+   0: answered. -3: closed, and both are 0. */
 int32_t gaffcurrant_sizes(struct gaffcurrant *controller, uint32_t *states, uint32_t *inputs);
 
 /* The rank at a state: the number that its cell's row has for the turn that is due. In a text that was written by
    `synth`, `stay` or `patrol` so many samples suffice to the targets, of a patrol to the target of the turn. With
    `goal keep` every row has rank 0.
 
-   1: told. -1: the state has no row. -2: states isn't the number of the plant's states. -3: closed. At every answer but
-   1 *rank is 0. */
+   1: *rank is given. -1: the state has no row. -2: states isn't the number of the plant's states. -3: closed. At every
+   answer but 1 *rank is 0. */
 int32_t gaffcurrant_rank(struct gaffcurrant *controller, const int64_t *state, size_t states, uint32_t *rank);
 
 /* Whether the next state lies in the successor box of the state's cell under these inputs. The box holds every state to
@@ -146,7 +147,7 @@ int32_t gaffcurrant_rank(struct gaffcurrant *controller, const int64_t *state, s
    1: the next state lies in the successor box of the state's cell. 0: it doesn't, or the box leaves the ranges. -1: the
    state is outside the plant's ranges, or the inputs aren't one of its input vectors. -2: states or next_states
    isn't the number of the plant's states, or inputs isn't that of its input variables. -3: closed. -4: a number
-   of the plant leaves the range, which `check` refuses too: no box is told. */
+   of the plant leaves the range, which `check` refuses too: there is no box. */
 int32_t gaffcurrant_follows(struct gaffcurrant *controller, const int64_t *state, size_t states, const int64_t *input,
                             size_t inputs, const int64_t *next, size_t next_states);
 

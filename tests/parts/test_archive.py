@@ -43,6 +43,12 @@ from gaffcurrant_plant import Controller
 with Controller(open(sys.argv[1], "rb").read()) as controller:
     print(controller.is_proved, controller.choice([20, 0]))
 """
+# Writes the documents and the header into a folder.
+WRITES = """import sys, tree
+tree.write(tree.documents() | {tree.HEADER: tree.File(b"")}, tree.Path(sys.argv[1]))
+"""
+# The path of a relative link, without what follows it.
+LINK = re.compile(r"\]\((?!https?:|mailto:)([^()\s#]+)")
 MISSING = [program for program in ("rt", "cc", "ar", "tar", "xz") if shutil.which(program) is None]
 
 
@@ -367,10 +373,40 @@ class HandedOn(ToolCase):
         what = "what the program and the library need beside glibc"
         self.equal(what, (True, []), (len(needed) > 3, others))
 
+    @unittest.skipUnless(shutil.which("readelf"), "the glibc that is needed isn't looked at, there is no readelf")
+    def test_needed_glibc(self):
+        """The program and the library need none later than the README says."""
+        said = re.search(r"glibc ([0-9.]+) or\slater", (TOP / "README.md").read_text()).group(1)
+        for name in ("lib/gaffcurrant/gaffcurrant", "lib/libgaffcurrant.so"):
+            versions = ran("readelf", "--version-info", "--wide", self.top / name)[1]
+            needed = set(re.findall(r"\bGLIBC_([0-9.]+)", versions))
+            later = sorted(one for one in needed if numbers_in(one) > numbers_in(said))
+            self.equal(f"versions of glibc that {name} needs", (True, []), (bool(needed), later))
+
     def test_home(self):
         """Nothing is written to it, by a tool and by the program."""
         self.user_runs(self.top / "bin/gaffcurrant-why", self.place / "gate.table", 20, 0)
         self.equal("what is written to the home", [], below(self.home))
+
+
+class Documents(ToolCase):
+    """The documents, beside the header, as they are below the tree's top."""
+
+    def test_links(self):
+        """No link leads out of the tree, or to nothing."""
+        answer = ran(sys.executable, "-c", WRITES, self.folder, cwd=PACKAGING)
+        self.equal("the documents are written", (0, "", ""), answer)
+        pages = sorted((self.folder / "share/doc/gaffcurrant").rglob("*.md"))
+        links = [(page, link) for page in pages for link in LINK.findall(page.read_text())]
+        self.holds("the documents have links", len(links) > 200, str(len(links)))
+        for page, link in links:
+            target = (page.parent / link).resolve()
+            is_there = target.exists() and self.folder.resolve() in target.parents
+            self.holds(f"{link} of {page.relative_to(self.folder)} is there", is_there)
+
+
+def numbers_in(version):
+    return [int(number) for number in version.split(".")]
 
 
 def read_by_hand(folder):

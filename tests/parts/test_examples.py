@@ -96,13 +96,13 @@ def numbers_of(table, said):
 
 
 def stated(name):
-    """The numbers of the table in an example's README, without the seconds."""
+    """The numbers of the table in an example's README."""
     lines = (TOP / "examples" / name / "README.md").read_text().splitlines()
     at = next((i for i, line in enumerate(lines) if line.startswith("| cells |")), None)
     if at is None:
         return None
-    words = [word.strip().replace(",", "") for word in lines[at + 2].strip("|").split("|")][:-1]
-    return [int(word) for word in words] if all(re.match(r"[0-9.]+\Z", word) for word in words) else None
+    words = [word.strip().replace(",", "") for word in lines[at + 2].strip("|").split("|")]
+    return [int(word) for word in words] if all(re.match(r"[0-9]+\Z", word) for word in words) else None
 
 
 def faults_of(table):

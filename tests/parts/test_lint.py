@@ -83,7 +83,7 @@ NOTED = [
         LINE,
         4,
         "next x = x + u + abs(x) - abs(x)",
-        "the target has 1 place along x, and each sampled box meets 3 at least",
+        "the target has 1 cell along x, and each sampled box meets 3 at least",
     ),
     (LINE, 4, "next x = x + u + 30", "the box of every input leaves the domain"),
     (LINE, 4, "next x = x + u / 3", "may lead back into the cell itself"),
@@ -125,7 +125,7 @@ ANGLE = [
     "end",
 ]
 ANGLE_NOTES = [
-    "size: deviation of h: 1; half a cell is 1; a box meets up to 2 places, of sampled boxes up to 2, and "
+    "size: deviation of h: 1; half a cell is 1; a box meets up to 2 cells along h, of sampled boxes up to 2, and "
     "all 12 across the range's end",
     "size: step of h: -4 under u = -4; 4 under u = 4; a cell is 3 wide",
 ]
@@ -209,7 +209,7 @@ class Notes(LintCase):
         wanted = [
             "accepted",
             f"note: {BARE}",
-            "size: deviation of x: 1; half a cell is 1; a box meets up to 2 places",
+            "size: deviation of x: 1; half a cell is 1; a box meets up to 2 cells along x",
             "size: step of x: -3 under u = -3; 3 under u = 3; a cell is 3 wide",
             "size: 5 cells, 2 input vectors, 10 pairs, 8 edges: under 0.01 per cent of the 33554432 that are the most",
         ]
@@ -224,7 +224,7 @@ class Notes(LintCase):
     def test_version_2(self):
         """A cell of the line moves into one cell, wherever its centre's bound may reach."""
         output = self.lint(changed(LINE, 1, "plant 2"))[1]
-        said = "a box meets up to 2 places, of sampled boxes up to 1\n"
+        said = "a box meets up to 2 cells along x, of sampled boxes up to 1\n"
         self.holds("lint of version 2 tells sampled boxes", said in output, output)
 
     def test_wide_target(self):

@@ -8,7 +8,7 @@ import subprocess
 import sys
 import tempfile
 from pathlib import Path
-from typing import Dict, Iterable, NamedTuple, Optional, Sequence, Union
+from typing import Collection, Dict, Iterable, Match, NamedTuple, Optional, Sequence, Union
 
 from manual import Pages
 from plain_wheel import found_in, module_files, programs
@@ -18,10 +18,13 @@ TOOLS = TOP / "tools"
 # The list of what was put where.
 LIST = "lib/gaffcurrant/files"
 DOCUMENTS = "share/doc/gaffcurrant"
+HEADER = "include/gaffcurrant.h"
 # Of the repository's documents those that are of use without it.
-KEPT = ("README.md", "CHANGELOG.md", "CITATION.cff", "docs", "examples")
+KEPT = ("README.md", "CHANGELOG.md", "CITATION.cff", "docs", "examples", "tools/README.md")
 # These make pages and pictures of the repository by its tests.
 LEFT = ("examples/pages",)
+# A link of a document: its words, the path, and what may follow it.
+LINKED = re.compile(r"\[([^][]*)\]\(([^()\s#]+)(#[^()\s]*)?\)")
 
 LAUNCHER = """#!/usr/bin/env bash
 # Runs the proved program on these words, by the settings of the allocator that fit it.
@@ -148,7 +151,7 @@ def library_of(made: Path, known: About) -> Tree:
         f"lib/{name}": File((made / "libgaffcurrant.so").read_bytes(), 0o755),
         f"lib/libgaffcurrant.so.{known.version.split('.')[0]}": Link(name),
         "lib/libgaffcurrant.so": Link(name),
-        "include/gaffcurrant.h": File((TOP / "include/gaffcurrant.h").read_bytes()),
+        HEADER: File((TOP / HEADER).read_bytes()),
         "lib/pkgconfig/gaffcurrant.pc": File((PKG_CONFIG % known.version).encode()),
     }
 
@@ -159,7 +162,7 @@ def module() -> Tree:
 
 def manual_of(known: About, names: Sequence[str]) -> Tree:
     pages = Pages(known.version, known.date, names)
-    texts = pages.launcher(installed_forms()) | pages.library((TOP / "include/gaffcurrant.h").read_text())
+    texts = pages.launcher(installed_forms()) | pages.library((TOP / HEADER).read_text())
     for name in names:
         texts |= pages.tool(name, help_of(name))
     return {f"share/man/man{name[-1]}/{name}": File(text.encode()) for name, text in texts.items()}
@@ -198,11 +201,26 @@ def documents() -> Tree:
         else [str(path.relative_to(TOP)) for one in KEPT for path in (TOP / one, *(TOP / one).rglob("*"))]
     )
     paths = [path for path in paths if path not in LEFT and "__pycache__" not in path and (TOP / path).is_file()]
-    return {f"{DOCUMENTS}/{path}": document(TOP / path) for path in sorted(paths)}
+    kept = {*paths, *folders(paths)}
+    return {f"{DOCUMENTS}/{path}": document(path, kept) for path in sorted(paths)}
 
 
-def document(path: Path) -> File:
-    return File(path.read_bytes(), 0o755 if os.access(path, os.X_OK) else 0o644)
+def document(path: str, kept: Collection[str]) -> File:
+    """A document, whose links lead to what is kept of the repository, and to the header."""
+    data = (TOP / path).read_bytes()
+    if path.endswith(".md"):
+        data = LINKED.sub(lambda found: link_in(path, found, kept), data.decode()).encode()
+    return File(data, 0o755 if os.access(TOP / path, os.X_OK) else 0o644)
+
+
+def link_in(path: str, found: Match[str], kept: Collection[str]) -> str:
+    """A link of a document as it is in the tree; of one to a file of the repository that isn't kept only its words."""
+    target = os.path.normpath(os.path.join(os.path.dirname(path), found[2]))
+    if target in kept or not (TOP / target).exists():
+        return found[0]
+    if target == HEADER:
+        return f"[{found[1]}]({os.path.relpath(HEADER, os.path.dirname(f'{DOCUMENTS}/{path}'))})"
+    return found[1]
 
 
 def folders(tree: Iterable[str]) -> list[str]:

@@ -1,8 +1,8 @@
 //! Controllers for C: a text is read once, and then asked at each sample.
 //!
-//! The layer above is C code (`include/gaffcurrant.h`). No export has a `requires`: to contracts a controller is what the
-//! text tells that it holds, or none. Status 1 of `gaffcurrant_control` says that the values are those of the input vector
-//! that the text applies at the state.
+//! The layer above is C code (`include/gaffcurrant.h`). No export has a `requires`: to contracts a controller is the text
+//! that it holds, or none. Status 1 of `gaffcurrant_control` says that the values are those of the input vector that the
+//! text applies at the state.
 #![tactic(auto)]
 
 ghost use Rattle.std.specs.Prelude.{◌≡◌, None};
@@ -68,7 +68,7 @@ pub extern "C" fn gaffcurrant_control(
 }
 
 /// Puts what is to be applied at each of many states into its inputs, and what `gaffcurrant_control` answers
-/// there into the replies. 0: told. -2: these aren't as many numbers as the replies' states and inputs. -3: closed.
+/// there into the replies. 0: answered. -2: these aren't as many numbers as the replies' states and inputs. -3: closed.
 #[unsafe(no_mangle)]
 pub extern "C" fn gaffcurrant_control_each(
     controller: &mut Controller,
@@ -123,7 +123,7 @@ pub extern "C" fn gaffcurrant_begin_turn(controller: &mut Controller, turn: u32)
     }
 }
 
-/// How many states and input variables the text's plant has. 0: told. -3: closed.
+/// How many states and input variables the text's plant has. 0: answered. -3: closed.
 #[unsafe(no_mangle)]
 pub extern "C" fn gaffcurrant_sizes(
     controller: &mut Controller,
@@ -143,8 +143,8 @@ pub extern "C" fn gaffcurrant_sizes(
     DONE
 }
 
-/// The rank of the state's row, for the turn that is due. 1: told. -1: the state has no row. -2: a wrong number of
-/// states. -3: closed.
+/// The rank of the state's row, for the turn that is due. 1: it is given. -1: the state has no row. -2: a wrong number
+/// of states. -3: closed.
 #[unsafe(no_mangle)]
 pub extern "C" fn gaffcurrant_rank(
     controller: &mut Controller,

@@ -151,7 +151,7 @@ def narrow_target(plant: Plant) -> Iterator[str]:
         count = last - first + 1
         if 0 < count < fewest:
             yield (
-                f"the target has {count} place{'s' * (count > 1)} along {name}, and each sampled box meets "
+                f"the target has {count} cell{'s' * (count > 1)} along {name}, and each sampled box meets "
                 f"{fewest} at least: mostly nothing is won from outside; a wider target, a smaller noise "
                 "or "
                 "narrower cells help"
@@ -267,7 +267,7 @@ def growth(plant: Plant) -> Iterator[str]:
         sampled_ones = f", of sampled boxes up to {met[equation]}" if met else ""
         yield (
             f"deviation of {name}: {said}; half a cell is {plant.units.size_said(name, width // 2)}; a box meets "
-            f"up to {count} place{'s' * (count > 1)}{sampled_ones}" + end_said(plant, equation, count)
+            f"up to {count} cell{'s' * (count > 1)} along {name}{sampled_ones}" + end_said(plant, equation, count)
         )
 
 
