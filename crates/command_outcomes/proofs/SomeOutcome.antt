@@ -1,25 +1,19 @@
 -- No plant text is neither refused nor a plant's, no plant demands nothing, and no text demands nothing.
-use Rattle.std.proofs.Common.{inl, inr, ◌⊎◌, ℕ, ◌^◌, ◌<◌, List, [], length, refl, subst, arith, ◌≡◌, Option, Some, None, sym, ◌∙◌}
+use Rattle.std.proofs.Common.{inl, inr, ◌⊎◌, ℕ, ◌^◌, ◌<◌, List, length, refl, arith, ◌≡◌, Option, Some, None, sym, ◌∙◌}
 use Rattle.std.specs.Prelude.{sum_by, ℤ}
 use Rattle.std.proofs.lemmas.Bool.{cases_lt, cases_eq}
-use Rattle.plant_record.specs.declared.limit_kind.LimitKind.TheVariants.{Vectors, Cells, Pairs, PlantText, Edges}
+use Rattle.plant_record.specs.declared.limit_kind.LimitKind.TheVariants.{Edges}
 use Rattle.plant_record.specs.Description.{Description, vectors_of}
 use Rattle.plant_record.specs.Limits.{IsWithinLimits}
-use Rattle.line_words.specs.Lines.{lines_of}
-use Rattle.text_pieces.specs.Steps.{IsReading}
-use Rattle.text_pieces.proofs.Laws as texts
-use Rattle.plant_text.specs.Grammar.{PartialPlant, nothing_yet, LineStep, IsEnded, Spells}
-use Rattle.plant_text.specs.inside.PartialPlantRules.{KeepsRules}
-use Rattle.plant_text.specs.PlantRefusals.{IsShort}
-use Rattle.plant_text.proofs.lemmas.RulesKept.{rules_of_nothing}
-use Rattle.plant_text.proofs.lemmas.LineGrammar.{lines_are_grammar}
-use Rattle.plant_text.proofs.lemmas.LinesLead.{spelled_is_plant}
+use Rattle.plant_text.specs.declared.plant_fault.PlantFault.{PlantFault}
+use Rattle.plant_text.specs.declared.plant_fault.PlantFault.TheVariants as plants
+use Rattle.plant_text.specs.PlantRefusals.{IsRefusedFor}
+use Rattle.plant_text.proofs.lemmas.PlantEnds.{no_plant_text_is_neither}
 use Rattle.successor_box.specs.Deviations.{HasNoOverflow, HasNoOverflowAt, IsFirstOverflow}
 use Rattle.plant_game.specs.Abstraction.{AreEdges, IsGameOf}
 use Rattle.plant_game.proofs.EdgeCounts.{games_count_their_edges}
 use Rattle.controller_table.specs.declared.text_kind.TextKind.TheVariants.{Patrol}
 use Rattle.controller_table.proofs.EachKind.{few_or_many}
-use Rattle.controller_table.proofs.FrontEnds.{whole, LimitsEnd, is_within, has_many_vectors, has_many_cells, has_many_pairs, limits_end}
 use Rattle.command_line.specs.declared.outcome.Refusal.{Refusal}
 use Rattle.command_line.specs.declared.outcome.Refusal.TheVariants.{Malformed, Overflow, Limit, TooManyTurns, Invalid, NoRow}
 use Rattle.command_outcomes.specs.IsOutcomeFor.{IsAccepted, IsSolvable, HasEdges, IsPatrollable, IsRightFor, IsAnswerable}
@@ -111,27 +105,13 @@ patrol_decided p (has_many_edges many) = inr (Limit Edges, inl (inr (refl, many)
 
 -- ---- a text
 
-module _ (bytes : List ℕ) (unrefused : (r : Refusal) → IsRefused bytes r → ⊥) (unaccepted : (p : Description) → IsAccepted bytes p → ⊥) where
-  spelled_end : (p : Description) → IsShort bytes → Spells bytes p → LimitsEnd p → ⊥
-  spelled_end p short spells (is_within limits) = unaccepted p (record { short = short; spells = spells; limits = limits })
-  spelled_end p short spells (has_many_vectors many) = unrefused (Limit Vectors) (inr (Vectors, refl, (short, (p, spells, many))))
-  spelled_end p short spells (has_many_cells many) = unrefused (Limit Cells) (inr (Cells, refl, (short, (p, spells, many))))
-  spelled_end p short spells (has_many_pairs many) = unrefused (Limit Pairs) (inr (Pairs, refl, (short, (p, spells, many))))
-
-  read_end : (q : PartialPlant) (rest : List (List ℕ)) → IsShort bytes → IsReading LineStep IsEnded nothing_yet (lines_of bytes) q rest → ⊥
-  read_end q rest short reading =
-      let all : IsReading LineStep IsEnded nothing_yet (lines_of bytes) q [] = subst (λ (lines : List (List ℕ)). IsReading LineStep IsEnded nothing_yet (lines_of bytes) q lines) reading.closed.0 reading in
-      let held = whole q (texts.met LineStep IsEnded KeepsRules lines_are_grammar nothing_yet reading.pieces q rules_of_nothing (reading.read).leads) reading.closed.1 in
-      let spells : Spells bytes held.0 = (q, all, held.1) in
-      spelled_end held.0 short spells (limits_end held.0 (spelled_is_plant bytes held.0 spells))
-
-  pub text_end : ⊥
-  text_end =
-      elim (cases_lt 65536 (length bytes)) [
-        | inl long ↦ unrefused (Limit PlantText) (inr (PlantText, refl, λ le. omega (arith, long, le)))
-        | inr short ↦ texts.undeniable LineStep IsEnded KeepsRules lines_are_grammar nothing_yet (lines_of bytes) rules_of_nothing
-            (λ q rest reading. read_end q rest short reading) (λ n refused. unrefused (Malformed n) (inl (n, refl, (short, refused))))
-      ]
+text_end : (bytes : List ℕ) → ((r : Refusal) → IsRefused bytes r → ⊥) → ((p : Description) → IsAccepted bytes p → ⊥) → ⊥
+text_end bytes unrefused unaccepted = no_plant_text_is_neither bytes (λ p spells short limits. unaccepted p (record { short = short; spells = spells; limits = limits })) by_fault
+  where
+    by_fault : (f : PlantFault) → IsRefusedFor bytes f → ⊥
+    by_fault (plants.Malformed n) refused = unrefused (Malformed n) (inl (n, refl, refused))
+    by_fault (plants.Limit what) refused = unrefused (Limit what) (inr (what, refl, refused))
+    by_fault plants.Memory refused = refused
 
 -- ---- a plant text
 

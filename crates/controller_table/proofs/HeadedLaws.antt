@@ -11,8 +11,9 @@ use Rattle.plant_record.specs.Limits.{IsWithinLimits}
 use Rattle.plant_writing.specs.CanonicalText.{text_of}
 use Rattle.plant_text.specs.declared.plant_fault.PlantFault.{PlantFault}
 use Rattle.plant_text.specs.declared.plant_fault.PlantFault.TheVariants as front
-use Rattle.plant_text.specs.CanonicalFronts.{IsFront, IsFirstRefusedAtFront, IsFrontRefusedFor}
+use Rattle.plant_text.specs.CanonicalFronts.{IsFront, IsFrontRefusedFor}
 use Rattle.plant_text.proofs.lemmas.CanonicalFronts as fronts
+use Rattle.plant_text.proofs.lemmas.PlantEnds.{no_front_is_neither}
 use Rattle.text_pieces.proofs.Laws.{one_by_length}
 use Rattle.text_pieces.proofs.Undeniable.{either}
 use Rattle.row_reading.specs.Counting.{line_count}
@@ -26,7 +27,6 @@ use Rattle.controller_table.specs.declared.text_fault.TextFault.TheVariants as f
 use Rattle.controller_table.specs.TextKinds.{first_line, turn_rules, HasFewTurnsFor}
 use Rattle.controller_table.specs.KindTexts.{IsTextOf}
 use Rattle.controller_table.specs.HeadedTexts.{HasNoFirstLine, IsPlantRefusedFor, HasManyTurns, AreRowsRefusedAt, IsFirstRefusedLine, IsTextRefusedFor}
-use Rattle.controller_table.proofs.FrontEnds.{LimitsEnd, is_within, has_many_vectors, has_many_cells, has_many_pairs, limits_end, front_end}
 use Rattle.controller_table.specs.inside.TextReading.{IsRefusedAfter}
 use Rattle.controller_table.proofs.EachKind.{one_kind, small_turns, few_or_many}
 use Rattle.controller_table.proofs.TextsRead.{many_turns, text_told, rows_refused, refused_among}
@@ -186,8 +186,10 @@ module _ {Name : Type 0} (kind_of : Name → TextKind) (most : ℕ) (bytes : Lis
     unrefused_after : (f : TextFault) → (f ≡ faults.Memory → ⊥) → IsRefusedAfter (kind_of k) rest f → ⊥
     unrefused_after f some refused = unrefused f (refused_among kind_of k most bytes rest short are f some refused)
 
-    no_line : (n : ℕ) → IsFirstRefusedAtFront rest n → ⊥
-    no_line n refused = unrefused_after (faults.Malformed (suc n)) (λ e. cc) (inl (n, refl, refused))
+    no_fault : (f : PlantFault) → IsFrontRefusedFor rest f → ⊥
+    no_fault (front.Malformed n) refused = unrefused_after (faults.Malformed (suc n)) (λ e. cc) (inl (n, refl, refused))
+    no_fault (front.Limit what) refused = unrefused_after (faults.Limit what) (λ e. cc) refused
+    no_fault front.Memory refused = refused
 
     module _ (p : Description) (count : ℕ) (is_front : IsFront rest p count) (limits : IsWithinLimits p) where
       no_row : HasFewTurnsFor (kind_of k) p → (n : ℕ) → AreTurnsRefusedAt (turn_rules (kind_of k) p) (drop count rest) n → ⊥
@@ -196,21 +198,18 @@ module _ {Name : Type 0} (kind_of : Name → TextKind) (most : ℕ) (bytes : Lis
       no_turns : HasFewTurnsFor (kind_of k) p → (turns : List (List (Option Row))) → AreTurnsText (turn_rules (kind_of k) p) (drop count rest) turns → ⊥
       no_turns few turns told = untold k p turns (subst (λ (x : List ℕ). IsTextOf (kind_of k) x p turns) (sym are) (text_told (kind_of k) rest p count is_front limits turns told)) few
 
-    no_plant : (p : Description) (count : ℕ) → IsFront rest p count → LimitsEnd p → ⊥
-    no_plant p count is_front (is_within limits) = elim (few_or_many (kind_of k) p) [
+    no_plant : (p : Description) (count : ℕ) → IsFront rest p count → IsWithinLimits p → ⊥
+    no_plant p count is_front limits = elim (few_or_many (kind_of k) p) [
       | inl few ↦ no_turns_are_neither (turn_rules (kind_of k) p) (small_turns (kind_of k) p limits) (drop count rest) (no_turns p count is_front limits few) (no_row p count is_front limits few)
       | inr many ↦ unrefused_after faults.Turns (λ e. cc) (many_turns (kind_of k) rest p count is_front limits many)
     ]
-    no_plant p count is_front (has_many_vectors many) = unrefused_after (faults.Limit Vectors) (λ e. cc) (p, count, is_front, many)
-    no_plant p count is_front (has_many_cells many) = unrefused_after (faults.Limit Cells) (λ e. cc) (p, count, is_front, many)
-    no_plant p count is_front (has_many_pairs many) = unrefused_after (faults.Limit Pairs) (λ e. cc) (p, count, is_front, many)
 
   pub no_text_is_neither : ⊥
   no_text_is_neither =
       elim (cases_lt most (length bytes)) [
         | inl long ↦ unrefused (faults.Limit TableText) (λ short. omega (arith, long, short))
         | inr short ↦ either ((k : Name) × (rest : List ℕ) × (bytes ≡ first_line (kind_of k) ++ rest)) (λ begun. elim begun [
-          | inl (k, rest, are) ↦ front_end rest (λ p count is_front. no_plant short k rest are p count is_front (limits_end p is_front.plant)) (no_line short k rest are)
+          | inl (k, rest, are) ↦ no_front_is_neither rest (no_plant short k rest are) (no_fault short k rest are)
           | inr nothing ↦ unrefused (faults.Malformed 1) (short, inl (refl, λ k rest are. nothing (k, rest, are)))
         ])
       ]

@@ -3,7 +3,6 @@ pub mod OneRow
 pub mod RefusedPlant
 pub mod SolutionsFit
 pub mod EachKind
-pub mod FrontEnds
 pub mod HeadedLaws
 pub mod PlantLength
 pub mod RowLengths

@@ -2,6 +2,7 @@
 pub mod Axes
 pub mod ValueIndices
 pub mod InputVectors
+pub mod LimitEnds
 pub mod Limits
 pub mod NextPoints
 pub mod Numbers

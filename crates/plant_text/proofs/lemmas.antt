@@ -6,6 +6,7 @@ pub mod FrontGrammar
 pub mod LineGrammar
 pub mod LineFaults
 pub mod LinesLead
+pub mod PlantEnds
 pub mod Lists
 pub mod PlantLines
 pub mod RulesKept

@@ -37,6 +37,10 @@ OneRefusal = (bytes : List ℕ) (f g : PlantFault) → IsRefusedFor bytes f → 
 abbrev pub ReadOrRefused : Type 0
 ReadOrRefused = (bytes : List ℕ) (p : Description) (f : PlantFault) → Spells bytes p → IsShort bytes → IsWithinLimits p → IsRefusedFor bytes f → ⊥
 
+-- no text is neither that of a plant within the limits, if it is short, nor refused
+abbrev pub NoPlantTextIsNeither : Type 0
+NoPlantTextIsNeither = (bytes : List ℕ) → ((p : Description) → Spells bytes p → IsShort bytes → IsWithinLimits p → ⊥) → ((f : PlantFault) → IsRefusedFor bytes f → ⊥) → ⊥
+
 -- no byte of a number's text is a separator
 abbrev pub NumbersAreWords : Type 0
 NumbersAreWords = (z : ℤ) → IsLiteral z → is_word (signed_decimal z) ≡ true
@@ -52,6 +56,10 @@ OneFrontRefusal = (bytes : List ℕ) (f g : PlantFault) → IsFrontRefusedFor by
 -- a front that holds a plant within the limits is not refused
 abbrev pub FrontReadOrRefused : Type 0
 FrontReadOrRefused = (bytes : List ℕ) (p : Description) (count : ℕ) (f : PlantFault) → IsFront bytes p count → IsWithinLimits p → IsFrontRefusedFor bytes f → ⊥
+
+-- no bytes have neither a plant within the limits at their front nor a reason why none is read there
+abbrev pub NoFrontIsNeither : Type 0
+NoFrontIsNeither = (bytes : List ℕ) → ((p : Description) (count : ℕ) → IsFront bytes p count → IsWithinLimits p → ⊥) → ((f : PlantFault) → IsFrontRefusedFor bytes f → ⊥) → ⊥
 
 -- the canonical text of a plant within the limits, if it is short, spells no other plant and is refused for nothing
 abbrev pub CanonicalTextsReadBack : Type 0

@@ -1,6 +1,6 @@
 //! What holds of every plant and of its text.
 
-ghost use Rattle.plant_text.specs.Laws.{OnePlantPerText, OnePlantAtTheFront, SpelledPlantsArePlants, OneRefusal, ReadOrRefused, CanonicalTextsSpell, CanonicalTextsReadBack, NumbersAreWords, OneFront, OneFrontRefusal, FrontReadOrRefused};
+ghost use Rattle.plant_text.specs.Laws.{OnePlantPerText, OnePlantAtTheFront, SpelledPlantsArePlants, OneRefusal, ReadOrRefused, CanonicalTextsSpell, CanonicalTextsReadBack, NumbersAreWords, OneFront, OneFrontRefusal, FrontReadOrRefused, NoPlantTextIsNeither, NoFrontIsNeither};
 
 /// No bytes spell two plants.
 pub fn one_plant_per_text()
@@ -27,6 +27,11 @@ pub fn front_read_or_refused()
     ensures { FrontReadOrRefused }
 {}
 
+/// No front is neither the canonical text of a plant within the limits nor refused.
+pub fn no_front_is_neither()
+    ensures { NoFrontIsNeither }
+{}
+
 /// What bytes spell is a plant.
 pub fn spelled_plants_are_plants()
     ensures { SpelledPlantsArePlants }
@@ -40,6 +45,11 @@ pub fn one_refusal()
 /// No text is refused that spells a plant within the limits.
 pub fn read_or_refused()
     ensures { ReadOrRefused }
+{}
+
+/// No text of at most 65,536 bytes is neither that of a plant within the limits nor refused; a longer one is refused.
+pub fn no_plant_text_is_neither()
+    ensures { NoPlantTextIsNeither }
 {}
 
 /// The canonical text of a plant spells it.
