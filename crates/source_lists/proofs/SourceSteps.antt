@@ -1,5 +1,6 @@
 -- One more pair whose box is counted, or that is put at the cells of its box.
 use Rattle.std.proofs.Common.{◌≡◌, ℕ, zero, suc, ◌+◌, ◌/◌, ◌^◌, ◌<◌, ◌≤◌, ◌==◌, List, [], ◌++◌, All, length, replicate, get_or, sum, Option, Some, None, refl, sym, ap, subst, ◌∙◌, arith, inl, inr}
+use Rattle.std.specs.Prelude.{IfSome}
 use Rattle.std.specs.List.Sorted.{IsStrictlyIncreasing}
 use Rattle.std.proofs.lemmas.Bool.{cases_lt}
 use Rattle.std.proofs.lemmas.List.{get_or_past, get_or_default, get_or-replicate, length-replicate, take_all}
@@ -32,13 +33,17 @@ pub kept_box : (boxes : List (Option CellBox)) (k : ℕ) (read kept : Option Cel
 kept_box boxes k read kept same is below = same ∙ is ∙ get_or_default boxes k kept None below
 
 -- a box in a range that has no cell of a band has none either
-pub none_inside : (axes : List Axis) (from len : ℕ) (range : CellRange) (b : Option CellBox) → AreAxes axes → IsBox axes b → Misses from len range → LiesIn range b → slots_in from len (cells_in axes b) ≡ []
+none_inside : (axes : List Axis) (from len : ℕ) (range : CellRange) (b : Option CellBox) → AreAxes axes → IsBox axes b → Misses from len range → LiesIn range b → slots_in from len (cells_in axes b) ≡ []
 none_inside axes from len range None grid box misses lies = refl
 none_inside axes from len range (Some b) grid box misses lies =
     let all = cells_lie_between_corners axes b.first b.last grid box in
     slots-none from len (cells_between axes b.first b.last) (λ k d lt low high.
     let between = all k d lt in
     elim misses [ inl before ↦ omega (arith, before, lies.1, between.1, low) | inr past ↦ omega (arith, past, lies.0, between.0, high) ])
+
+pub none_reached : (axes : List Axis) (from len : ℕ) (b : Option CellBox) → AreAxes axes → IsBox axes b → IfSome b (λ (b : CellBox). Misses from len (record { first = b.first; last = b.last })) → slots_in from len (cells_in axes b) ≡ []
+none_reached axes from len None grid box misses = refl
+none_reached axes from len (Some b) grid box misses = none_inside axes from len (record { first = b.first; last = b.last }) (Some b) grid box misses (omega arith, omega arith)
 
 -- a count is within the sum
 count_within : (counts : List ℕ) (c : ℕ) → get_or counts c 0 ≤ sum counts

@@ -108,7 +108,7 @@ fn add_box<I: Intake>(
     requires room { I.HasRoomFor intake.old (slots_in band.from band.len (cells_in grid.now b)) }
     ensures { I.IsAdded pair intake.old intake.new (slots_in band.from band.len (cells_in grid.now b)) }
 {
-    if let Some(b) = band.reached(grid, b) {
+    if let Some(b) = band.reached(b) {
         let segments = shapes.segments_of(b);
         if band.holds(b) {
             add_inside(b.first - band.from, segments, pair, intake);
