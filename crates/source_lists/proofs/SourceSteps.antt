@@ -1,5 +1,5 @@
 -- One more pair whose box is counted, or that is put at the cells of its box.
-use Rattle.std.proofs.Common.{◌≡◌, ℕ, zero, suc, ◌+◌, ◌/◌, ◌^◌, ◌<◌, ◌≤◌, ◌==◌, List, [], ◌++◌, All, length, replicate, get_or, sum, Option, Some, None, refl, sym, ap, subst, ◌∙◌, arith, inl, inr}
+use Rattle.std.proofs.Common.{◌≡◌, ℕ, zero, suc, ◌+◌, ◌/◌, ◌^◌, ◌<◌, ◌≤◌, ◌==◌, List, [], ◌++◌, All, length, replicate, get_or, sum, Option, Some, None, refl, sym, ap, subst, ◌∙◌, arith, inl, inr, add-one}
 use Rattle.std.specs.Prelude.{IfSome}
 use Rattle.std.specs.List.Sorted.{IsStrictlyIncreasing}
 use Rattle.std.proofs.lemmas.Bool.{cases_lt}
@@ -100,9 +100,6 @@ module _ {A : Type 0} {slots : A → ℕ} {HasRoomFor : A → List ℕ → Type 
   slots_kept zero after added = ap slots added
   slots_kept (suc n) after added = lawful.slots_stay n added.0 after (slots_at n) added.2 ∙ slots_kept n added.0 added.1
 
-  pub added_more : (n : ℕ) (now after : A) → AreAdded IsAdded slots_at n before now → IsAdded n now after (slots_at n) → AreAdded IsAdded slots_at (n + 1) before after
-  added_more n now after added more = let next : suc n ≡ n + 1 = omega arith in subst (λ (m : ℕ). AreAdded IsAdded slots_at m before after) next (now, added, more)
-
   -- pairs that have no slot need not be added
   pub added_none : (now : A) (n end : ℕ) → n ≤ end → ((pair : ℕ) → n ≤ pair → pair < end → slots_at pair ≡ []) → AreAdded IsAdded slots_at n before now → AreAdded IsAdded slots_at end before now
   added_none now n zero le none added = let same : n ≡ 0 = omega (arith, le) in subst (λ (m : ℕ). AreAdded IsAdded slots_at m before now) same added
@@ -134,9 +131,8 @@ module _ (axes : List Axis) (boxes : List (Option CellBox)) (grid : AreAxes axes
           total = omega (arith, sum_by-replicate (λ n. n) len 0);
         })
     counted_so_far (suc n) after le added =
-        let next : n + 1 ≡ suc n = omega arith in
         let sooner = counted_so_far n added.0 (omega (arith, le)) added.1 in
-        subst (λ (m : ℕ). CountsSoFar axes boxes from len m (counts after)) next (counts_more axes boxes grid ordered n (omega (arith, le)) from len (counts added.0) (counts after) sooner added.2)
+        rw (← add-one n) (counts_more axes boxes grid ordered n (omega (arith, le)) from len (counts added.0) (counts after) sooner added.2)
 
     pub counts_have_room : edges_of axes boxes ≤ 2 ^ 25 → (pair : ℕ) (now : A) → pair < length boxes → AreAddedTo pair now → CountsFit (counts now) (slots_of axes boxes from len pair)
     counts_have_room few pair now below added = count_capacity axes boxes grid ordered pair below from len (counts now) (counted_so_far pair now (omega (arith, below)) added) few
@@ -155,11 +151,8 @@ module _ (axes : List Axis) (boxes : List (Option CellBox)) (grid : AreAxes axes
     put_so_far zero after le added =
         rw (added, empty, counted.one_each) (long, record { one_each = length-replicate len []; each = λ i inside. get_or-replicate len i [] [] inside })
     put_so_far (suc n) after le added =
-        let next : n + 1 ≡ suc n = omega arith in
-        let sooner = put_so_far n added.0 (omega (arith, le)) added.1 in (
-          added.2.lengths ∙ sooner.0,
-          subst (λ (m : ℕ). AreRowsAmong axes boxes from len m after.rows) next (rows_more axes boxes grid ordered n (omega (arith, le)) from len added.0 after sooner.1 added.2),
-        )
+        let sooner = put_so_far n added.0 (omega (arith, le)) added.1 in
+        (added.2.lengths ∙ sooner.0, rw (← add-one n) (rows_more axes boxes grid ordered n (omega (arith, le)) from len added.0 after sooner.1 added.2))
 
     pub rows_have_room : (pair : ℕ) (now : Filling) → pair < length boxes → ArePutIn pair now → HasCapacityFor now (slots_of axes boxes from len pair)
     rows_have_room pair now below added =
