@@ -1,24 +1,27 @@
 -- One more pair whose box is counted, or that is put at the cells of its box.
-use Rattle.std.proofs.Common.{◌≡◌, ℕ, zero, suc, ◌+◌, ◌/◌, ◌^◌, ◌<◌, ◌≤◌, ◌==◌, List, [], ◌++◌, All, length, replicate, get_or, sum, Option, Some, None, refl, sym, ap, subst, ◌∙◌, arith, inl, inr}
+use Rattle.std.proofs.Common.{◌≡◌, ℕ, zero, suc, ◌+◌, ◌/◌, ◌^◌, ◌<◌, ◌≤◌, ◌==◌, List, [], ◌++◌, All, length, replicate, get_or, sum, Option, Some, None, refl, sym, ap, subst, ◌∙◌, arith, inl, inr, add-one}
+use Rattle.std.specs.Prelude.{IfSome}
 use Rattle.std.specs.List.Sorted.{IsStrictlyIncreasing}
 use Rattle.std.proofs.lemmas.Bool.{cases_lt}
-use Rattle.std.proofs.lemmas.List.{get_or_past, get_or_default}
+use Rattle.std.proofs.lemmas.List.{get_or_past, get_or_default, get_or-replicate, length-replicate, take_all}
 use Rattle.std.proofs.lemmas.List.Elements.{All-weaker}
+use Rattle.std.proofs.lemmas.List.Folds.{sum_by-replicate}
 use Rattle.std.proofs.lemmas.List.Sums.{sum_by_more, sum_by_more_le, get_or-le-sum_by, count_by-le-length, sum_by-le}
 use Rattle.grid_quantiser.specs.declared.axis.Axis.{Axis}
 use Rattle.grid_quantiser.specs.declared.boxes.CellBox.{CellBox}
 use Rattle.grid_quantiser.specs.Axes.{cells_of, AreAxes}
 use Rattle.grid_quantiser.specs.CellBoxes.{cells_between}
 use Rattle.game_core.specs.Counts.{times}
-use Rattle.edge_rows.specs.Rows.{Filling}
+use Rattle.edge_rows.specs.Rows.{Filling, row_at, empty_rows, slots_left}
+use Rattle.edge_rows.proofs.Laid.{written-ge}
 use Rattle.successor_box.specs.SuccessorBoxes.{cells_in}
 use Rattle.source_lists.specs.declared.cell_ranges.CellRange.{CellRange}
 use Rattle.source_lists.specs.inside.CellRanges.{LiesIn, Misses, range_at, range_start, AreRangesOf}
-use Rattle.source_lists.specs.inside.IntakeLaws.{counted_none, lists_lawful}
+use Rattle.source_lists.specs.inside.Intakes.{IsIntake, AreAdded}
 use Rattle.plant_game.specs.BoxGame.{IsBox, edges_of}
 use Rattle.source_lists.specs.SourceLists.{sources_among}
-use Rattle.source_lists.specs.inside.BandRows.{AreRowsAmong}
-use Rattle.source_lists.specs.inside.Tallies.{AreCounted, CountsFit, ArePut, HasCapacityFor, slots_in, AreCountsAmong, CountsSoFar}
+use Rattle.source_lists.specs.inside.BandRows.{AreRowsAmong, AreBandRows}
+use Rattle.source_lists.specs.inside.Tallies.{AreCounted, CountsFit, ArePut, HasCapacityFor, slots_in, slots_of, AreCountsAmong, CountsSoFar}
 use Rattle.plant_game.proofs.BoxGames.{box_cells}
 use Rattle.source_lists.proofs.BelowBoxes.{cells_lie_between_corners}
 use Rattle.source_lists.proofs.BandSlots.{slots-times, slots-length, slots-none}
@@ -30,13 +33,17 @@ pub kept_box : (boxes : List (Option CellBox)) (k : ℕ) (read kept : Option Cel
 kept_box boxes k read kept same is below = same ∙ is ∙ get_or_default boxes k kept None below
 
 -- a box in a range that has no cell of a band has none either
-pub none_inside : (axes : List Axis) (from len : ℕ) (range : CellRange) (b : Option CellBox) → AreAxes axes → IsBox axes b → Misses from len range → LiesIn range b → slots_in from len (cells_in axes b) ≡ []
+none_inside : (axes : List Axis) (from len : ℕ) (range : CellRange) (b : Option CellBox) → AreAxes axes → IsBox axes b → Misses from len range → LiesIn range b → slots_in from len (cells_in axes b) ≡ []
 none_inside axes from len range None grid box misses lies = refl
 none_inside axes from len range (Some b) grid box misses lies =
     let all = cells_lie_between_corners axes b.first b.last grid box in
     slots-none from len (cells_between axes b.first b.last) (λ k d lt low high.
     let between = all k d lt in
     elim misses [ inl before ↦ omega (arith, before, lies.1, between.1, low) | inr past ↦ omega (arith, past, lies.0, between.0, high) ])
+
+pub none_reached : (axes : List Axis) (from len : ℕ) (b : Option CellBox) → AreAxes axes → IsBox axes b → IfSome b (λ (b : CellBox). Misses from len (record { first = b.first; last = b.last })) → slots_in from len (cells_in axes b) ≡ []
+none_reached axes from len None grid box misses = refl
+none_reached axes from len (Some b) grid box misses = none_inside axes from len (record { first = b.first; last = b.last }) (Some b) grid box misses (omega arith, omega arith)
 
 -- a count is within the sum
 count_within : (counts : List ℕ) (c : ℕ) → get_or counts c 0 ≤ sum counts
@@ -86,32 +93,80 @@ module _ (axes : List Axis) (boxes : List (Option CellBox)) (grid : AreAxes axes
           ∙ sym (sources_more axes boxes (from + i) k rising);
     }
 
--- what goes on from each number to the next goes on to the last
-goes_on : (P : ℕ → Type 0) (n end : ℕ) → n ≤ end → ((k : ℕ) → n ≤ k → k < end → P k → P (k + 1)) → P n → P end
-goes_on P n zero le step h = let same : n ≡ 0 = omega (arith, le) in subst P same h
-goes_on P n (suc end) le step h = by_cell n (suc end)
-    (λ same. subst P same h)
-    (λ apart.
-    let next : end + 1 ≡ suc end = omega arith in
-    let sooner : n ≤ end = omega (arith, le, apart) in
-    subst P next (step end sooner (omega arith) (goes_on P n end sooner (λ k low high. step k low (omega (arith, high))) h)))
+-- ---- pairs that are added one after another
 
--- the pairs of a range that misses a band change neither its counts nor its rows
-module _ (axes : List Axis) (boxes : List (Option CellBox)) (ranges : List CellRange) (grid : AreAxes axes) (ordered : All (IsBox axes) boxes) (are : AreRangesOf boxes ranges) (from len k : ℕ) (known : k < length ranges)
-    (misses : Misses from len (range_at ranges k)) where
-  none_here : (pair : ℕ) → range_start boxes k ≤ pair → pair < range_start boxes (k + 1) → slots_in from len (cells_in axes (get_or boxes pair None)) ≡ []
-  none_here pair low high =
-      let inside : pair < length boxes = omega (arith, high) in
-      let number : pair / 256 ≡ k = omega (arith, low, high) in
-      none_inside axes from len (range_at ranges k) (get_or boxes pair None) grid (ordered pair None inside) misses (are k known pair inside number)
+module _ {A : Type 0} {slots : A → ℕ} {HasRoomFor : A → List ℕ → Type 0} {IsAdded : ℕ → A → A → List ℕ → Type 0} (lawful : IsIntake A slots HasRoomFor IsAdded) (slots_at : ℕ → List ℕ) (before : A) where
+  pub slots_kept : (n : ℕ) (after : A) → AreAdded IsAdded slots_at n before after → slots after ≡ slots before
+  slots_kept zero after added = ap slots added
+  slots_kept (suc n) after added = lawful.slots_stay n added.0 after (slots_at n) added.2 ∙ slots_kept n added.0 added.1
 
-  pub counts_kept : (counts : List ℕ) → CountsSoFar axes boxes from len (range_start boxes k) counts → CountsSoFar axes boxes from len (range_start boxes (k + 1)) counts
-  counts_kept counts = goes_on (λ n. CountsSoFar axes boxes from len n counts) (range_start boxes k) (range_start boxes (k + 1)) (omega arith) (λ pair low high h.
-      counts_more axes boxes grid ordered pair (omega (arith, high)) from len counts counts h (subst (AreCounted counts counts) (sym (none_here pair low high)) (counted_none counts)))
+  -- pairs that have no slot need not be added
+  pub added_none : (now : A) (n end : ℕ) → n ≤ end → ((pair : ℕ) → n ≤ pair → pair < end → slots_at pair ≡ []) → AreAdded IsAdded slots_at n before now → AreAdded IsAdded slots_at end before now
+  added_none now n zero le none added = let same : n ≡ 0 = omega (arith, le) in subst (λ (m : ℕ). AreAdded IsAdded slots_at m before now) same added
+  added_none now n (suc end) le none added = by_cell n (suc end)
+      (λ same. subst (λ (m : ℕ). AreAdded IsAdded slots_at m before now) same added)
+      (λ apart.
+      let sooner : n ≤ end = omega (arith, le, apart) in
+      let rest = added_none now n end sooner (λ pair low high. none pair low (omega (arith, high))) added in
+      (now, rest, subst (IsAdded end now now) (sym (none end sooner (omega arith))) (lawful.none end now)))
 
-  pub rows_kept : (f : Filling) → AreRowsAmong axes boxes from len (range_start boxes k) f.rows → AreRowsAmong axes boxes from len (range_start boxes (k + 1)) f.rows
-  rows_kept f = goes_on (λ n. AreRowsAmong axes boxes from len n f.rows) (range_start boxes k) (range_start boxes (k + 1)) (omega arith) (λ pair low high h.
-      rows_more axes boxes grid ordered pair (omega (arith, high)) from len f f h (subst (ArePut pair f f) (sym (none_here pair low high)) (lists_lawful.none pair f)))
+-- the pairs of a range that misses a band have no slot there
+pub none_here : (axes : List Axis) (boxes : List (Option CellBox)) (ranges : List CellRange) → AreAxes axes → All (IsBox axes) boxes → AreRangesOf boxes ranges → (from len k : ℕ) → k < length ranges → Misses from len (range_at ranges k) →
+    (pair : ℕ) → range_start boxes k ≤ pair → pair < range_start boxes (k + 1) → slots_of axes boxes from len pair ≡ []
+none_here axes boxes ranges grid ordered are from len k known misses pair low high =
+    let inside : pair < length boxes = omega (arith, high) in
+    let number : pair / 256 ≡ k = omega (arith, low, high) in
+    none_inside axes from len (range_at ranges k) (get_or boxes pair None) grid (ordered pair None inside) misses (are k known pair inside number)
+
+module _ (axes : List Axis) (boxes : List (Option CellBox)) (grid : AreAxes axes) (ordered : All (IsBox axes) boxes) (from len : ℕ) where
+  -- counts that begin at 0
+  module _ {A : Type 0} (counts : A → List ℕ) (before : A) (zeros : counts before ≡ replicate len 0) where
+    abbrev AreAddedTo : ℕ → A → Type 0
+    AreAddedTo n after = AreAdded (λ pair v w cells. AreCounted (counts v) (counts w) cells) (slots_of axes boxes from len) n before after
+
+    pub counted_so_far : (n : ℕ) (after : A) → n ≤ length boxes → AreAddedTo n after → CountsSoFar axes boxes from len n (counts after)
+    counted_so_far zero after le added =
+        rw (added, zeros) (record {
+          counted = record { one_each = length-replicate len 0; each = λ i inside. get_or-replicate len i 0 0 inside };
+          total = omega (arith, sum_by-replicate (λ n. n) len 0);
+        })
+    counted_so_far (suc n) after le added =
+        let sooner = counted_so_far n added.0 (omega (arith, le)) added.1 in
+        rw (← add-one n) (counts_more axes boxes grid ordered n (omega (arith, le)) from len (counts added.0) (counts after) sooner added.2)
+
+    pub counts_have_room : edges_of axes boxes ≤ 2 ^ 25 → (pair : ℕ) (now : A) → pair < length boxes → AreAddedTo pair now → CountsFit (counts now) (slots_of axes boxes from len pair)
+    counts_have_room few pair now below added = count_capacity axes boxes grid ordered pair below from len (counts now) (counted_so_far pair now (omega (arith, below)) added) few
+
+    pub all_counted : (after : A) (read : List ℕ) → read ≡ counts after → AreAddedTo (length boxes) after → AreCountsAmong axes boxes from len (length boxes) read × (sum read ≤ edges_of axes boxes)
+    all_counted after read is added =
+        let h = counted_so_far (length boxes) after (omega arith) added in
+        rw is (h.counted, omega (arith, h.total, ap (edges_of axes) (take_all (length boxes) boxes (omega arith))))
+
+  -- empty rows, each as long as its cell's count
+  module _ (before : Filling) (lengths : List ℕ) (long : before.lengths ≡ lengths) (empty : before.rows ≡ empty_rows lengths) (counted : AreCountsAmong axes boxes from len (length boxes) lengths) where
+    abbrev ArePutIn : ℕ → Filling → Type 0
+    ArePutIn n after = AreAdded ArePut (slots_of axes boxes from len) n before after
+
+    pub put_so_far : (n : ℕ) (after : Filling) → n ≤ length boxes → ArePutIn n after → (after.lengths ≡ lengths) × AreRowsAmong axes boxes from len n after.rows
+    put_so_far zero after le added =
+        rw (added, empty, counted.one_each) (long, record { one_each = length-replicate len []; each = λ i inside. get_or-replicate len i [] [] inside })
+    put_so_far (suc n) after le added =
+        let sooner = put_so_far n added.0 (omega (arith, le)) added.1 in
+        (added.2.lengths ∙ sooner.0, rw (← add-one n) (rows_more axes boxes grid ordered n (omega (arith, le)) from len added.0 after sooner.1 added.2))
+
+    pub rows_have_room : (pair : ℕ) (now : Filling) → pair < length boxes → ArePutIn pair now → HasCapacityFor now (slots_of axes boxes from len pair)
+    rows_have_room pair now below added =
+        let so_far = put_so_far pair now (omega (arith, below)) added in row_capacity axes boxes grid ordered pair below from len now so_far.1 (rw so_far.0 counted)
+
+    -- at last no row has a slot left
+    pub rows_are_full : (after : Filling) → ArePutIn (length boxes) after → AreBandRows axes boxes from len after.rows × (slots_left after ≡ 0)
+    rows_are_full after added =
+        let put = put_so_far (length boxes) after (omega arith) added in
+        let full : (r : ℕ) → r < length after.lengths → length (row_at after.rows r) ≡ get_or after.lengths r 0 = λ r lt.
+        let inside : r < len = omega (arith, lt, ap length put.0, counted.one_each) in
+        ap length (put.1.each r inside) ∙ sym (counted.each r inside) ∙ ap (λ (lengths : List ℕ). get_or lengths r 0) (sym put.0)
+        in
+        (put.1, omega (arith, written-ge after.rows after.lengths full))
 
 -- the number of edges fits
 pub edges_fit : (axes : List Axis) (boxes : List (Option CellBox)) → AreAxes axes → All (IsBox axes) boxes → cells_of axes ≤ 2 ^ 20 → length boxes ≤ 2 ^ 22 → edges_of axes boxes < 2 ^ 64

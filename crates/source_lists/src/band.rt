@@ -1,13 +1,10 @@
 //! Bands of cells.
-ghost use Rattle.std.specs.Prelude.{◌≡◌, ◌+◌, ◌^◌, ◌<◌, ◌≤◌, ◌↔◌, [], Some, IsTrue, IfSome, IfNone};
+ghost use Rattle.std.specs.Prelude.{◌≡◌, ◌+◌, ◌^◌, ◌<◌, ◌≤◌, ◌↔◌, Some, IsTrue, IfSome, IfNone};
 ghost use Rattle.std.specs.List.{range_with_len};
-ghost use Rattle.grid_quantiser.specs.Axes.{cells_of, AreAxes};
-ghost use Rattle.successor_box.specs.SuccessorBoxes.{cells_in};
-ghost use Rattle.plant_game.specs.BoxGame.{IsBox};
+ghost use Rattle.source_lists.specs.inside.CellRanges.{Misses};
 ghost use Rattle.source_lists.specs.inside.Tallies.{slots_in};
-ghost use Rattle.base.specs.declared.limits.TheConstants.{CELLS_LIMIT};
 
-use grid_quantiser::{CellBox, Grid};
+use grid_quantiser::CellBox;
 
 /// Cells that follow one another. The first of them has the slot 0.
 #[derive(Clone, Copy)]
@@ -19,13 +16,10 @@ pub(crate) struct Band {
 impl Band {
     /// A box, unless its corners show that it has no cell here.
     #[inline]
-    pub(crate) fn reached(&self, grid: &Grid, b: Option<CellBox>) -> Option<CellBox>
-        requires grid { AreAxes grid.now }
-        requires limit { cells_of grid.now ≤ CELLS_LIMIT }
-        requires ordered { IsBox grid.now b }
-        requires within { self.now.from + self.now.len ≤ cells_of grid.now }
+    pub(crate) fn reached(&self, b: Option<CellBox>) -> Option<CellBox>
+        requires { self.now.from + self.now.len < 2 ^ 32 }
         ensures same { IfSome result (λ reached. b ≡ Some reached) }
-        ensures none { IfNone result (slots_in self.now.from self.now.len (cells_in grid.now b) ≡ []) }
+        ensures none { IfNone result (IfSome b (λ b. Misses self.now.from self.now.len (record { first = b.first; last = b.last }))) }
     {
         let b = b?;
         if b.last < self.from || self.from + self.len <= b.first {

@@ -1,15 +1,14 @@
 //! The pairs that lead to each cell of a band.
-ghost use Rattle.std.specs.Prelude.{◌≡◌, ◌+◌, ◌*◌, ◌^◌, ◌<◌, ◌≤◌, length, sum, IsTrue, IfOk, IfSome};
+ghost use Rattle.std.specs.Prelude.{◌≡◌, ◌+◌, ◌^◌, ◌<◌, ◌≤◌, length, IsTrue, IfOk, IfSome};
 ghost use Rattle.std.specs.List.{All, range_with_len};
 ghost use Rattle.grid_quantiser.specs.Axes.{cells_of, AreAxes};
-ghost use Rattle.edge_rows.specs.Rows.{empty_rows};
 ghost use Rattle.successor_box.specs.SuccessorBoxes.{cells_in};
-ghost use Rattle.source_lists.specs.declared.cell_ranges.TheConstants.{PAIRS_FOR_A_RANGE};
-ghost use Rattle.source_lists.specs.inside.CellRanges.{Misses, range_at, range_start, AreRangesOf};
+ghost use Rattle.source_lists.specs.inside.CellRanges.{Misses, range_at, AreRangesOf};
 ghost use Rattle.source_lists.specs.Shapes.{cells_from, EndsBy, HasSegmentsOf, EachBoxHasSegments};
 ghost use Rattle.plant_game.specs.BoxGame.{IsBox, edges_of};
-ghost use Rattle.source_lists.specs.inside.BandRows.{AreRowsAmong, AreBandRows};
-ghost use Rattle.source_lists.specs.inside.Tallies.{slots_in, AreCounted, CountsFit, AreCountsAmong, CountsSoFar};
+ghost use Rattle.source_lists.specs.inside.BandRows.{AreBandRows};
+ghost use Rattle.source_lists.specs.inside.Intakes.{AreAdded, HasRoomForEach};
+ghost use Rattle.source_lists.specs.inside.Tallies.{slots_in, slots_of};
 ghost use Rattle.base.specs.declared.limits.TheConstants.{CELLS_LIMIT, EDGES_LIMIT, PAIRS_LIMIT};
 
 use crate::band::Band;
@@ -19,7 +18,7 @@ use crate::shapes::{Segment, Shapes};
 use edge_rows::{NoMemory, RowFill, Rows};
 use grid_quantiser::{CellBox, Grid};
 use pair_box::PairBox;
-use std::alloc::{AllocError, Global};
+use std::alloc::Global;
 
 /// The pairs that lead to each cell of a band, in rising order.
 pub(crate) fn fill_band(
@@ -40,93 +39,23 @@ pub(crate) fn fill_band(
     requires within { band.from + band.len ≤ cells_of grid.now }
     ensures { IfOk result (λ rows. AreBandRows grid.now boxes.now band.from band.len rows) }
 {
-    let counts = count_sources(alloc, grid, shapes, boxes, ranges, band)?;
-    let mut fill = RowFill::new(alloc, &counts)?;
-    put_sources(grid, shapes, boxes, ranges, band, &mut fill);
+    let each = vec![in alloc; 0; band.len as usize]?;
+    let mut counts = Counts { each };
+    add_pairs(grid, shapes, boxes, ranges, band, &mut counts);
+    let mut fill = RowFill::new(alloc, &counts.each)?;
+    add_pairs(grid, shapes, boxes, ranges, band, &mut fill);
     Ok(fill.finish())
 }
 
-/// How many pairs lead to each cell of a band.
-fn count_sources(
-    alloc: Global,
+/// Adds each pair, in rising order, at the slots of its box in a band.
+#[inline]
+fn add_pairs<I: Intake>(
     grid: &Grid,
     shapes: &Shapes,
     boxes: &[PairBox],
     ranges: &[CellRange],
     band: Band,
-) -> Result<Vec<u32>, AllocError>
-    requires grid { AreAxes grid.now }
-    requires limit { cells_of grid.now ≤ CELLS_LIMIT }
-    requires ordered { All (IsBox grid.now) boxes.now }
-    requires segments { EachBoxHasSegments grid.now shapes.now boxes.now }
-    requires ranges { AreRangesOf boxes.now ranges.now }
-    requires pairs { length boxes.now ≤ PAIRS_LIMIT }
-    requires edges { edges_of grid.now boxes.now ≤ EDGES_LIMIT }
-    requires within { band.from + band.len ≤ cells_of grid.now }
-    ensures counts { IfOk result (λ counts. AreCountsAmong grid.now boxes.now band.from band.len (length boxes.now) counts.items) }
-    ensures total { IfOk result (λ counts. sum counts.items ≤ edges_of grid.now boxes.now) }
-{
-    let mut counts = vec![in alloc; 0; band.len as usize]?;
-    for k in 0..boxes.len().div_ceil(PAIRS_FOR_A_RANGE) {
-        if !is_skipped(ranges, k, band) {
-            count_pairs(grid, shapes, boxes, k, band, &mut counts);
-        }
-    }
-    Ok(counts)
-}
-
-/// Counts the boxes of the pairs of a range.
-#[inline]
-fn count_pairs(
-    grid: &Grid,
-    shapes: &Shapes,
-    boxes: &[PairBox],
-    k: usize,
-    band: Band,
-    counts: &mut [u32],
-)
-    requires grid { AreAxes grid.now }
-    requires limit { cells_of grid.now ≤ CELLS_LIMIT }
-    requires ordered { All (IsBox grid.now) boxes.now }
-    requires segments { EachBoxHasSegments grid.now shapes.now boxes.now }
-    requires pairs { length boxes.now ≤ PAIRS_LIMIT }
-    requires edges { edges_of grid.now boxes.now ≤ EDGES_LIMIT }
-    requires within { band.from + band.len ≤ cells_of grid.now }
-    requires range { k * PAIRS_FOR_A_RANGE < length boxes.now }
-    requires so_far { CountsSoFar grid.now boxes.now band.from band.len (range_start boxes.now k) counts.old }
-    ensures { CountsSoFar grid.now boxes.now band.from band.len (range_start boxes.now (k + 1)) counts.new }
-{
-    let from = k * PAIRS_FOR_A_RANGE;
-    let end = boxes.len().min(from + PAIRS_FOR_A_RANGE);
-    for pair in from..end {
-        count_box(grid, shapes, boxes[pair].get(), band, counts);
-    }
-}
-
-/// Adds one to the count of each slot of a box in a band.
-#[inline]
-fn count_box(grid: &Grid, shapes: &Shapes, b: Option<CellBox>, band: Band, counts: &mut [u32])
-    requires grid { AreAxes grid.now }
-    requires limit { cells_of grid.now ≤ CELLS_LIMIT }
-    requires ordered { IsBox grid.now b }
-    requires segments { IfSome b (HasSegmentsOf grid.now shapes.now) }
-    requires within { band.from + band.len ≤ cells_of grid.now }
-    requires one_each { length counts.old ≡ band.len }
-    requires capacity { CountsFit counts.old (slots_in band.from band.len (cells_in grid.now b)) }
-    ensures { AreCounted counts.old counts.new (slots_in band.from band.len (cells_in grid.now b)) }
-{
-    let mut counts = Counts { each: counts };
-    add_box(grid, shapes, b, band, 0, &mut counts);
-}
-
-/// Puts each pair, in rising order, at the slots of its box in a band.
-fn put_sources(
-    grid: &Grid,
-    shapes: &Shapes,
-    boxes: &[PairBox],
-    ranges: &[CellRange],
-    band: Band,
-    fill: &mut RowFill,
+    intake: &mut I,
 )
     requires grid { AreAxes grid.now }
     requires limit { cells_of grid.now ≤ CELLS_LIMIT }
@@ -135,44 +64,19 @@ fn put_sources(
     requires ranges { AreRangesOf boxes.now ranges.now }
     requires pairs { length boxes.now ≤ PAIRS_LIMIT }
     requires within { band.from + band.len ≤ cells_of grid.now }
-    requires empty { fill.old.rows ≡ empty_rows fill.old.lengths }
-    requires counts { AreCountsAmong grid.now boxes.now band.from band.len (length boxes.now) fill.old.lengths }
-    ensures rows { AreBandRows grid.now boxes.now band.from band.len fill.new.rows }
-    ensures lengths { fill.new.lengths ≡ fill.old.lengths }
+    requires one_each { I.slots intake.old ≡ band.len }
+    requires room { HasRoomForEach I.HasRoomFor I.IsAdded (slots_of grid.now boxes.now band.from band.len) (length boxes.now) intake.old }
+    ensures { AreAdded I.IsAdded (slots_of grid.now boxes.now band.from band.len) (length boxes.now) intake.old intake.new }
 {
     for k in 0..boxes.len().div_ceil(PAIRS_FOR_A_RANGE) {
-        if !is_skipped(ranges, k, band) {
-            put_pairs(grid, shapes, boxes, k, band, fill);
+        if is_skipped(ranges, k, band) {
+            continue;
         }
-    }
-}
-
-/// Puts each pair of a range, in rising order, at the slots of its box in a band.
-#[inline]
-fn put_pairs(
-    grid: &Grid,
-    shapes: &Shapes,
-    boxes: &[PairBox],
-    k: usize,
-    band: Band,
-    fill: &mut RowFill,
-)
-    requires grid { AreAxes grid.now }
-    requires limit { cells_of grid.now ≤ CELLS_LIMIT }
-    requires ordered { All (IsBox grid.now) boxes.now }
-    requires segments { EachBoxHasSegments grid.now shapes.now boxes.now }
-    requires pairs { length boxes.now ≤ PAIRS_LIMIT }
-    requires within { band.from + band.len ≤ cells_of grid.now }
-    requires range { k * PAIRS_FOR_A_RANGE < length boxes.now }
-    requires counts { AreCountsAmong grid.now boxes.now band.from band.len (length boxes.now) fill.old.lengths }
-    requires rows { AreRowsAmong grid.now boxes.now band.from band.len (range_start boxes.now k) fill.old.rows }
-    ensures rows { AreRowsAmong grid.now boxes.now band.from band.len (range_start boxes.now (k + 1)) fill.new.rows }
-    ensures lengths { fill.new.lengths ≡ fill.old.lengths }
-{
-    let from = k * PAIRS_FOR_A_RANGE;
-    let end = boxes.len().min(from + PAIRS_FOR_A_RANGE);
-    for pair in from..end {
-        add_box(grid, shapes, boxes[pair].get(), band, pair as u32, fill);
+        let from = k * PAIRS_FOR_A_RANGE;
+        let end = boxes.len().min(from + PAIRS_FOR_A_RANGE);
+        for pair in from..end {
+            add_box(grid, shapes, boxes[pair].get(), band, pair as u32, intake);
+        }
     }
 }
 
@@ -204,7 +108,7 @@ fn add_box<I: Intake>(
     requires room { I.HasRoomFor intake.old (slots_in band.from band.len (cells_in grid.now b)) }
     ensures { I.IsAdded pair intake.old intake.new (slots_in band.from band.len (cells_in grid.now b)) }
 {
-    if let Some(b) = band.reached(grid, b) {
+    if let Some(b) = band.reached(b) {
         let segments = shapes.segments_of(b);
         if band.holds(b) {
             add_inside(b.first - band.from, segments, pair, intake);

@@ -30,20 +30,20 @@ pub(crate) trait Intake {
 
 /// Counts, one for each slot.
 #[derive(Drop)]
-pub(crate) struct Counts<'a> {
-    pub(crate) each: &'a mut [u32],
+pub(crate) struct Counts {
+    pub(crate) each: Vec<u32>,
 }
 
-impl Intake for Counts<'_> {
-    ghost use Rattle.std.specs.Prelude.{◌≡◌, length};
+impl Intake for Counts {
+    ghost use Rattle.std.specs.Prelude.{length};
     ghost use Rattle.source_lists.specs.inside.Tallies.{AreCounted, CountsFit};
     ghost use Rattle.source_lists.specs.inside.IntakeLaws.{counts_lawful};
 
-    ghost slots = { λ counts. length counts.each.now };
+    ghost slots = { λ counts. length counts.each.items };
 
-    ghost HasRoomFor = { λ counts at. CountsFit counts.each.now at };
+    ghost HasRoomFor = { λ counts at. CountsFit counts.each.items at };
 
-    ghost IsAdded = { λ pair before after at. AreCounted before.each.now after.each.now at × (after.each.ghost_name ≡ before.each.ghost_name) };
+    ghost IsAdded = { λ pair before after at. AreCounted before.each.items after.each.items at };
 
     #[inline]
     fn add(&mut self, first: u32, len: u32, _pair: u32) {
@@ -52,7 +52,7 @@ impl Intake for Counts<'_> {
         add_one(&mut self.each[from..to]);
     }
 
-    ghost lawful = { counts_lawful _ _ (λ counts. counts.each.now) (λ counts. counts.each.ghost_name) };
+    ghost lawful = { counts_lawful (λ counts. counts.each.items) };
 }
 
 /// Lists of pairs, one for each slot.

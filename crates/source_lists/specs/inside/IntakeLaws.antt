@@ -17,14 +17,12 @@ counted_more before now after cells more h g = record {
   total = omega (arith, g.total, h.total, length-append cells more);
 }
 
--- counts behind a name, which stays
-pub counts_lawful : (A N : Type 0) (counts : A → List ℕ) (name : A → N) →
-    IsIntake A (λ v. length (counts v)) (λ v cells. CountsFit (counts v) cells) (λ pair v w cells. AreCounted (counts v) (counts w) cells × (name w ≡ name v))
-counts_lawful A N counts name = record {
-  slots_stay = λ pair before after cells h. h.0.long;
-  none = λ pair v. (counted_none (counts v), refl);
-  more = λ pair before now after cells more h g. (counted_more (counts before) (counts now) (counts after) cells more h.0 g.0, g.1 ∙ h.1);
-  room_left = λ pair before now done cells later h capacity c. omega (arith, h.0.each c, capacity c, times-append c (done ++ cells) later, times-append c done cells);
+pub counts_lawful : {A : Type 0} (counts : A → List ℕ) → IsIntake A (λ v. length (counts v)) (λ v cells. CountsFit (counts v) cells) (λ pair v w cells. AreCounted (counts v) (counts w) cells)
+counts_lawful counts = record {
+  slots_stay = λ pair before after cells h. h.long;
+  none = λ pair v. counted_none (counts v);
+  more = λ pair before now after cells more. counted_more (counts before) (counts now) (counts after) cells more;
+  room_left = λ pair before now done cells later h capacity c. omega (arith, h.each c, capacity c, times-append c (done ++ cells) later, times-append c done cells);
 }
 
 pub put_more : (pair : ℕ) (before now after : Filling) (cells more : List ℕ) → ArePut pair before now cells → ArePut pair now after more → ArePut pair before after (cells ++ more)

@@ -5,6 +5,8 @@ use Rattle.grid_quantiser.specs.declared.axis.Axis.{Axis}
 use Rattle.grid_quantiser.specs.declared.boxes.CellBox.{CellBox}
 use Rattle.game_core.specs.Counts.{times}
 use Rattle.edge_rows.specs.Rows.{Filling, row_at}
+use Rattle.pair_box.specs.PlantBoxes.{box_at}
+use Rattle.successor_box.specs.SuccessorBoxes.{cells_in}
 use Rattle.plant_game.specs.BoxGame.{edges_of}
 use Rattle.source_lists.specs.SourceLists.{sources_among}
 
@@ -31,6 +33,10 @@ HasCapacityFor f cells = (c : ℕ) → c < length f.rows → length (row_at f.ro
 -- the slots in a band, which has len cells from `from` on, of the cells that lie in it
 abbrev pub slots_in : ℕ → ℕ → List ℕ → List ℕ
 slots_in from len cells = map (λ c. c - from) (filter (λ c. leb from c && ltb c (from + len)) cells)
+
+-- the slots in a band of the cells of a pair's box
+abbrev pub slots_of : List Axis → List (Option CellBox) → ℕ → ℕ → ℕ → List ℕ
+slots_of axes boxes from len pair = slots_in from len (cells_in axes (box_at boxes pair))
 
 -- The count of each cell of a band is how many of the first n pairs lead to it.
 pub record AreCountsAmong (axes : List Axis) (boxes : List (Option CellBox)) (from len n : ℕ) (counts : List ℕ) : Type 0 where

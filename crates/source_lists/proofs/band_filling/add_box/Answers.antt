@@ -1,6 +1,7 @@
 use Rattle.std.proofs.Common.{ℕ, ◌-◌, All, sym, subst}
 use Rattle.source_lists.specs.Shapes.{EndsBy}
 use Rattle.source_lists.proofs.ListedShapes.{box_segments_end, box_inside}
+use Rattle.source_lists.proofs.SourceSteps.{none_reached}
 use Rattle.source_lists.proofs.band_filling.add_box.Goals as goal
 
 pub add_inside-requires-clause-within : goal.add_inside-requires-clause-within
@@ -24,3 +25,9 @@ returns-then-holds g c =
 pub add_segments-requires-clause-within : goal.add_segments-requires-clause-within
 add_segments-requires-clause-within g c =
     box_segments_end c.args.grid.now c.args.shapes.now c.args.b c.in-Some.b c.in-Some.ensures.same c.requires.grid c.requires.limit c.requires.ordered c.requires.segments c.segments_of-segments.result.now c.segments_of-segments.ensures
+
+pub returns-in_default : goal.returns-in_default
+returns-in_default g c =
+    let band = c.args.band in
+    let none = none_reached c.args.grid.now band.from band.len c.args.b c.requires.grid c.requires.ordered c.in_default.ensures.none in
+    subst (g.I.Intake.IsAdded c.args.pair c.args.intake.now c.args.intake.now) (sym none) (g.met.I.Intake.lawful.none c.args.pair c.args.intake.now)
