@@ -39,7 +39,7 @@ impl Arrivals {
         requires turn { turn < length p.now.targets }
         ensures { IfOk result (AreTargetMarks p.now (G.game g.now) turn) }
     {
-        let mut marks = vec![in alloc; Mark::Plain; g.cells() as usize].map_err(|_| NoMemory)?;
+        let mut marks = vec![in alloc; Mark::Plain; g.cells() as usize]?;
         mark_target(p, turn, &mut marks);
         mark_obstacles(g, &mut marks);
         Ok(Arrivals { marks })
