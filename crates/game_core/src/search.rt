@@ -67,9 +67,8 @@ impl Search {
         ensures { IsGathered (G.game g.now) (G.game g.now).cells self.new }
     {
         for c in 0..g.cells() {
-            match g.mark(c) {
-                Mark::Goal => self.settle(c, Row { rank: 0, input: 0 }),
-                Mark::Obstacle | Mark::Plain => {}
+            if g.mark(c) == Mark::Goal {
+                self.settle(c, Row { rank: 0, input: 0 });
             }
         }
     }
@@ -129,9 +128,8 @@ impl Search {
         let inputs = g.inputs();
         let c = pair / inputs;
         let input = pair % inputs;
-        match g.mark(c) {
-            Mark::Plain => self.offer(c, Row { rank, input }),
-            Mark::Goal | Mark::Obstacle => {}
+        if g.mark(c) == Mark::Plain {
+            self.offer(c, Row { rank, input });
         }
     }
 

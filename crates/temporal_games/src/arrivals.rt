@@ -70,8 +70,5 @@ impl Arrivals {
 fn is_gone(mark: Mark, row: Option<Row>) -> bool
     ensures { result ≡ is_gone mark row }
 {
-    match mark {
-        Mark::Goal => row.is_none(),
-        Mark::Obstacle | Mark::Plain => false,
-    }
+    mark == Mark::Goal && row.is_none()
 }
