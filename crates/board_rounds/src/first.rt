@@ -1,5 +1,5 @@
 //! The list of the first round.
-ghost use Rattle.std.specs.Prelude.{◌≡◌, ◌+◌, ◌<◌, ◌≤◌, [], ◌∷◌, ◌++◌, cond, filter, vec_len};
+ghost use Rattle.std.specs.Prelude.{◌≡◌, ◌≤◌, [], filter, vec_len};
 ghost use Rattle.std.specs.Vec.{vec_capacity};
 ghost use Rattle.std.specs.List.{range_with_len};
 ghost use Rattle.cell_counters.specs.BoardModels.{new_root};
@@ -19,18 +19,8 @@ pub(crate) fn first_list<L: Rule>(board: &Board, root: &mut Root, list: &mut Vec
     ensures capacity { vec_capacity list.new ≡ vec_capacity list.old }
 {
     for c in 0..rule.cells() {
-        let first = rule.is_first(board, root, c);
-        add_if(list, c, first);
-    }
-}
-
-fn add_if(list: &mut Vec<u32>, c: u32, first: bool)
-    requires { vec_len list.old < vec_capacity list.old }
-    ensures items { list.new.items ≡ list.old.items ++ cond first (c ∷ []) [] }
-    ensures len { vec_len list.new ≤ vec_len list.old + 1 }
-    ensures capacity { vec_capacity list.new ≡ vec_capacity list.old }
-{
-    if first {
-        list.push_reserved(c);
+        if rule.is_first(board, root, c) {
+            list.push_reserved(c);
+        }
     }
 }

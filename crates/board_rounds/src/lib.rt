@@ -6,7 +6,6 @@
 //! empty list. The crate knows no rule of a game.
 #![tactic(auto)]
 
-mod capacity;
 mod first;
 mod logged;
 mod numbers;

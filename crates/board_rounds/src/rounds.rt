@@ -10,7 +10,6 @@ ghost use Rattle.board_rounds.specs.inside.RoundInvariant.{IsRoundInvariant, to_
 ghost use Rattle.board_rounds.specs.inside.WorkerSteps.{AllAtWork};
 ghost use Rattle.base.specs.declared.limits.TheConstants.{WORKERS_LIMIT};
 
-use crate::capacity::capacity_for;
 use crate::first::first_list;
 use crate::logged::read_log;
 use crate::round_job::RoundJob;
@@ -43,8 +42,8 @@ impl Rounds {
     pub fn new(alloc: Global, root: Root, cells: u32, workers: u32) -> Result<Rounds, NoMemory>
         ensures { IfOk result (IsUnused root cells workers) }
     {
-        let members = capacity_for(alloc, workers)?;
-        let list = capacity_for(alloc, cells)?;
+        let members = Vec::with_capacity(alloc, workers as usize)?;
+        let list = Vec::with_capacity(alloc, cells as usize)?;
         let tally = Tally {
             cuts: 0,
             offers: 0,

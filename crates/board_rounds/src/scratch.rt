@@ -54,9 +54,7 @@ impl<S: Start> Scratch<S> {
         let numbers = Scratch::<S>::numbers(rt, alloc, g)?;
         let cells = g.cells();
         let counters = S::count_counters(g);
-        let Ok((board, root)) = Board::of_words(alloc, numbers.as_slice(), counters, cells) else {
-            return Err(NoMemory);
-        };
+        let (board, root) = Board::of_words(alloc, numbers.as_slice(), counters, cells)?;
         // The board has its own copy, and what follows takes memory.
         drop(numbers);
         let rounds = Rounds::new(alloc, root, cells, workers)?;

@@ -70,7 +70,3 @@ count_again rows c old row lt e =
     let sums = sum_by-set (λ o. one_if (is_some o)) rows c (Some row) None lt in
     let was : one_if (is_some (row_of rows c)) ≡ 1 = ap (λ (o : Option Row). one_if (is_some o)) e in
     omega arith
-
-pub not_goal : (m : Mark) → (m ≡ Obstacle) ⊎ (m ≡ Plain) → m ≢ Goal
-not_goal m (inl o) e = cc
-not_goal m (inr p) e = cc

@@ -9,7 +9,6 @@
 
 mod answer;
 mod falling;
-mod fan_counts;
 mod game;
 mod judge;
 pub mod laws;

@@ -1,10 +1,9 @@
-ghost use Rattle.std.specs.Prelude.{◌≡◌, ◌+◌, ◌<◌, None, length, slice_index, IfOk};
+ghost use Rattle.std.specs.Prelude.{◌≡◌, ◌+◌, ◌<◌, None, map, length, slice_index, IfOk};
 ghost use Rattle.game_core.specs.Game.{pairs_of};
 ghost use Rattle.game_core.specs.Solution.{row_of, rank_at};
 ghost use Rattle.game_core.specs.inside.Search.{search_at_first, with_row, with_offer, with_pair_done, after_cut, IsGathered, IsSearched};
 
 use crate::answer::Answer;
-use crate::fan_counts::fans;
 use crate::game::{Graph, Mark, Row};
 use base::NoMemory;
 use std::alloc::Global;
@@ -14,7 +13,7 @@ use std::marker::Model;
 #[derive(Drop)]
 pub(crate) struct Search {
     /// For each pair, how many of its successors are still to be taken.
-    left: Vec<u64>,
+    left: Vec<u32>,
     answer: Answer,
     /// The first `found` are the cells with a row, in the order of their ranks.
     order: Vec<u32>,
@@ -68,9 +67,8 @@ impl Search {
         ensures { IsGathered (G.game g.now) (G.game g.now).cells self.new }
     {
         for c in 0..g.cells() {
-            match g.mark(c) {
-                Mark::Goal => self.settle(c, Row { rank: 0, input: 0 }),
-                Mark::Obstacle | Mark::Plain => {}
+            if g.mark(c) == Mark::Goal {
+                self.settle(c, Row { rank: 0, input: 0 });
             }
         }
     }
@@ -130,9 +128,8 @@ impl Search {
         let inputs = g.inputs();
         let c = pair / inputs;
         let input = pair % inputs;
-        match g.mark(c) {
-            Mark::Plain => self.offer(c, Row { rank, input }),
-            Mark::Goal | Mark::Obstacle => {}
+        if g.mark(c) == Mark::Plain {
+            self.offer(c, Row { rank, input });
         }
     }
 
@@ -161,4 +158,16 @@ impl Search {
         self.order[self.found] = c;
         self.found += 1;
     }
+}
+
+/// How many successors each pair has.
+fn fans<G: Graph>(alloc: Global, g: &G) -> Result<Vec<u32>, NoMemory>
+    ensures { IfOk result (λ v. v.items ≡ map length (G.game g.now).successors) }
+{
+    let pairs = g.cells() * g.inputs();
+    let mut fans = vec![in alloc; 0; pairs as usize]?;
+    for pair in 0..pairs {
+        fans[pair as usize] = g.fan(pair);
+    }
+    Ok(fans)
 }

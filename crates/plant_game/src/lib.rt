@@ -10,4 +10,4 @@ pub mod laws;
 mod marks;
 
 pub use build_fault::BuildFault;
-pub use marks::{build_marks, mark_target};
+pub use marks::{build_marks, mark_obstacles, mark_target};

@@ -45,8 +45,8 @@ pub fn mark_target(p: &Plant, target: u32, marks: &mut [Mark])
     mark_box(grid, grid.within(&lo, &hi), Mark::Goal, marks);
 }
 
-/// Makes obstacles of the cells that touch one.
-fn mark_obstacles(p: &Plant, marks: &mut [Mark])
+/// Makes obstacles of the cells that touch one. There is one mark for each cell.
+pub fn mark_obstacles(p: &Plant, marks: &mut [Mark])
     requires { length marks.old ≡ cells_of (axes_of p.now) }
     ensures { AreMarked Obstacle (IsObstacleCell p.now) marks.old marks.new }
 {

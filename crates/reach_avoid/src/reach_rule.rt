@@ -3,7 +3,7 @@ ghost use Rattle.std.specs.Prelude.{◌≡◌, ◌^◌, ◌<◌, ◌≤◌, Some
 ghost use Rattle.game_core.specs.declared.game.Row.{Row};
 ghost use Rattle.game_core.specs.Game.{IsGraph, pairs_of};
 ghost use Rattle.reach_avoid.specs.ReachBoards.{IsBoardOf};
-ghost use Rattle.reach_avoid.specs.inside.ReachRounds.{is_goal, row_in};
+ghost use Rattle.reach_avoid.specs.inside.ReachRounds.{row_in};
 ghost use Rattle.reach_avoid.specs.inside.ReachSteps.{DueOffers, Cuts};
 ghost use Rattle.base.specs.declared.limits.TheConstants.{CELLS_LIMIT};
 
@@ -26,7 +26,7 @@ pub(crate) struct Reach<'a, G: Graph> {
 
 impl<G: Graph + Sync> Rule for Reach<'_, G> {
     ghost use Rattle.game_core.specs.Game.{mark_of};
-    ghost use Rattle.reach_avoid.specs.inside.ReachRounds.{KeepsRule, row_in, word_after};
+    ghost use Rattle.reach_avoid.specs.inside.ReachRounds.{KeepsRule, is_goal, row_in, word_after};
     ghost use Rattle.reach_avoid.specs.inside.ReachInvariant.{IsReachInvariant, IsRunnable};
 
     ghost game = { λ rule. G.game rule.graph.now };
@@ -50,7 +50,7 @@ impl<G: Graph + Sync> Rule for Reach<'_, G> {
     }
 
     fn is_first(&self, _board: &Board, _root: &mut Root, c: u32) -> bool {
-        is_goal(self.graph.mark(c))
+        self.graph.mark(c) == Mark::Goal
     }
 
     fn cut(&self, board: &Board, worker: &mut Worker, round: u32, pair: u32) {
@@ -92,15 +92,6 @@ impl<G: Graph> Reach<'_, G> {
             // Each cell is logged once at most, so there is a slot for it.
             let _ = worker.log(board, cell);
         }
-    }
-}
-
-fn is_goal(mark: Mark) -> bool
-    ensures { result ≡ is_goal mark }
-{
-    match mark {
-        Mark::Goal => true,
-        Mark::Obstacle | Mark::Plain => false,
     }
 }
 

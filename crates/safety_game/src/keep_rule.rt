@@ -2,7 +2,7 @@
 ghost use Rattle.std.specs.Prelude.{◌≡◌, ◌<◌, length};
 ghost use Rattle.game_core.specs.Game.{IsGraph, pairs_of, successors_at};
 ghost use Rattle.safety_game.specs.KeepBoards.{IsBoardOf};
-ghost use Rattle.safety_game.specs.inside.KeepRounds.{is_whole, IsRowDecoded, AreFewCuts};
+ghost use Rattle.safety_game.specs.inside.KeepRounds.{is_whole, AreFewCuts};
 ghost use Rattle.safety_game.specs.inside.KeepSteps.{CutsFirst, CellCuts, Cuts};
 
 use board_rounds::{Rule, Worker};
@@ -55,7 +55,16 @@ impl<G: Graph + Sync> Rule for Keep<'_, G> {
     }
 
     fn row(&self, board: &Board, root: &mut Root, c: u32) -> Option<Row> {
-        decoded_row(self.graph, board, root, c)
+        if self.graph.mark(c) == Mark::Obstacle {
+            return None;
+        }
+        let first = c * self.inputs;
+        for input in 0..self.inputs {
+            if is_whole(self.graph, board, root, first + input) {
+                return Some(Row { rank: 0, input });
+            }
+        }
+        None
     }
 
     ghost leads_on = { λ rule board fit. fit.leads };
@@ -99,28 +108,6 @@ impl<G: Graph> Keep<'_, G> {
             let _ = worker.log(board, cell);
         }
     }
-}
-
-/// The row of a cell's least whole pair, none at an obstacle.
-fn decoded_row<G: Graph>(g: &G, board: &Board, root: &mut Root, c: u32) -> Option<Row>
-    requires board { IsBoardOf (G.game g.now) board.now }
-    requires root { (root.old.board ≡ board.now) × (root.old.out ≡ 0) }
-    requires few { AreFewCuts (G.game g.now) root.old.accounts }
-    requires cell { c < (G.game g.now).cells }
-    ensures root { root.new ≡ root.old }
-    ensures row { IsRowDecoded (G.game g.now) root.old.accounts c result }
-{
-    if g.mark(c) == Mark::Obstacle {
-        return None;
-    }
-    let inputs = g.inputs();
-    let first = c * inputs;
-    for input in 0..inputs {
-        if is_whole(g, board, root, first + input) {
-            return Some(Row { rank: 0, input });
-        }
-    }
-    None
 }
 
 /// Whether a pair is enabled, and was never cut.

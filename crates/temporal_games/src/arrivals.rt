@@ -1,13 +1,10 @@
 //! The arrivals of a turn.
 ghost use Rattle.std.specs.Prelude.{◌≡◌, ◌<◌, true, false, length, count_by, IfOk};
-ghost use Rattle.game_core.specs.declared.game.Mark.TheVariants.{Obstacle};
-ghost use Rattle.game_core.specs.Game.{mark_of};
 ghost use Rattle.plant_game.specs.Abstraction.{IsGameOf};
-ghost use Rattle.plant_game.specs.Marks.{AreMarked};
 ghost use Rattle.temporal_games.specs.inside.PatrolSearch.{withdrawn, is_gone, is_goal, AreTargetMarks};
 
 use game_core::{Answer, Graph, Mark, NoMemory, Row};
-use plant_game::mark_target;
+use plant_game::{mark_obstacles, mark_target};
 use plant_record::Plant;
 use std::alloc::Global;
 use std::marker::Model;
@@ -39,9 +36,9 @@ impl Arrivals {
         requires turn { turn < length p.now.targets }
         ensures { IfOk result (AreTargetMarks p.now (G.game g.now) turn) }
     {
-        let mut marks = vec![in alloc; Mark::Plain; g.cells() as usize].map_err(|_| NoMemory)?;
+        let mut marks = vec![in alloc; Mark::Plain; g.cells() as usize]?;
         mark_target(p, turn, &mut marks);
-        mark_obstacles(g, &mut marks);
+        mark_obstacles(p, &mut marks);
         Ok(Arrivals { marks })
     }
 
@@ -69,24 +66,9 @@ impl Arrivals {
     }
 }
 
-/// Makes obstacles of the obstacles of a graph.
-fn mark_obstacles<G: Graph>(g: &G, marks: &mut [Mark])
-    requires { length marks.old ≡ (G.game g.now).cells }
-    ensures { AreMarked Obstacle (λ c. mark_of (G.game g.now) c ≡ Obstacle) marks.old marks.new }
-{
-    for c in 0..g.cells() {
-        if g.mark(c) == Mark::Obstacle {
-            marks[c as usize] = Mark::Obstacle;
-        }
-    }
-}
-
 /// Whether a goal has no row.
 fn is_gone(mark: Mark, row: Option<Row>) -> bool
     ensures { result ≡ is_gone mark row }
 {
-    match mark {
-        Mark::Goal => row.is_none(),
-        Mark::Obstacle | Mark::Plain => false,
-    }
+    mark == Mark::Goal && row.is_none()
 }

@@ -31,7 +31,7 @@ returns g c =
     numbers_first game (g.S.Start.number game) c.as_slice.result.now c.cells-cells.result (c.as_slice.ensures ∙ c.in_ok-numbers.ensures) c.cells-cells.ensures ∙ sym ((g.met.S.Start g.world.𝓛 g.world.𝓜 g.world.𝓡 (here g.world)).joined game) in
     let count = c.count_counters-counters.ensures in
     record {
-      counters = c.in-Ok.ensures.starts ∙ ap₂ (λ (n : ℕ) (l : List ℕ). take n l) count numbers ∙ take-append_seam counters words;
-      words = c.in-Ok.ensures.least ∙ ap₂ (λ (n : ℕ) (l : List ℕ). drop n l) count numbers ∙ drop-append_seam counters words;
-      log = c.in-Ok.ensures.slots ∙ c.cells-cells.ensures;
+      counters = c.in_ok-board.ensures.starts ∙ ap₂ (λ (n : ℕ) (l : List ℕ). take n l) count numbers ∙ take-append_seam counters words;
+      words = c.in_ok-board.ensures.least ∙ ap₂ (λ (n : ℕ) (l : List ℕ). drop n l) count numbers ∙ drop-append_seam counters words;
+      log = c.in_ok-board.ensures.slots ∙ c.cells-cells.ensures;
     }
