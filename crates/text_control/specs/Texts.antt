@@ -7,19 +7,16 @@ use Rattle.plant_record.specs.Description.{Description, axes_of, vectors_of}
 use Rattle.plant_record.specs.Limits.{IsWithinLimits}
 use Rattle.controller_table.specs.declared.table_fault.TableFault.{TableFault}
 use Rattle.controller_table.specs.declared.table_fault.TableFault.TheVariants as tables
-use Rattle.controller_table.specs.Tables.{IsTable}
 use Rattle.controller_table.specs.TableRefusals.{IsTableRefusedFor}
 use Rattle.controller_table.specs.declared.text_fault.TextFault.{TextFault}
 use Rattle.controller_table.specs.declared.text_fault.TextFault.TheVariants as patrols
 use Rattle.controller_table.specs.TextKinds.{first_line}
 use Rattle.controller_table.specs.KindTexts.{IsTextOf}
-use Rattle.temporal_texts.specs.StayText.{IsStayText}
 use Rattle.temporal_texts.specs.StayRefusals.{IsStayRefusedFor}
-use Rattle.temporal_texts.specs.PatrolText.{IsPatrolText}
 use Rattle.turn_rows.specs.Rows.{rows_for}
 use Rattle.temporal_texts.specs.PatrolRefusals.{IsPatrolRefusedFor}
 use Rattle.controller_table.specs.declared.text_kind.TextKind.{TextKind}
-use Rattle.controller_table.specs.declared.text_kind.TextKind.TheVariants.{Table, Stay, Patrol}
+use Rattle.controller_table.specs.declared.text_kind.TextKind.TheVariants.{Stay, Patrol}
 use Rattle.text_control.specs.declared.control_fault.ControlFault.{ControlFault}
 use Rattle.text_control.specs.declared.control_fault.ControlFault.TheVariants.{Malformed, Limit, Memory}
 
@@ -41,19 +38,13 @@ pub record TurnsFit (p : Description) (turns : List (List (Option Row))) : Type 
   pub one_row_each : All (λ (rows : List (Option Row)). length rows ≡ cells_of (axes_of p)) turns
   pub each : All (λ (rows : List (Option Row)). All (λ row. IfSome row (λ (r : Row). r.input < vectors_of p.inputs)) rows) turns
 
--- the bytes are a text of this kind that says the plant and the rows
-abbrev pub TellsAs : TextKind → List ℕ → TextModel → Type 0
-TellsAs (Table version) bytes t = IsTable bytes t.plant (due_rows t)
-TellsAs Stay bytes t = IsStayText bytes t.plant (due_rows t)
-TellsAs Patrol bytes t = IsPatrolText bytes t.plant t.turns
-
--- the bytes are a text that says this
+-- the bytes are the text of this kind, plant and rows
 abbrev pub Tells : List ℕ → TextModel → Type 0
-Tells bytes t = TellsAs t.kind bytes t
+Tells bytes t = IsTextOf t.kind bytes t.plant t.turns
 
--- the bytes are the text of this kind, plant and rows, and its first turn is due
+-- and its first turn is due
 abbrev pub IsReadFrom : List ℕ → TextModel → Type 0
-IsReadFrom bytes t = IsTextOf t.kind bytes t.plant t.turns × (t.turn ≡ 0)
+IsReadFrom bytes t = Tells bytes t × (t.turn ≡ 0)
 
 -- a table's fault, or a stay text's
 abbrev pub fault_of_table : TableFault → ControlFault
