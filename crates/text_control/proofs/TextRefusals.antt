@@ -1,12 +1,12 @@
 -- One reason, never a text and refused, never neither: by the text as which bytes begin.
-use Rattle.std.proofs.Common.{inl, inr, ◌≡◌, ℕ, List, [], ◌∷◌, ◌++◌, Option, refl, sym, ap, subst, ◌∙◌, append_assoc}
+use Rattle.std.proofs.Common.{inl, inr, ◌≡◌, ℕ, List, [], ◌∷◌, ◌++◌, Option, refl, sym, ap, ◌∙◌, append_assoc}
 use Rattle.game_core.specs.declared.game.Row.{Row}
 use Rattle.plant_record.specs.Description.{Description}
 use Rattle.plant_writing.specs.CanonicalText.{text_of}
 use Rattle.base.specs.declared.limits.TheConstants.{TABLE_LIMIT}
 use Rattle.controller_table.specs.declared.text_kind.TextKind.{TextKind}
 use Rattle.controller_table.specs.declared.text_kind.TextKind.TheVariants.{Table, Stay, Patrol}
-use Rattle.controller_table.specs.TextKinds.{first_line, HasFewTurns}
+use Rattle.controller_table.specs.TextKinds.{first_line, HasFewTurnsFor}
 use Rattle.controller_table.specs.KindTexts.{IsTextOf}
 use Rattle.controller_table.specs.HeadedTexts.{alone, text_fault}
 use Rattle.controller_table.proofs.HeadedLaws as headed
@@ -44,7 +44,7 @@ one_name : (kind : TextKind) (k l : Unit {0}) → alone kind k ≡ alone kind l 
 one_name kind k l e = refl
 
 module _ (bytes : List ℕ) (p : Description) (turns : List (List (Option Row))) (f : ControlFault) where
-  refused_as : (kind : TextKind) → IsTextOf kind bytes p turns → (kind ≡ Patrol → HasFewTurns p) → IsTextRefusedFor bytes f → ⊥
+  refused_as : (kind : TextKind) → IsTextOf kind bytes p turns → HasFewTurnsFor kind p → IsTextRefusedFor bytes f → ⊥
   refused_as (Table v) text few (inl h) = no_stay v bytes (begins (Table v) bytes p turns text) h.0
   refused_as (Table v) text few (inr (inl h)) = no_patrol v bytes (begins (Table v) bytes p turns text) h.0
   refused_as (Table v) text few (inr (inr h)) = headed.text_or_refused Table same_version TABLE_LIMIT bytes v p turns (text_fault h.2.0) text tt (texts_are_short (Table v) bytes p turns text tt) h.2.2
@@ -52,7 +52,7 @@ module _ (bytes : List ℕ) (p : Description) (turns : List (List (Option Row)))
   refused_as Stay text few (inr (inl h)) = not_both bytes (begins Stay bytes p turns text) h.0
   refused_as Stay text few (inr (inr h)) = h.0 (begins Stay bytes p turns text)
   refused_as Patrol text few (inl h) = not_both bytes h.0 (begins Patrol bytes p turns text)
-  refused_as Patrol text few (inr (inl h)) = texts.patrol_text_or_refused bytes p turns h.1.0 text (few refl) h.1.2
+  refused_as Patrol text few (inr (inl h)) = texts.patrol_text_or_refused bytes p turns h.1.0 text few h.1.2
   refused_as Patrol text few (inr (inr h)) = h.1 (begins Patrol bytes p turns text)
 
 pub text_or_refused : TextOrRefused
@@ -64,6 +64,6 @@ told kind p turns = record { kind = kind; plant = p; turns = turns; turn = 0 }
 
 pub no_bytes_are_neither : NoBytesAreNeither
 no_bytes_are_neither bytes no_text no_refusal =
-    let stay : HasFirstLine (first_line Stay) bytes → ⊥ = λ h. texts.no_stay_text_is_neither bytes (λ p rows tells. no_text (told Stay p (rows ∷ [])) tells (λ e. absurd (cc))) (λ f r. no_refusal (fault_of_table f) (inl (h, (f, refl, r)))) in
-    let patrol : HasFirstLine (first_line Patrol) bytes → ⊥ = λ h. texts.no_patrol_text_is_neither bytes (λ p rows tells few. no_text (told Patrol p rows) tells (λ e. few)) (λ f r. no_refusal (fault_of_patrol f) (inr (inl (h, (f, refl, r))))) in
-    headed.no_text_is_neither Table TABLE_LIMIT bytes (tables.none_refuses Table TABLE_LIMIT bytes (λ v p. tt) (λ f r. no_refusal (fault_of_table f) (inr (inr (stay, patrol, (f, refl, r)))))) (λ v p turns text few. no_text (told (Table v) p turns) text (λ e. absurd (cc)))
+    let stay : HasFirstLine (first_line Stay) bytes → ⊥ = λ h. texts.no_stay_text_is_neither bytes (λ p rows tells. no_text (told Stay p (rows ∷ [])) tells tt) (λ f r. no_refusal (fault_of_table f) (inl (h, (f, refl, r)))) in
+    let patrol : HasFirstLine (first_line Patrol) bytes → ⊥ = λ h. texts.no_patrol_text_is_neither bytes (λ p rows tells few. no_text (told Patrol p rows) tells few) (λ f r. no_refusal (fault_of_patrol f) (inr (inl (h, (f, refl, r))))) in
+    headed.no_text_is_neither Table TABLE_LIMIT bytes (tables.none_refuses Table TABLE_LIMIT bytes (λ v p. tt) (λ f r. no_refusal (fault_of_table f) (inr (inr (stay, patrol, (f, refl, r)))))) (λ v p turns text few. no_text (told (Table v) p turns) text tt)
