@@ -5,7 +5,7 @@ use Rattle.controller_table.specs.TableText.{written_version}
 use Rattle.controller_table.specs.declared.text_kind.TextKind.TheVariants as kinds
 use Rattle.controller_table.proofs.TableTexts.{as_text}
 use Rattle.text_control.specs.declared.control_fault.ControlFault.{ControlFault}
-use Rattle.text_control.specs.Texts.{TextModel, IsReadFrom, IsTextRefusedFor}
+use Rattle.text_control.specs.Texts.{TextModel, IsReadFrom, IsNoTextFor}
 use Rattle.controller_table.specs.TextKinds.{HasFewTurnsFor}
 use Rattle.text_control.proofs.TextRefusals.{read_texts_tell, text_or_refused}
 use Rattle.command_line.specs.declared.command.Command.TheVariants.{Synth, Check, Upgrade, Sim, Demo, Stay, Patrol}
@@ -14,7 +14,7 @@ use Rattle.driven_loops.proofs.ReadBack.{says}
 use Rattle.driven_loops.specs.Laws.{AnswersAreWritten, WrittenTextsAreRead}
 
 -- what was read isn't refused
-both : (text : List ℕ) (t : TextModel) → IsReadFrom text t → HasFewTurnsFor t.kind t.plant → ((m : TextModel) × IsReadFrom text m) × ((f : ControlFault) → IsTextRefusedFor text f → ⊥)
+both : (text : List ℕ) (t : TextModel) → IsReadFrom text t → HasFewTurnsFor t.kind t.plant → ((m : TextModel) × IsReadFrom text m) × ((f : ControlFault) → IsNoTextFor text f → ⊥)
 both text t read few = ((t, read), λ f refused. text_or_refused text t f (read_texts_tell text t read) few refused)
 
 pub written_texts_are_read : WrittenTextsAreRead

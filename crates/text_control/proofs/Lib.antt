@@ -10,6 +10,6 @@ pub mod Answering
 pub mod TableLoops
 pub mod TemporalLoops
 pub mod TextRefusals
-pub mod TextsRead
+pub mod RefusedTexts
 pub mod SameBox
 mod NextBoxes
