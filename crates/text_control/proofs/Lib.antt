@@ -2,7 +2,6 @@ mod Cells
 mod Pieces
 mod Replies
 pub mod OneText
-mod HeldRows
 mod Told
 pub mod ByText
 pub mod TurnChanges

@@ -1,11 +1,8 @@
 -- What a table, a stay text or a patrol text says, and the turn that is due.
-use Rattle.std.specs.Prelude.{◌≡◌, ℕ, ◌<◌, List, length, Option, IfSome}
-use Rattle.std.specs.List.{All}
+use Rattle.std.specs.Prelude.{◌≡◌, ℕ, List, Option}
 use Rattle.base.specs.declared.limits.TheConstants.{TABLE_LIMIT}
 use Rattle.game_core.specs.declared.game.Row.{Row}
-use Rattle.grid_quantiser.specs.Axes.{cells_of}
-use Rattle.plant_record.specs.Description.{Description, axes_of, vectors_of}
-use Rattle.plant_record.specs.Limits.{IsWithinLimits}
+use Rattle.plant_record.specs.Description.{Description}
 use Rattle.controller_table.specs.declared.text_fault.TextFault.{TextFault}
 use Rattle.controller_table.specs.declared.text_fault.TextFault.TheVariants as texts
 use Rattle.controller_table.specs.TextKinds.{most_bytes}
@@ -28,12 +25,6 @@ pub record TextModel : Type 0 where
 -- the rows of the turn that is due
 abbrev pub due_rows : TextModel → List (Option Row)
 due_rows t = rows_for t.turns t.turn
-
--- One optional row for each cell in each turn, with one of the input vectors.
-pub record TurnsFit (p : Description) (turns : List (List (Option Row))) : Type 0 where
-  pub limits : IsWithinLimits p
-  pub one_row_each : All (λ (rows : List (Option Row)). length rows ≡ cells_of (axes_of p)) turns
-  pub each : All (λ (rows : List (Option Row)). All (λ row. IfSome row (λ (r : Row). r.input < vectors_of p.inputs)) rows) turns
 
 -- the bytes are the text of this kind, plant and rows
 abbrev pub Tells : List ℕ → TextModel → Type 0
