@@ -2,7 +2,7 @@
 
 ghost use Rattle.std.specs.Prelude.{◌≡◌, ◌≢◌, IfOk, IfErr};
 ghost use Rattle.text_control.specs.declared.control_fault.ControlFault.TheVariants.{Memory};
-ghost use Rattle.text_control.specs.Texts.{IsReadFrom, IsTextRefusedFor};
+ghost use Rattle.text_control.specs.Texts.{IsReadFrom, IsNoTextFor};
 ghost use Rattle.text_control.specs.Calls.{fault_number, fault_line};
 
 use std::alloc::Global;
@@ -15,7 +15,7 @@ pub(crate) fn boxed_text(
     bytes: &[u8],
 ) -> Result<Box<PackedText, Global>, ControlFault>
     ensures read { IfOk result (λ b. IsReadFrom bytes.now b.value) }
-    ensures refused { IfErr result (λ fault. fault ≢ Memory → IsTextRefusedFor bytes.now fault) }
+    ensures refused { IfErr result (λ fault. fault ≢ Memory → IsNoTextFor bytes.now fault) }
 {
     let text = read_text(alloc, bytes)?;
     match Box::new(alloc, text) {

@@ -8,6 +8,7 @@ pub mod PlantLength
 pub mod RowLengths
 pub mod TextsRead
 pub mod TableTexts
+pub mod TextRows
 pub mod ShortTexts
 pub mod OneTable
 pub mod OneRefusal

@@ -18,6 +18,10 @@ use Rattle.controller_table.specs.declared.text_fault.TextFault.{TextFault}
 use Rattle.controller_table.specs.declared.text_fault.TextFault.TheVariants as faults
 use Rattle.controller_table.specs.TextKinds.{first_line, turn_rules, HasFewTurnsFor}
 
+-- the bytes begin with the first line of the kind
+abbrev pub BeginsAs : TextKind → List ℕ → Type 0
+BeginsAs kind bytes = (rest : List ℕ) × (bytes ≡ first_line kind ++ rest)
+
 -- the bytes don't begin with the first line of a kind
 abbrev pub HasNoFirstLine : {Name : Type 0} → (Name → TextKind) → List ℕ → Type 0
 HasNoFirstLine {Name = Name} kind_of bytes = (name : Name) (rest : List ℕ) → bytes ≡ first_line (kind_of name) ++ rest → ⊥

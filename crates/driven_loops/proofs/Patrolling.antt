@@ -19,7 +19,7 @@ use Rattle.text_control.specs.Control.{IsRank}
 use Rattle.text_control.specs.Loops.{Answers, AlwaysAnswers}
 use Rattle.text_control.specs.Visits.{with_turn, IsVisit}
 use Rattle.text_control.specs.Followed.{FollowedSample, IsInItsBox}
-use Rattle.text_control.proofs.OneText.{turn_known}
+use Rattle.controller_table.proofs.TextRows.{turn_known}
 use Rattle.driven_loops.specs.Followed.{IsFollowedPatrolLoop, FollowedEndsTurn}
 use Rattle.driven_loops.specs.FollowedLaws.{FollowedPatrolTextsGoOn}
 use Rattle.driven_loops.proofs.ReadBack.{HoldsPatrol, says, holds_patrol}

@@ -22,4 +22,4 @@ module _ (t : TextModel) (y : List ℤ) (row : Row) (has : HasRowAt t.plant (due
   row_answers applies before after number sized encodes = encodes.1 ∙ applied before after applies sized encodes.0 encodes.2
 
   pub has_rank : IsRank t y row.rank
-  has_rank = (record { row = row; has = has; is = refl }, λ bytes tells. text_rank bytes t t.kind tells y row has)
+  has_rank = (record { row = row; has = has; is = refl }, λ bytes tells. text_rank bytes t tells y row has)

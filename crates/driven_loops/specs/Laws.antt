@@ -7,7 +7,7 @@ use Rattle.plant_record.specs.Description.{Description}
 use Rattle.plant_record.specs.States.{LiesInSome, IsClear}
 use Rattle.plant_text.specs.Grammar.{Spells}
 use Rattle.text_control.specs.declared.control_fault.ControlFault.{ControlFault}
-use Rattle.text_control.specs.Texts.{TextModel, IsReadFrom, IsTextRefusedFor}
+use Rattle.text_control.specs.Texts.{TextModel, IsReadFrom, IsNoTextFor}
 use Rattle.text_control.specs.Control.{AreSized, EncodesReply, IsRank}
 use Rattle.text_control.specs.Visits.{with_turn}
 use Rattle.text_control.specs.Loops.{LoopSample, AlwaysAnswers, IsLoop, IsPatrolLoop}
@@ -42,7 +42,7 @@ AnswersAreWritten =
 
 -- a text that was written is read again: it says something, and there is no reason to refuse it
 abbrev pub WrittenTextsAreRead : Type 0
-WrittenTextsAreRead = (bytes text : List ℕ) → IsWrittenFor bytes text → ((t : TextModel) × IsReadFrom text t) × ((f : ControlFault) → IsTextRefusedFor text f → ⊥)
+WrittenTextsAreRead = (bytes text : List ℕ) → IsWrittenFor bytes text → ((t : TextModel) × IsReadFrom text t) × ((f : ControlFault) → IsNoTextFor text f → ⊥)
 
 -- every answer at the state, with room for the inputs, is that it has come to the targets
 abbrev pub AlwaysArrived : TextModel → List ℤ → Type 0

@@ -21,10 +21,12 @@ use Rattle.plant_record.specs.States.{IsClear}
 use Rattle.plant_record.specs.Steps.{step_of, IsNoise}
 use Rattle.plant_game.specs.Abstraction.{IsGameOf}
 use Rattle.plant_game.specs.Refinement.{IsRefinement}
+use Rattle.controller_table.specs.declared.text_kind.TextKind.TheVariants.{Patrol}
+use Rattle.controller_table.specs.Choice.{HasRowAt}
+use Rattle.controller_table.proofs.TextRows.{turn_of_row, row_told}
 use Rattle.temporal_texts.specs.PatrolText.{IsPatrolText, HasPatrolRow, IsArrivalIn}
 use Rattle.plant_game.proofs.GameLaws.{refines, clear_at, lands}
 use Rattle.temporal_texts.specs.Patrols.{LandsWell, Goes, Patrols}
-use Rattle.temporal_texts.proofs.OnePatrolText.{one_patrol_text}
 
 -- the subtree for one of the cells
 tree_at : (g : Game) (End : ℕ → Type 0) (next : Trees) (cells : List ℕ) (s : ℕ) → LeadEachTo End g next cells → Contains cells s → (t : Tree) × LeadsTo End g t s × (depth_of t ≤ greatest_depth next)
@@ -82,15 +84,11 @@ module _ {bytes : List ℕ} {p : Description} {g : Game} {rows : List (List (Opt
   abbrev turns : ℕ
   turns = length p.targets
 
-  has_row : (j : ℕ) (x : List ℤ) (row : Row) → j < turns → IsInDomain (axes_of p) x → row_of (rows_for rows j) (cell_of (axes_of p) x) ≡ Some row → HasPatrolRow bytes j x row
-  has_row j x row lj inside is = record { plant = p; rows = rows; table = k.table; turn = lj; inside = inside; is = is }
+  has_row : (j : ℕ) (x : List ℤ) (row : Row) → IsInDomain (axes_of p) x → row_of (rows_for rows j) (cell_of (axes_of p) x) ≡ Some row → HasPatrolRow bytes j x row
+  has_row j x row inside is = record { plant = p; turns = rows; text = k.table; has = record { inside = inside; is = is } }
 
-  row_from : (j : ℕ) (x : List ℤ) (row : Row) → HasPatrolRow bytes j x row → IsInDomain (axes_of p) x × (row_of (rows_for rows j) (cell_of (axes_of p) x) ≡ Some row)
-  row_from j x row has =
-      let same = one_patrol_text bytes has.plant p has.rows rows has.table k.table in (
-        subst (λ (q : Description). IsInDomain (axes_of q) x) same.0 has.inside,
-        subst (λ (r : List (List (Option Row))). row_of (rows_for r j) (cell_of (axes_of p) x) ≡ Some row) same.1 (subst (λ (q : Description). row_of (rows_for has.rows j) (cell_of (axes_of q) x) ≡ Some row) same.0 has.is),
-      )
+  row_from : (j : ℕ) (x : List ℤ) (row : Row) → HasPatrolRow bytes j x row → HasRowAt p (rows_for rows j) x row
+  row_from j x row has = (row_told Patrol bytes p rows k.table j x row has).1
 
   -- a state is an arrival or it is none
   arrival : (j : ℕ) (y : List ℤ) → j < turns → IsInDomain (axes_of p) y → cell_of (axes_of p) y < g.cells
@@ -103,15 +101,15 @@ module _ {bytes : List ℕ} {p : Description} {g : Game} {rows : List (List (Opt
     where
       by_row : IsInTarget p j (cell_of (axes_of p) y) → (o : Option Row) → row_of (rows_for rows (next_turn turns j)) (cell_of (axes_of p) y) ≡ o
           → ((row : Row) × IsArrivalIn bytes p j y row × (row_of (rows_for rows (next_turn turns j)) (cell_of (axes_of p) y) ≡ Some row)) ⊎ ((row : Row) → IsArrivalIn bytes p j y row → ⊥)
-      by_row target None e = inr (λ row is. let f = (row_from (next_turn turns j) y row is.next).1 in cc)
-      by_row target (Some row) e = inl (row, record { target = target; next = has_row (next_turn turns j) y row (next_below turns j lj) inside e }, e)
+      by_row target None e = inr (λ row is. let f = (row_from (next_turn turns j) y row is.next).is in cc)
+      by_row target (Some row) e = inl (row, record { target = target; next = has_row (next_turn turns j) y row inside e }, e)
 
   clear_of : (j : ℕ) (x : List ℤ) (row : Row) → j < turns → IsInDomain (axes_of p) x → row_of (rows_for rows j) (cell_of (axes_of p) x) ≡ Some row → IsClear p x
   clear_of j x row lj inside is = clear_at p g k.abstraction k.refined x inside (cell_below k.solution j lj (cell_of (axes_of p) x) row is) (reached_by k.solution j lj (cell_of (axes_of p) x) row is).reached.1.0
 
   goes : (ws : List (List ℤ)) (j : ℕ) (x : List ℤ) (row : Row) (n : ℕ) → j < turns → IsInDomain (axes_of p) x → row_of (rows_for rows j) (cell_of (axes_of p) x) ≡ Some row → row.rank ≤ n → AllByRecursion (IsNoise p.noises) ws → Goes p bytes j x n ws
-  goes [] j x row n lj inside is le noises = (clear_of j x row lj inside is, (row, has_row j x row lj inside is, le))
-  goes (w ∷ ws) j x row n lj inside is le noises = (clear_of j x row lj inside is, (row, has_row j x row lj inside is, le, well (λ i r m li there e low'. goes ws i (step_of p x row.input w) r m li there e low' noises.1)))
+  goes [] j x row n lj inside is le noises = (clear_of j x row lj inside is, (row, has_row j x row inside is, le))
+  goes (w ∷ ws) j x row n lj inside is le noises = (clear_of j x row lj inside is, (row, has_row j x row inside is, le, well (λ i r m li there e low'. goes ws i (step_of p x row.input w) r m li there e low' noises.1)))
     where
       c : ℕ
       c = cell_of (axes_of p) x
@@ -134,7 +132,7 @@ module _ {bytes : List ℕ} {p : Description} {g : Game} {rows : List (List (Opt
                   let less = lower.below in
                   let some = some_rank k.solution j lj s lower.row lower.is in
                   inr (out, omega (arith, less, some, le), goes_on j lower.row (n - 1) lj landed.0 lower.is (omega (arith, less, le)))
-              | inr there ↦ absurd (out there.1.0 (record { target = there.0; next = has_row (next_turn turns j) y there.1.0 (next_below turns j lj) landed.0 there.1.1 }))
+              | inr there ↦ absurd (out there.1.0 (record { target = there.0; next = has_row (next_turn turns j) y there.1.0 landed.0 there.1.1 }))
             ]
           ]
 
@@ -147,7 +145,5 @@ patrol_text_patrols bytes p g rows table abstraction solution j x row ws has noi
       refined = refines p g table.limits.plant abstraction;
       solution = solution;
     } in
-    let same = one_patrol_text bytes has.plant p has.rows rows has.table table in
-    let lj : j < length p.targets = subst (λ (q : Description). j < length q.targets) same.0 has.turn in
-    let is = row_from k j x row has in
-    goes k ws j x row row.rank lj is.0 is.1 (omega arith) (recursion_from_All (IsNoise p.noises) ws noises)
+    let row_at = row_from k j x row has in
+    goes k ws j x row row.rank (turn_of_row Patrol bytes p rows table j x row row_at) row_at.inside row_at.is (omega arith) (recursion_from_All (IsNoise p.noises) ws noises)

@@ -17,10 +17,12 @@ use Rattle.plant_record.specs.Description.{Description, axes_of}
 use Rattle.plant_record.specs.Steps.{step_of, IsNoise}
 use Rattle.plant_game.specs.Abstraction.{IsGameOf}
 use Rattle.plant_game.specs.Refinement.{IsRefinement}
-use Rattle.temporal_texts.specs.StayText.{IsStayText}
+use Rattle.controller_table.specs.declared.text_kind.TextKind.TheVariants.{Stay}
+use Rattle.controller_table.specs.Choice.{HasRowAt}
+use Rattle.controller_table.proofs.TextRows.{row_told}
+use Rattle.temporal_texts.specs.StayText.{IsStayText, HasStayRow}
 use Rattle.temporal_texts.specs.Settles.{IsUnderWay, Holds, Settles}
 use Rattle.plant_game.proofs.GameLaws.{refines, clear_at, in_target, lands}
-use Rattle.temporal_texts.proofs.OneStayText.{one_stay_text}
 
 clear_from : (g : Game) (c : ℕ) (t : Tree) → LeadsTo (IsHeld g) g t c → mark_of g c ≢ Obstacle
 clear_from g c Leaf l e = let goal : mark_of g c ≡ Goal = l 0 in cc
@@ -74,12 +76,15 @@ record Keeps (bytes : List ℕ) (p : Description) (g : Game) (rows : List (Optio
   solution : IsStaySolution g rows
 
 module _ {bytes : List ℕ} {p : Description} {g : Game} {rows : List (Option Row)} (k : Keeps bytes p g rows) where
+  has_row : (x : List ℤ) (row : Row) → IsInDomain (axes_of p) x → row_of rows (cell_of (axes_of p) x) ≡ Some row → HasStayRow bytes x row
+  has_row x row inside is = record { plant = p; turns = rows ∷ []; text = k.table; has = record { inside = inside; is = is } }
+
   here : (x : List ℤ) (row : Row) (n : ℕ) → IsInDomain (axes_of p) x → row_of rows (cell_of (axes_of p) x) ≡ Some row → row.rank ≤ n → IsUnderWay p bytes x n
   here x row n inside is le =
       let c : ℕ = cell_of (axes_of p) x in
       let lt = cell_below k.solution c row is in (
         clear_at p g k.abstraction k.refined x inside lt (clear_of k.solution c row is),
-        (row, record { plant = p; rows = rows; table = k.table; inside = inside; is = is }),
+        (row, has_row x row inside is),
         λ none. in_target p g k.abstraction k.refined x inside lt (goal_of k.solution c row is (omega (arith, le, none))),
       )
 
@@ -92,13 +97,11 @@ module _ {bytes : List ℕ} {p : Description} {g : Game} {rows : List (Option Ro
       let there = leads_lower k.solution c row is (cell_of (axes_of p) y) next.2 next.1 in
       let low = there.2 in (
         here x row n inside is le,
-        (row, record { plant = p; rows = rows; table = k.table; inside = inside; is = is }, holds ws y there.0 (n - 1) next.0 there.1 (omega (arith, low, le)) noises.1),
+        (row, has_row x row inside is, holds ws y there.0 (n - 1) next.0 there.1 (omega (arith, low, le)) noises.1),
       )
 
 -- and settles the plant
 pub stay_text_settles : (bytes : List ℕ) (p : Description) (g : Game) (rows : List (Option Row)) → IsStayText bytes p rows → IsGameOf p g → IsStaySolution g rows → Settles p bytes
 stay_text_settles bytes p g rows table abstraction solution x row ws has noises =
-    let same = one_stay_text bytes has.plant p has.rows rows has.table table in
-    let inside : IsInDomain (axes_of p) x = subst (λ (q : Description). IsInDomain (axes_of q) x) same.0 has.inside in
-    let is : row_of rows (cell_of (axes_of p) x) ≡ Some row = subst (λ (r : List (Option Row)). row_of r (cell_of (axes_of p) x) ≡ Some row) same.1 (subst (λ (q : Description). row_of has.rows (cell_of (axes_of q) x) ≡ Some row) same.0 has.is) in
-    holds (record { table = table; abstraction = abstraction; refined = refines p g table.limits.plant abstraction; solution = solution }) ws x row row.rank inside is (omega arith) (recursion_from_All (IsNoise p.noises) ws noises)
+    let row_at : HasRowAt p rows x row = (row_told Stay bytes p (rows ∷ []) table 0 x row has).1 in
+    holds (record { table = table; abstraction = abstraction; refined = refines p g table.limits.plant abstraction; solution = solution }) ws x row row.rank row_at.inside row_at.is (omega arith) (recursion_from_All (IsNoise p.noises) ws noises)

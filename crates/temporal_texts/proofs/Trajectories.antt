@@ -1,39 +1,29 @@
 -- What texts promise of their plants holds along every trajectory by their rows: by induction on the samples.
-use Rattle.std.proofs.Common.{inl, inr, ◌≡◌, ℕ, zero, suc, ◌-◌, ◌<◌, ◌≤◌, List, [], ◌∷◌, length, map, take, Option, None, refl, sym, subst, ◌∙◌, arith}
+use Rattle.std.proofs.Common.{inl, inr, ◌≡◌, ℕ, zero, suc, ◌-◌, ◌≤◌, List, [], ◌∷◌, length, map, take, Option, None, refl, sym, subst, arith}
 use Rattle.std.specs.Prelude.{ℤ, IfSome}
 use Rattle.std.specs.List.{AllByRecursion, Any}
-use Rattle.std.proofs.lemmas.Option.{same_Some}
 use Rattle.std.proofs.lemmas.List.Elements.{All-from_recursion}
 use Rattle.game_core.specs.declared.game.Row.{Row}
-use Rattle.game_core.specs.Solution.{row_of}
 use Rattle.game_core.proofs.Rows.{below_from_row}
 use Rattle.grid_quantiser.specs.Cells.{cell_of}
 use Rattle.plant_record.specs.Description.{Description, axes_of}
 use Rattle.plant_record.specs.Steps.{step_of, IsNoise}
 use Rattle.row_reading.specs.RowsTexts.{IsRowWithin}
+use Rattle.controller_table.specs.declared.text_kind.TextKind.TheVariants.{Stay, Patrol}
 use Rattle.controller_table.specs.TextKinds.{patrol_rules}
-use Rattle.temporal_texts.specs.StayText.{HasStayRow}
+use Rattle.controller_table.proofs.TextRows.{turn_known, one_text_row}
 use Rattle.temporal_texts.specs.Settles.{IsUnderWay, Holds}
 use Rattle.temporal_texts.specs.PatrolText.{HasPatrolRow}
 use Rattle.turn_rows.specs.Rows.{rows_for}
 use Rattle.temporal_texts.specs.Patrols.{LandsWell, Goes}
 use Rattle.temporal_texts.specs.TextTrajectories.{Sample, state_after, IsStayTrajectory, IsPatrolTrajectory, EndsTurn}
 use Rattle.temporal_texts.specs.Laws.{StayTrajectoriesSettle, PatrolTrajectoriesGoOn}
-use Rattle.temporal_texts.proofs.OneStayText.{one_stay_text}
-use Rattle.temporal_texts.proofs.OnePatrolText.{one_patrol_text}
 
 -- the noises of samples
 abbrev noises_of : List Sample → List (List ℤ)
 noises_of samples = map (λ (s : Sample). s.noise) samples
 
 -- ---- stay texts
-
--- a state has one row
-one_stay_row : (bytes : List ℕ) (x : List ℤ) (a b : Row) → HasStayRow bytes x a → HasStayRow bytes x b → a ≡ b
-one_stay_row bytes x a b h k =
-    let same = one_stay_text bytes h.plant k.plant h.rows k.rows h.table k.table in
-    let at : row_of h.rows (cell_of (axes_of h.plant) x) ≡ row_of k.rows (cell_of (axes_of k.plant) x) = λ i. row_of (same.1 i) (cell_of (axes_of (same.0 i)) x) in
-    same_Some a b (sym h.is ∙ at ∙ k.is)
 
 module _ (p : Description) (bytes : List ℕ) where
   stay_noises : (samples : List Sample) (x y : List ℤ) → IsStayTrajectory p bytes x samples y → AllByRecursion (IsNoise p.noises) (noises_of samples)
@@ -44,7 +34,7 @@ module _ (p : Description) (bytes : List ℕ) where
   held_at_end : (samples : List Sample) (x y : List ℤ) (k : ℕ) → IsStayTrajectory p bytes x samples y → Holds p bytes x k (noises_of samples) → IsUnderWay p bytes y (k - length samples)
   held_at_end [] x y k t h = subst (λ (z : List ℤ). IsUnderWay p bytes z (k - 0)) (sym t) (subst (λ (n : ℕ). IsUnderWay p bytes x n) (omega arith) h)
   held_at_end (s ∷ samples) x y k t h =
-      let row : h.1.0 ≡ s.row = one_stay_row bytes x h.1.0 s.row h.1.1 t.1 in
+      let row : h.1.0 ≡ s.row = one_text_row Stay bytes 0 x h.1.0 s.row h.1.1 t.1 in
       let here : Holds p bytes (state_after p s) (k - 1) (noises_of samples) =
       subst (λ (z : List ℤ). Holds p bytes (step_of p z s.row.input s.noise) (k - 1) (noises_of samples)) (sym t.0)
       (subst (λ (r : Row). Holds p bytes (step_of p x r.input s.noise) (k - 1) (noises_of samples)) row h.1.2) in
@@ -57,12 +47,6 @@ stay_trajectories_settle p bytes settles x y row samples has t =
 
 -- ---- patrol texts
 
-one_patrol_row : (bytes : List ℕ) (j : ℕ) (x : List ℤ) (a b : Row) → HasPatrolRow bytes j x a → HasPatrolRow bytes j x b → a ≡ b
-one_patrol_row bytes j x a b h k =
-    let same = one_patrol_text bytes h.plant k.plant h.rows k.rows h.table k.table in
-    let at : row_of (rows_for h.rows j) (cell_of (axes_of h.plant) x) ≡ row_of (rows_for k.rows j) (cell_of (axes_of k.plant) x) = λ i. row_of (rows_for (same.1 i) j) (cell_of (axes_of (same.0 i)) x) in
-    same_Some a b (sym h.is ∙ at ∙ k.is)
-
 module _ (p : Description) (bytes : List ℕ) where
   patrol_noises : (samples : List Sample) (j i : ℕ) (x y : List ℤ) → IsPatrolTrajectory p bytes j x samples i y → AllByRecursion (IsNoise p.noises) (noises_of samples)
   patrol_noises [] j i x y t = tt
@@ -72,7 +56,7 @@ module _ (p : Description) (bytes : List ℕ) where
   landed : (s : Sample) (samples : List Sample) (j k : ℕ) (x : List ℤ) → s.state ≡ x → HasPatrolRow bytes j x s.row → Goes p bytes j x k (s.noise ∷ noises_of samples)
       → LandsWell p bytes j (state_after p s) k (λ i n. Goes p bytes i (state_after p s) n (noises_of samples))
   landed s samples j k x at has h =
-      let row : h.1.0 ≡ s.row = one_patrol_row bytes j x h.1.0 s.row h.1.1 has in
+      let row : h.1.0 ≡ s.row = one_text_row Patrol bytes j x h.1.0 s.row h.1.1 has in
       subst (λ (z : List ℤ). LandsWell p bytes j (step_of p z s.row.input s.noise) k (λ i n. Goes p bytes i (step_of p z s.row.input s.noise) n (noises_of samples))) (sym at)
       (subst (λ (r : Row). LandsWell p bytes j (step_of p x r.input s.noise) k (λ i n. Goes p bytes i (step_of p x r.input s.noise) n (noises_of samples))) row h.1.3)
 
@@ -96,10 +80,10 @@ module _ (p : Description) (bytes : List ℕ) where
   -- a row for a turn has a rank of at least 1
   some_rank : (j : ℕ) (x : List ℤ) (row : Row) → HasPatrolRow bytes j x row → 1 ≤ row.rank
   some_rank j x row h =
-      let fit = h.table.within in
-      let lt : j < length h.rows = omega (arith, h.turn, fit.one_list_each) in
-      let each = (fit.each j [] lt).each (cell_of (axes_of h.plant) x) None (below_from_row (rows_for h.rows j) (cell_of (axes_of h.plant) x) row h.is) in
-      (subst (λ (o : Option Row). IfSome o (IsRowWithin (patrol_rules h.plant))) h.is each).least
+      let rows : List (Option Row) = rows_for h.turns j in
+      let c : ℕ = cell_of (axes_of h.plant) x in
+      let each = (h.text.within.each j [] (turn_known h.turns j c row h.has.is)).each c None (below_from_row rows c row h.has.is) in
+      (subst (λ (o : Option Row). IfSome o (IsRowWithin (patrol_rules h.plant))) h.has.is each).least
 
   some_left : (j : ℕ) (x : List ℤ) (k : ℕ) (ws : List (List ℤ)) → Goes p bytes j x k ws → 1 ≤ k
   some_left j x k [] h = let some = some_rank j x h.1.0 h.1.1 in let le = h.1.2 in omega (arith, some, le)

@@ -1,13 +1,12 @@
 -- The text of a plant with its rows of patrol, turn by turn.
-use Rattle.std.specs.Prelude.{◌≡◌, ℕ, ◌<◌, ℤ, List, length, Option, Some}
+use Rattle.std.specs.Prelude.{ℕ, ℤ, List, length, Option}
 use Rattle.game_core.specs.declared.game.Row.{Row}
-use Rattle.game_core.specs.Solution.{row_of}
-use Rattle.grid_quantiser.specs.Cells.{IsInDomain, cell_of}
+use Rattle.grid_quantiser.specs.Cells.{cell_of}
 use Rattle.plant_record.specs.Description.{Description, axes_of}
 use Rattle.controller_table.specs.declared.text_kind.TextKind.TheVariants.{Patrol}
 use Rattle.controller_table.specs.KindTexts.{rows_text, IsTextOf}
+use Rattle.controller_table.specs.TextRows.{HasTextRow}
 use Rattle.turn_rows.specs.Targets.{IsInTarget, next_turn}
-use Rattle.turn_rows.specs.Rows.{rows_for}
 
 -- the text of a plant and of one optional row for each turn and cell: the lines of runs have the rank and the input
 abbrev pub patrol_text : Description → List (List (Option Row)) → List ℕ
@@ -22,14 +21,9 @@ pub record PatrolModel : Type 0 where
 abbrev pub IsPatrolText : List ℕ → Description → List (List (Option Row)) → Type 0
 IsPatrolText = IsTextOf Patrol
 
--- The bytes are a patrol text in which the state's cell has this row for a turn.
-pub record HasPatrolRow (bytes : List ℕ) (j : ℕ) (x : List ℤ) (row : Row) : Type 0 where
-  pub plant : Description
-  pub rows : List (List (Option Row))
-  pub table : IsPatrolText bytes plant rows
-  pub turn : j < length plant.targets
-  pub inside : IsInDomain (axes_of plant) x
-  pub is : row_of (rows_for rows j) (cell_of (axes_of plant) x) ≡ Some row
+-- the bytes are a patrol text in which the state's cell has this row for a turn
+abbrev pub HasPatrolRow : List ℕ → ℕ → List ℤ → Row → Type 0
+HasPatrolRow bytes j x row = HasTextRow Patrol bytes j x row
 
 -- The bytes are a patrol text of a plant in which the state's cell is an arrival: it lies in target j and has a row for the next turn.
 pub record IsArrivalIn (bytes : List ℕ) (p : Description) (j : ℕ) (x : List ℤ) (row : Row) : Type 0 where

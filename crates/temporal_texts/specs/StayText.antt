@@ -1,11 +1,10 @@
 -- The text of a plant with its rows of reach and stay.
-use Rattle.std.specs.Prelude.{◌≡◌, ℕ, ℤ, List, [], ◌∷◌, Option, Some}
+use Rattle.std.specs.Prelude.{ℕ, ℤ, List, [], ◌∷◌, Option}
 use Rattle.game_core.specs.declared.game.Row.{Row}
-use Rattle.game_core.specs.Solution.{row_of}
-use Rattle.grid_quantiser.specs.Cells.{IsInDomain, cell_of}
-use Rattle.plant_record.specs.Description.{Description, axes_of}
+use Rattle.plant_record.specs.Description.{Description}
 use Rattle.controller_table.specs.declared.text_kind.TextKind.TheVariants.{Stay}
 use Rattle.controller_table.specs.KindTexts.{rows_text, IsTextOf}
+use Rattle.controller_table.specs.TextRows.{HasTextRow}
 
 -- the text of a plant and of one optional row for each of its cells: of one turn, and the lines of runs have the rank and the input
 abbrev pub stay_text : Description → List (Option Row) → List ℕ
@@ -20,10 +19,6 @@ pub record StayModel : Type 0 where
 abbrev pub IsStayText : List ℕ → Description → List (Option Row) → Type 0
 IsStayText bytes p rows = IsTextOf Stay bytes p (rows ∷ [])
 
--- The bytes are a stay text in which the state's cell has this row: its input is applied, whatever its rank.
-pub record HasStayRow (bytes : List ℕ) (x : List ℤ) (row : Row) : Type 0 where
-  pub plant : Description
-  pub rows : List (Option Row)
-  pub table : IsStayText bytes plant rows
-  pub inside : IsInDomain (axes_of plant) x
-  pub is : row_of rows (cell_of (axes_of plant) x) ≡ Some row
+-- the bytes are a stay text in which the state's cell has this row: its input is applied, whatever its rank
+abbrev pub HasStayRow : List ℕ → List ℤ → Row → Type 0
+HasStayRow bytes x row = HasTextRow Stay bytes 0 x row

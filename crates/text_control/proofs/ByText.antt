@@ -17,23 +17,23 @@ same_row t x a b h k = same_Some a b (sym h.is ∙ k.is)
 module _ (t : TextModel) (x : List ℤ) (bytes : List ℕ) (tells : Tells bytes t) where
   pub none_ranked : HasNoRow t x → HasNoTextRank t.kind t.turn bytes x
   none_ranked none k ranked =
-      let row = ranked_row bytes t t.kind tells x k ranked in
+      let row = ranked_row bytes t tells x k ranked in
       none row.0 row.1
 
   none_applied : HasNoRow t x → AppliesNone t.kind t.turn bytes x
   none_applied none values are =
-      let row = applied_row bytes t t.kind tells x values are in
+      let row = applied_row bytes t tells x values are in
       none row.0 row.1
 
   arrived_applies_none : HasArrived t x → AppliesNone t.kind t.turn bytes x
   arrived_applies_none arrived values are =
-      let row = applied_row bytes t t.kind tells x values are in
+      let row = applied_row bytes t tells x values are in
       arrived.none row.2.0 (subst (λ (r : Row). AppliesAs t.kind t.plant.goal r row.2.0) (same_row t x row.0 arrived.row row.1 arrived.has) row.2.1)
 
 pub by_text : (t : TextModel) (x before after : List ℤ) (reply : Reply) → IsReply t x before after reply → IsReplyByText t x after reply
-by_text t x before after Apply is = λ bytes tells. text_values bytes t t.kind tells x after is.1.row is.1.input is.1.has is.1.applies is.1.are
+by_text t x before after Apply is = λ bytes tells. text_values bytes t tells x after is.1.row is.1.input is.1.has is.1.applies is.1.are
 by_text t x before after Arrived is = λ bytes tells. (
-  subst (λ (k : ℕ). HasTextRank t.kind t.turn bytes x k) is.1.rank (text_rank bytes t t.kind tells x is.1.row is.1.has),
+  subst (λ (k : ℕ). HasTextRank t.kind t.turn bytes x k) is.1.rank (text_rank bytes t tells x is.1.row is.1.has),
   arrived_applies_none t x bytes tells is.1,
 )
 by_text t x before after NoRow is = λ bytes tells. (none_ranked t x bytes tells is.1, none_applied t x bytes tells is.1)

@@ -2,7 +2,6 @@ mod Cells
 mod Pieces
 mod Replies
 pub mod OneText
-mod HeldRows
 mod Told
 pub mod ByText
 pub mod TurnChanges
@@ -10,6 +9,6 @@ pub mod Answering
 pub mod TableLoops
 pub mod TemporalLoops
 pub mod TextRefusals
-pub mod TextsRead
+pub mod RefusedTexts
 pub mod SameBox
 mod NextBoxes

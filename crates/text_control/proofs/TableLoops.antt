@@ -1,5 +1,5 @@
 -- Loops of the answers of tables that drive or keep their plants.
-use Rattle.std.proofs.Common.{inl, inr, ◌≡◌, ◌⊎◌, ℕ, zero, suc, ◌<◌, List, [], ◌∷◌, length, replicate, refl, sym, ap, subst, ◌∙◌, arith}
+use Rattle.std.proofs.Common.{inl, inr, ◌≡◌, ◌⊎◌, ℕ, zero, suc, ◌<◌, List, [], ◌∷◌, Option, length, replicate, refl, sym, ap, subst, ◌∙◌, arith}
 use Rattle.std.specs.Prelude.{ℤ}
 use Rattle.std.specs.Int.Signed.{≤ℤ_refl}
 use Rattle.std.specs.List.{All, AllByRecursion}
@@ -13,15 +13,23 @@ use Rattle.plant_record.specs.Steps.{step_of, IsNoise}
 use Rattle.row_runs.specs.declared.run.TableVersion.{TableVersion}
 use Rattle.controller_table.specs.Choice.{IsChoice, HasRank}
 use Rattle.controller_table.specs.Tables.{IsTable}
+use Rattle.controller_table.specs.KindTexts.{IsTextOf}
+use Rattle.controller_table.specs.TextKinds.{turn_rules}
+use Rattle.controller_table.specs.TextRows.{HasTextRow}
+use Rattle.controller_table.proofs.HeadedLaws.{one_text}
 use Rattle.controller_table.proofs.OneTable.{one_choice}
+use Rattle.controller_table.proofs.TableTexts.{only_turn, as_text, as_table}
+use Rattle.game_core.specs.declared.game.Row.{Row}
+use Rattle.turn_rows.specs.Rows.{rows_for}
 use Rattle.plant_refine.specs.Drives.{Comes}
 use Rattle.plant_refine.specs.Stays.{HasSomeRow, Stays}
 use Rattle.controller_table.specs.declared.text_kind.TextKind.{TextKind}
 use Rattle.controller_table.specs.declared.text_kind.TextKind.TheVariants.{Table}
-use Rattle.text_control.specs.Texts.{TextModel, due_rows, Tells, TellsAs}
-use Rattle.text_control.specs.Control.{AppliesAs, HasTextRank, AreTextValues, IsRank}
+use Rattle.text_control.specs.Texts.{TextModel, due_rows, Tells}
+use Rattle.text_control.specs.Control.{AppliesAs, AreTextValues, IsRank}
 use Rattle.text_control.specs.Loops.{LoopSample, moved_by, Answers, AlwaysAnswers, IsLoop}
 use Rattle.text_control.specs.Laws.{ReachLoopsArrive, KeepLoopsGoOn}
+use Rattle.text_control.proofs.OneText.{first_due}
 use Rattle.text_control.proofs.Answering.{chosen, always_answers, moves}
 
 -- ---- noises for samples that aren't there
@@ -41,18 +49,22 @@ each_is_noise : (noises : List NoiseVariable) (n : ℕ) → All IsNoiseVariable 
 each_is_noise noises zero each = tt
 each_is_noise noises (suc n) each = (low_is_noise noises each, each_is_noise noises n each)
 
-module _ (bytes : List ℕ) (t : TextModel) (version : TableVersion) (tells : Tells bytes t) (kind : t.kind ≡ Table version) where
+module _ (bytes : List ℕ) (t : TextModel) (version : TableVersion) (tells : Tells bytes t) (kind : t.kind ≡ Table version) (first : t.turn ≡ 0) where
   abbrev p : Description
   p = t.plant
 
   table : IsTable bytes p (due_rows t)
-  table = subst (λ (k : TextKind). TellsAs k bytes t) kind tells
+  table =
+      let text : IsTextOf (Table version) bytes p t.turns = subst (λ (k : TextKind). IsTextOf k bytes p t.turns) kind tells in
+      let only = only_turn (turn_rules (Table version) p) t.turns refl text.within in
+      let due : only.0 ≡ due_rows t = ap (λ (rows : List (List (Option Row))). rows_for rows 0) (sym only.1) ∙ ap (rows_for t.turns) (sym first) in
+      subst (IsTable bytes p) due (as_table version bytes p only.0 (subst (IsTextOf (Table version) bytes p) only.1 text)).0
 
   noises : All IsNoiseVariable p.noises
   noises = table.limits.plant.noises
 
   rank_told : (x : List ℤ) (k : ℕ) → IsRank t x k → HasRank bytes x k
-  rank_told x k rank = subst (λ (kd : TextKind). HasTextRank kd t.turn bytes x k) kind (rank.1 bytes tells)
+  rank_told x k rank = record { plant = p; rows = due_rows t; table = table; row = rank.0.row; has = rank.0.has; ranked = sym rank.0.is }
 
   -- what is answered is what the table chooses
   choice : (x values : List ℤ) → Answers t x values → (u : ℕ) × IsChoice bytes x u × (values ≡ vector_of p.inputs u)
@@ -62,7 +74,12 @@ module _ (bytes : List ℕ) (t : TextModel) (version : TableVersion) (tells : Te
       (c.input, record { plant = p; rows = due_rows t; table = table; chosen = (c.row, c.has, applies) }, c.are)
 
   chooses : (x : List ℤ) (u : ℕ) → IsChoice bytes x u → AlwaysAnswers t x
-  chooses x u c = always_answers t x bytes tells (vector_of c.plant.inputs u) (subst (λ (kd : TextKind). AreTextValues kd t.turn bytes x (vector_of c.plant.inputs u)) (sym kind) (u, c, refl))
+  chooses x u c =
+      let text = as_text bytes c.plant c.rows c.table in
+      let same = (one_text (Table c.table.version) t.kind bytes c.plant p (c.rows ∷ []) t.turns text tells).0 in
+      let has : HasTextRow (Table c.table.version) bytes 0 x c.chosen.0 = record { plant = c.plant; turns = c.rows ∷ []; text = text; has = c.chosen.1 } in
+      always_answers t x bytes tells (vector_of c.plant.inputs u)
+      (subst (λ (due : TextKind × ℕ). AreTextValues due.0 due.1 bytes x (vector_of c.plant.inputs u)) (λ i. (same i, sym first i)) (c.chosen.0, has, u, c.chosen.2, refl))
 
   -- the plant makes a step under the input that a choice names
   moves_on : (s : LoopSample) (x : List ℤ) (u : ℕ) → s.state ≡ x → Answers t x s.values → IsChoice bytes x u → step_of p x u s.noise ≡ moved_by p s
@@ -128,9 +145,16 @@ module _ (bytes : List ℕ) (t : TextModel) (version : TableVersion) (tells : Te
       let there : HasSomeRow bytes (moved_by p s) = subst (HasSomeRow bytes) (moves_on s x r.2.0 loop.0 loop.1 r.2.1) r.2.2.1 in
       kept stays samples (moved_by p s) y there loop.3
 
+-- a state with a rank has it in the first turn
+first_turn : (bytes : List ℕ) (t : TextModel) (version : TableVersion) → Tells bytes t → t.kind ≡ Table version → (x : List ℤ) (k : ℕ) → IsRank t x k → t.turn ≡ 0
+first_turn bytes t version tells kind x k rank = first_due bytes t tells x (ap (λ (kd : TextKind). (turn_rules kd t.plant).turns) kind) rank.0.row rank.0.has
+
 pub reach_loops_arrive : ReachLoopsArrive
 reach_loops_arrive bytes t version tells kind drives x y k samples rank loop out =
-    driven bytes t version tells kind samples x y k (λ ws many each. drives x k ws (rank_told bytes t version tells kind x k rank) many (All-from_recursion (IsNoise t.plant.noises) ws each)) loop out
+    let first = first_turn bytes t version tells kind x k rank in
+    driven bytes t version tells kind first samples x y k (λ ws many each. drives x k ws (rank_told bytes t version tells kind first x k rank) many (All-from_recursion (IsNoise t.plant.noises) ws each)) loop out
 
 pub keep_loops_go_on : KeepLoopsGoOn
-keep_loops_go_on bytes t version tells kind stays x y k samples rank loop = kept bytes t version tells kind stays samples x y (k, rank_told bytes t version tells kind x k rank) loop
+keep_loops_go_on bytes t version tells kind stays x y k samples rank loop =
+    let first = first_turn bytes t version tells kind x k rank in
+    kept bytes t version tells kind first stays samples x y (k, rank_told bytes t version tells kind first x k rank) loop

@@ -6,8 +6,12 @@ use Rattle.std.proofs.lemmas.List.{length-map}
 use Rattle.game_core.specs.declared.game.Row.{Row}
 use Rattle.grid_quantiser.specs.CellBoxes.{IsInBox}
 use Rattle.plant_record.specs.Description.{Description, axes_of, vector_of}
+use Rattle.controller_table.specs.Choice.{HasRowAt}
+use Rattle.controller_table.specs.TextKinds.{turn_rules}
+use Rattle.controller_table.specs.TextRows.{HasTextRow}
+use Rattle.turn_rows.specs.Rows.{rows_for}
 use Rattle.temporal_texts.specs.StayText.{HasStayRow}
-use Rattle.temporal_texts.specs.PatrolText.{IsPatrolText, HasPatrolRow}
+use Rattle.temporal_texts.specs.PatrolText.{HasPatrolRow}
 use Rattle.temporal_texts.specs.TextTrajectories.{Sample, state_after, IsStayTrajectory, IsTurnFrom, IsPatrolTrajectory}
 use Rattle.temporal_texts.specs.TextTrajectories as texts
 use Rattle.turn_rows.specs.Targets.{target_at}
@@ -16,12 +20,12 @@ use Rattle.controller_table.specs.declared.text_kind.TextKind.{TextKind}
 use Rattle.controller_table.specs.declared.text_kind.TextKind.TheVariants.{Stay, Patrol}
 use Rattle.text_control.specs.declared.visits.Visit.{Visit}
 use Rattle.text_control.specs.declared.visits.Visit.TheVariants.{Next, Same, WrongSize}
-use Rattle.text_control.specs.Texts.{TextModel, Tells, TellsAs}
-use Rattle.text_control.specs.Control.{AppliesAs, HasTextRank, AreTextValues}
+use Rattle.text_control.specs.Texts.{TextModel, due_rows, Tells}
+use Rattle.text_control.specs.Control.{AppliesAs, AreTextValues}
 use Rattle.text_control.specs.Visits.{HasArrivedInTurn, with_turn, IsVisit, IsVisitByText}
 use Rattle.text_control.specs.Loops.{LoopSample, moved_by, Answers, AlwaysAnswers, IsLoop, IsPatrolLoop}
 use Rattle.text_control.specs.Laws.{EndsTurn, StayLoopsSettle, PatrolLoopsGoOn}
-use Rattle.text_control.proofs.OneText.{has_stay_row, has_patrol_row}
+use Rattle.text_control.proofs.OneText.{text_row, first_due}
 use Rattle.text_control.proofs.TurnChanges.{arrived}
 use Rattle.text_control.proofs.Answering.{chosen, always_answers, moves}
 
@@ -44,48 +48,52 @@ by_row s row = record { state = s.state; row = row; noise = s.noise }
 
 -- ---- stay texts
 
-module _ (bytes : List ℕ) (t : TextModel) (tells : Tells bytes t) (kind : t.kind ≡ Stay) where
+module _ (bytes : List ℕ) (t : TextModel) (tells : Tells bytes t) (kind : t.kind ≡ Stay) (first : t.turn ≡ 0) where
   abbrev p : Description
   p = t.plant
 
-  text : TellsAs Stay bytes t
-  text = subst (λ (k : TextKind). TellsAs k bytes t) kind tells
+  stay_row : (x : List ℤ) (row : Row) → HasRowAt p (due_rows t) x row → HasStayRow bytes x row
+  stay_row x row has = subst (λ (due : TextKind × ℕ). HasTextRow due.0 bytes due.1 x row) (λ i. (kind i, first i)) (text_row bytes t tells x t.turn row has)
 
-  stay_row : (x values : List ℤ) → Answers t x values → (row : Row) × HasStayRow bytes x row × (values ≡ vector_of p.inputs row.input)
-  stay_row x values answers =
+  answered_row : (x values : List ℤ) → Answers t x values → (row : Row) × HasStayRow bytes x row × (values ≡ vector_of p.inputs row.input)
+  answered_row x values answers =
       let c = chosen t x values answers in
       let applies : c.row.input ≡ c.input = subst (λ (k : TextKind). AppliesAs k p.goal c.row c.input) kind c.applies in
-      (c.row, has_stay_row bytes t text x c.row c.has, c.are ∙ ap (vector_of p.inputs) (sym applies))
+      (c.row, stay_row x c.row c.has, c.are ∙ ap (vector_of p.inputs) (sym applies))
 
   as_trajectory : (samples : List LoopSample) (x y : List ℤ) → IsLoop t x samples y → (rows : List Sample) × IsStayTrajectory p bytes x rows y × AreAlike p rows samples
   as_trajectory [] x y loop = ([], loop, tt)
   as_trajectory (s ∷ samples) x y loop =
-      let row = stay_row x s.values loop.1 in
+      let row = answered_row x s.values loop.1 in
       let same : moved_by p s ≡ state_after p (by_row s row.0) = moves p s row.0.input row.2 in
       let rest = as_trajectory samples (moved_by p s) y loop.3 in
       (by_row s row.0 ∷ rest.0, (loop.0, row.1, loop.2, subst (λ (z : List ℤ). IsStayTrajectory p bytes z rest.0 y) same rest.1), (sym same, rest.2))
 
   pub stay_answers : (y : List ℤ) (row : Row) → HasStayRow bytes y row → AlwaysAnswers t y
-  stay_answers y row has = always_answers t y bytes tells (vector_of has.plant.inputs row.input) (subst (λ (k : TextKind). AreTextValues k t.turn bytes y (vector_of has.plant.inputs row.input)) (sym kind) (row, has, refl))
+  stay_answers y row has =
+      let values = vector_of has.plant.inputs row.input in
+      always_answers t y bytes tells values
+      (subst (λ (due : TextKind × ℕ). AreTextValues due.0 due.1 bytes y values) (λ i. (sym kind i, sym first i)) (row, has, row.input, refl, refl))
 
 pub stay_loops_settle : StayLoopsSettle
 stay_loops_settle bytes t tells kind settles x y k samples rank loop =
-    let first : HasTextRank Stay t.turn bytes x k = subst (λ (kd : TextKind). HasTextRank kd t.turn bytes x k) kind (rank.1 bytes tells) in
-    let way = as_trajectory bytes t tells kind samples x y loop in
-    let end = stay_trajectories_settle t.plant bytes settles x y first.0 way.0 first.1 way.1 in
-    (end.0, stay_answers bytes t tells kind y end.1.0 end.1.1, λ le. end.2 (let same = same_length t.plant way.0 samples way.2 in let r = first.2 in omega (arith, le, same, r)))
+    let at = rank.0 in
+    let first = first_due bytes t tells x (ap (λ (kd : TextKind). (turn_rules kd t.plant).turns) kind) at.row at.has in
+    let way = as_trajectory bytes t tells kind first samples x y loop in
+    let end = stay_trajectories_settle t.plant bytes settles x y at.row way.0 (stay_row bytes t tells kind first x at.row at.has) way.1 in
+    (end.0, stay_answers bytes t tells kind first y end.1.0 end.1.1, λ le. end.2 (let same = same_length t.plant way.0 samples way.2 in let r = at.is in omega (arith, le, same, r)))
 
 -- ---- patrol texts
 
-module _ (bytes : List ℕ) (t : TextModel) (tells : IsPatrolText bytes t.plant t.turns) (kind : t.kind ≡ Patrol) where
-  told : (j : ℕ) → Tells bytes (with_turn t j)
-  told j = subst (λ (k : TextKind). TellsAs k bytes (with_turn t j)) (sym kind) tells
+module _ (bytes : List ℕ) (t : TextModel) (tells : Tells bytes t) (kind : t.kind ≡ Patrol) where
+  patrol_row : (j : ℕ) (x : List ℤ) (row : Row) → HasRowAt t.plant (rows_for t.turns j) x row → HasPatrolRow bytes j x row
+  patrol_row j x row has = subst (λ (k : TextKind). HasTextRow k bytes j x row) kind (text_row bytes t tells x j row has)
 
   turn_row : (j : ℕ) (x values : List ℤ) → Answers (with_turn t j) x values → (row : Row) × HasPatrolRow bytes j x row × (values ≡ vector_of t.plant.inputs row.input)
   turn_row j x values answers =
       let c = chosen (with_turn t j) x values answers in
       let applies : c.row.input ≡ c.input = subst (λ (k : TextKind). AppliesAs k t.plant.goal c.row c.input) kind c.applies in
-      (c.row, has_patrol_row bytes t tells j x c.row c.has, c.are ∙ ap (vector_of t.plant.inputs) (sym applies))
+      (c.row, patrol_row j x c.row c.has, c.are ∙ ap (vector_of t.plant.inputs) (sym applies))
 
   one_number_each : (s : LoopSample) → length (moved_by t.plant s) ≡ length t.plant.states
   one_number_each s = length-map t.plant.equations _ ∙ tells.limits.plant.one_each
@@ -93,8 +101,8 @@ module _ (bytes : List ℕ) (t : TextModel) (tells : IsPatrolText bytes t.plant 
   -- what is held after a visit is the same text, and its turn is the text's
   visited : (j : ℕ) (y : List ℤ) (m : TextModel) (visit : Visit) → length y ≡ length t.plant.states → IsVisit (with_turn t j) y m visit → IsVisitByText (with_turn t j) y m visit
       → (m ≡ with_turn t m.turn) × IsTurnFrom t.plant bytes j y m.turn
-  visited j y m Next sized is by = (is.2 ∙ ap (with_turn t) (sym (ap (λ (n : TextModel). n.turn) is.2)), by bytes (told j) kind)
-  visited j y m Same sized is by = (is.2 ∙ ap (with_turn t) (sym (ap (λ (n : TextModel). n.turn) is.2)), by bytes (told j) kind)
+  visited j y m Next sized is by = (is.2 ∙ ap (with_turn t) (sym (ap (λ (n : TextModel). n.turn) is.2)), by bytes tells kind)
+  visited j y m Same sized is by = (is.2 ∙ ap (with_turn t) (sym (ap (λ (n : TextModel). n.turn) is.2)), by bytes tells kind)
   visited j y m WrongSize sized is by = absurd (is.0 sized)
 
   as_patrol : (samples : List LoopSample) (j : ℕ) (x y : List ℤ) (u : TextModel) → IsPatrolLoop (with_turn t j) x samples u y
@@ -129,15 +137,14 @@ module _ (bytes : List ℕ) (t : TextModel) (tells : IsPatrolText bytes t.plant 
 
   patrol_answers : (j : ℕ) (y : List ℤ) (row : Row) → HasPatrolRow bytes j y row → AlwaysAnswers (with_turn t j) y
   patrol_answers j y row has =
-      always_answers (with_turn t j) y bytes (told j) (vector_of has.plant.inputs row.input)
-      (subst (λ (k : TextKind). AreTextValues k j bytes y (vector_of has.plant.inputs row.input)) (sym kind) (row, has, refl))
+      always_answers (with_turn t j) y bytes tells (vector_of has.plant.inputs row.input)
+      (subst (λ (k : TextKind). AreTextValues k j bytes y (vector_of has.plant.inputs row.input)) (sym kind) (row, has, row.input, refl, refl))
 
 pub patrol_loops_go_on : PatrolLoopsGoOn
 patrol_loops_go_on bytes t u tells kind patrols x y k samples rank loop =
-    let text : IsPatrolText bytes t.plant t.turns = subst (λ (kd : TextKind). TellsAs kd bytes t) kind tells in
-    let first : HasTextRank Patrol t.turn bytes x k = subst (λ (kd : TextKind). HasTextRank kd t.turn bytes x k) kind (rank.1 bytes tells) in
-    let way = as_patrol bytes t text kind samples t.turn x y u loop in
-    let end = patrol_trajectories_go_on t.plant bytes patrols t.turn u.turn x y first.0 way.0 first.1 way.1 in
-    let ends : k ≤ length samples → Any (EndsTurn t) (take k samples) = λ le. subst (λ (n : ℕ). Any (EndsTurn t) (take n samples)) first.2
-    (ends_alike bytes t text kind way.0 samples first.0.rank way.2 (end.2 (let same = same_length t.plant way.0 samples way.2 in let r = first.2 in omega (arith, le, same, r)))) in
-    (end.0, subst (λ (m : TextModel). AlwaysAnswers m y) (sym way.3) (patrol_answers bytes t text kind u.turn y end.1.0 end.1.1), ends)
+    let at = rank.0 in
+    let way = as_patrol bytes t tells kind samples t.turn x y u loop in
+    let end = patrol_trajectories_go_on t.plant bytes patrols t.turn u.turn x y at.row way.0 (patrol_row bytes t tells kind t.turn x at.row at.has) way.1 in
+    let ends : k ≤ length samples → Any (EndsTurn t) (take k samples) = λ le. subst (λ (n : ℕ). Any (EndsTurn t) (take n samples)) (sym at.is)
+    (ends_alike bytes t tells kind way.0 samples at.row.rank way.2 (end.2 (let same = same_length t.plant way.0 samples way.2 in let r = at.is in omega (arith, le, same, r)))) in
+    (end.0, subst (λ (m : TextModel). AlwaysAnswers m y) (sym way.3) (patrol_answers bytes t tells kind u.turn y end.1.0 end.1.1), ends)

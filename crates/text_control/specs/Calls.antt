@@ -2,7 +2,7 @@
 use Rattle.std.specs.Prelude.{◌≡◌, ◌≢◌, ◌⊎◌, ℕ, ◌<◌, ◌≤◌, ℤ, pos, negsuc, List, length, Option, Some, None, true, false}
 use Rattle.text_control.specs.declared.control_fault.ControlFault.{ControlFault}
 use Rattle.text_control.specs.declared.control_fault.ControlFault.TheVariants as faults
-use Rattle.text_control.specs.Texts.{TextModel, IsReadFrom, IsTextRefusedFor}
+use Rattle.text_control.specs.Texts.{TextModel, IsReadFrom, IsNoTextFor}
 use Rattle.text_control.specs.Control.{EncodesReply, IsRank, IsUnranked}
 use Rattle.text_control.specs.Each.{IsReplyEach}
 use Rattle.text_control.specs.Visits.{with_turn, EncodesVisit}
@@ -25,7 +25,7 @@ pub record IsRefusal (bytes : List ℕ) (status : ℤ) (line : ℕ) : Type 0 whe
   pub fault : ControlFault
   pub number : status ≡ fault_number fault
   pub line_is : line ≡ fault_line fault
-  pub refused : fault ≢ faults.Memory → IsTextRefusedFor bytes fault
+  pub refused : fault ≢ faults.Memory → IsNoTextFor bytes fault
 
 -- what the bytes say is held; or nothing is, and the numbers say why the bytes are no text
 abbrev pub IsOpened : List ℕ → Option TextModel → ℤ → ℕ → Type 0

@@ -3,9 +3,8 @@ use Rattle.std.specs.Prelude.{◌≡◌, ℕ, ◌<◌, ℤ, pos, negsuc, List, l
 use Rattle.game_core.specs.declared.game.Row.{Row}
 use Rattle.plant_record.specs.declared.aims.GoalKind.{GoalKind}
 use Rattle.plant_record.specs.Description.{vector_of, vectors_of}
-use Rattle.controller_table.specs.Choice.{HasRowAt, Applies, IsChoice, HasRank}
-use Rattle.temporal_texts.specs.StayText.{HasStayRow}
-use Rattle.temporal_texts.specs.PatrolText.{HasPatrolRow}
+use Rattle.controller_table.specs.Choice.{HasRowAt, Applies}
+use Rattle.controller_table.specs.TextRows.{HasTextRow}
 use Rattle.text_control.specs.declared.reply.Reply.{Reply}
 use Rattle.text_control.specs.declared.reply.Reply.TheVariants as replies
 use Rattle.controller_table.specs.declared.text_kind.TextKind.{TextKind}
@@ -62,15 +61,12 @@ reply_number replies.WrongSizes = negsuc 1
 
 -- the text has a row of this rank at the state, for a turn
 abbrev pub HasTextRank : TextKind → ℕ → List ℕ → List ℤ → ℕ → Type 0
-HasTextRank (Table version) j bytes x k = HasRank bytes x k
-HasTextRank Stay j bytes x k = (row : Row) × HasStayRow bytes x row × (row.rank ≡ k)
-HasTextRank Patrol j bytes x k = (row : Row) × HasPatrolRow bytes j x row × (row.rank ≡ k)
+HasTextRank kind j bytes x k = (row : Row) × HasTextRow kind bytes j x row × (row.rank ≡ k)
 
 -- these are the values of the input that the text applies at the state, for a turn
 abbrev pub AreTextValues : TextKind → ℕ → List ℕ → List ℤ → List ℤ → Type 0
-AreTextValues (Table version) j bytes x values = (u : ℕ) × (choice : IsChoice bytes x u) × (values ≡ vector_of choice.plant.inputs u)
-AreTextValues Stay j bytes x values = (row : Row) × (has : HasStayRow bytes x row) × (values ≡ vector_of has.plant.inputs row.input)
-AreTextValues Patrol j bytes x values = (row : Row) × (has : HasPatrolRow bytes j x row) × (values ≡ vector_of has.plant.inputs row.input)
+AreTextValues kind j bytes x values =
+    (row : Row) × (has : HasTextRow kind bytes j x row) × (u : ℕ) × AppliesAs kind has.plant.goal row u × (values ≡ vector_of has.plant.inputs u)
 
 -- the text has no row at the state
 abbrev pub HasNoTextRank : TextKind → ℕ → List ℕ → List ℤ → Type 0

@@ -8,19 +8,15 @@ use Rattle.row_runs.specs.declared.run.TableVersion.{TableVersion}
 use Rattle.temporal_texts.specs.Settles.{Settles}
 use Rattle.turn_rows.specs.Targets.{target_at}
 use Rattle.temporal_texts.specs.Patrols.{Patrols}
-use Rattle.controller_table.specs.TextKinds.{HasFewTurns}
+use Rattle.controller_table.specs.TextKinds.{HasFewTurnsFor}
 use Rattle.plant_refine.specs.Drives.{Drives}
 use Rattle.plant_refine.specs.Stays.{Stays}
 use Rattle.controller_table.specs.declared.text_kind.TextKind.TheVariants.{Table, Stay, Patrol}
 use Rattle.text_control.specs.declared.control_fault.ControlFault.{ControlFault}
-use Rattle.text_control.specs.Texts.{TextModel, Tells, IsReadFrom, IsTextRefusedFor}
+use Rattle.text_control.specs.Texts.{TextModel, Tells, IsReadFrom, IsNoTextFor}
 use Rattle.text_control.specs.Control.{IsRank}
 use Rattle.text_control.specs.Visits.{HasArrivedInTurn}
 use Rattle.text_control.specs.Loops.{LoopSample, moved_by, AlwaysAnswers, IsLoop, IsPatrolLoop}
-
--- of a patrol the plant has few enough turns
-abbrev pub HasFewEnoughTurns : TextModel → Type 0
-HasFewEnoughTurns t = t.kind ≡ Patrol → HasFewTurns t.plant
 
 -- bytes say what is read from them
 abbrev pub ReadTextsTell : Type 0
@@ -28,15 +24,15 @@ ReadTextsTell = (bytes : List ℕ) (t : TextModel) → IsReadFrom bytes t → Te
 
 -- bytes have one reason to be none of the three texts
 abbrev pub OneTextRefusal : Type 0
-OneTextRefusal = (bytes : List ℕ) (f g : ControlFault) → IsTextRefusedFor bytes f → IsTextRefusedFor bytes g → f ≡ g
+OneTextRefusal = (bytes : List ℕ) (f g : ControlFault) → IsNoTextFor bytes f → IsNoTextFor bytes g → f ≡ g
 
 -- no text with few enough turns is refused
 abbrev pub TextOrRefused : Type 0
-TextOrRefused = (bytes : List ℕ) (t : TextModel) (f : ControlFault) → Tells bytes t → HasFewEnoughTurns t → IsTextRefusedFor bytes f → ⊥
+TextOrRefused = (bytes : List ℕ) (t : TextModel) (f : ControlFault) → Tells bytes t → HasFewTurnsFor t.kind t.plant → IsNoTextFor bytes f → ⊥
 
 -- no bytes are neither such a text nor refused
 abbrev pub NoBytesAreNeither : Type 0
-NoBytesAreNeither = (bytes : List ℕ) → ((t : TextModel) → Tells bytes t → HasFewEnoughTurns t → ⊥) → ((f : ControlFault) → IsTextRefusedFor bytes f → ⊥) → ⊥
+NoBytesAreNeither = (bytes : List ℕ) → ((t : TextModel) → Tells bytes t → HasFewTurnsFor t.kind t.plant → ⊥) → ((f : ControlFault) → IsNoTextFor bytes f → ⊥) → ⊥
 
 -- Where a table drives its plant: on every loop from a state of rank k, until a state lies in a target each is off the obstacles
 -- and has an answer, and within k samples one lies in a target.

@@ -1,23 +1,14 @@
 -- What a table, a stay text or a patrol text says, and the turn that is due.
-use Rattle.std.specs.Prelude.{◌≡◌, ◌⊎◌, ℕ, ◌<◌, List, ◌++◌, length, Option, IfSome}
-use Rattle.std.specs.List.{All}
+use Rattle.std.specs.Prelude.{◌≡◌, ℕ, List, Option}
+use Rattle.base.specs.declared.limits.TheConstants.{TABLE_LIMIT}
 use Rattle.game_core.specs.declared.game.Row.{Row}
-use Rattle.grid_quantiser.specs.Axes.{cells_of}
-use Rattle.plant_record.specs.Description.{Description, axes_of, vectors_of}
-use Rattle.plant_record.specs.Limits.{IsWithinLimits}
-use Rattle.controller_table.specs.declared.table_fault.TableFault.{TableFault}
-use Rattle.controller_table.specs.declared.table_fault.TableFault.TheVariants as tables
-use Rattle.controller_table.specs.Tables.{IsTable}
-use Rattle.controller_table.specs.TableRefusals.{IsTableRefusedFor}
+use Rattle.plant_record.specs.Description.{Description}
 use Rattle.controller_table.specs.declared.text_fault.TextFault.{TextFault}
-use Rattle.controller_table.specs.declared.text_fault.TextFault.TheVariants as patrols
-use Rattle.controller_table.specs.TextKinds.{first_line}
+use Rattle.controller_table.specs.declared.text_fault.TextFault.TheVariants as texts
+use Rattle.controller_table.specs.TextKinds.{most_bytes}
 use Rattle.controller_table.specs.KindTexts.{IsTextOf}
-use Rattle.temporal_texts.specs.StayText.{IsStayText}
-use Rattle.temporal_texts.specs.StayRefusals.{IsStayRefusedFor}
-use Rattle.temporal_texts.specs.PatrolText.{IsPatrolText}
+use Rattle.controller_table.specs.HeadedTexts.{BeginsAs, IsTextRefusedFor, alone}
 use Rattle.turn_rows.specs.Rows.{rows_for}
-use Rattle.temporal_texts.specs.PatrolRefusals.{IsPatrolRefusedFor}
 use Rattle.controller_table.specs.declared.text_kind.TextKind.{TextKind}
 use Rattle.controller_table.specs.declared.text_kind.TextKind.TheVariants.{Table, Stay, Patrol}
 use Rattle.text_control.specs.declared.control_fault.ControlFault.{ControlFault}
@@ -35,47 +26,26 @@ pub record TextModel : Type 0 where
 abbrev pub due_rows : TextModel → List (Option Row)
 due_rows t = rows_for t.turns t.turn
 
--- One optional row for each cell in each turn, with one of the input vectors.
-pub record TurnsFit (p : Description) (turns : List (List (Option Row))) : Type 0 where
-  pub limits : IsWithinLimits p
-  pub one_row_each : All (λ (rows : List (Option Row)). length rows ≡ cells_of (axes_of p)) turns
-  pub each : All (λ (rows : List (Option Row)). All (λ row. IfSome row (λ (r : Row). r.input < vectors_of p.inputs)) rows) turns
-
--- the bytes are a text of this kind that says the plant and the rows
-abbrev pub TellsAs : TextKind → List ℕ → TextModel → Type 0
-TellsAs (Table version) bytes t = IsTable bytes t.plant (due_rows t)
-TellsAs Stay bytes t = IsStayText bytes t.plant (due_rows t)
-TellsAs Patrol bytes t = IsPatrolText bytes t.plant t.turns
-
--- the bytes are a text that says this
+-- the bytes are the text of this kind, plant and rows
 abbrev pub Tells : List ℕ → TextModel → Type 0
-Tells bytes t = TellsAs t.kind bytes t
+Tells bytes t = IsTextOf t.kind bytes t.plant t.turns
 
--- the bytes are the text of this kind, plant and rows, and its first turn is due
+-- and its first turn is due
 abbrev pub IsReadFrom : List ℕ → TextModel → Type 0
-IsReadFrom bytes t = IsTextOf t.kind bytes t.plant t.turns × (t.turn ≡ 0)
+IsReadFrom bytes t = Tells bytes t × (t.turn ≡ 0)
 
--- a table's fault, or a stay text's
-abbrev pub fault_of_table : TableFault → ControlFault
-fault_of_table (tables.Malformed line) = Malformed line
-fault_of_table (tables.Limit what) = Limit
-fault_of_table tables.Memory = Memory
+-- the fault of bytes that are none of the three texts
+abbrev pub control_fault : TextFault → ControlFault
+control_fault (texts.Malformed line) = Malformed line
+control_fault (texts.Limit what) = Limit
+control_fault texts.Turns = Limit
+control_fault texts.Memory = Memory
 
--- a patrol text's fault
-abbrev pub fault_of_patrol : TextFault → ControlFault
-fault_of_patrol (patrols.Malformed line) = Malformed line
-fault_of_patrol (patrols.Limit what) = Limit
-fault_of_patrol patrols.Turns = Limit
-fault_of_patrol patrols.Memory = Memory
+-- the bytes aren't the text that they begin as, which is a table where they begin as no other
+abbrev pub IsRefusedAs : TextKind → List ℕ → TextFault → Type 0
+IsRefusedAs (Table version) bytes f = (BeginsAs Stay bytes → ⊥) × (BeginsAs Patrol bytes → ⊥) × IsTextRefusedFor Table TABLE_LIMIT bytes f
+IsRefusedAs kind bytes f = BeginsAs kind bytes × IsTextRefusedFor (alone kind) (most_bytes kind) bytes f
 
--- the bytes begin with this line
-abbrev pub HasFirstLine : List ℕ → List ℕ → Type 0
-HasFirstLine line bytes = (rest : List ℕ) × (bytes ≡ line ++ rest)
-
--- why bytes are none of the three texts: the reason why they aren't the one that they begin as, which is a table where they
--- begin as no other
-abbrev pub IsTextRefusedFor : List ℕ → ControlFault → Type 0
-IsTextRefusedFor bytes fault =
-    (HasFirstLine (first_line Stay) bytes × ((f : TableFault) × (fault ≡ fault_of_table f) × IsStayRefusedFor bytes f))
-    ⊎ (HasFirstLine (first_line Patrol) bytes × ((f : TextFault) × (fault ≡ fault_of_patrol f) × IsPatrolRefusedFor bytes f))
-    ⊎ ((HasFirstLine (first_line Stay) bytes → ⊥) × (HasFirstLine (first_line Patrol) bytes → ⊥) × ((f : TableFault) × (fault ≡ fault_of_table f) × IsTableRefusedFor bytes f))
+-- why bytes are none of the three texts
+abbrev pub IsNoTextFor : List ℕ → ControlFault → Type 0
+IsNoTextFor bytes fault = (kind : TextKind) × (f : TextFault) × (fault ≡ control_fault f) × IsRefusedAs kind bytes f

@@ -13,9 +13,9 @@ pub enum ControlFault {
 
 impl From<TextFault> for ControlFault {
     ghost use Rattle.std.specs.Prelude.{◌≡◌};
-    ghost use Rattle.text_control.specs.Texts.{fault_of_patrol};
+    ghost use Rattle.text_control.specs.Texts.{control_fault};
 
-    ghost from_gives = { λ fault e. e ≡ fault_of_patrol fault };
+    ghost from_gives = { λ fault e. e ≡ control_fault fault };
 
     fn from(fault: TextFault) -> ControlFault {
         match fault {

@@ -42,7 +42,7 @@ impl Model for PackedText {
 
     ghost view = { λ t. record { kind = t.kind; plant = t.plant; turns = t.turns.items; turn = t.turn } };
 
-    ghost invariant = { λ t. HoldsText t.plant t.turns.items t.slopes };
+    ghost invariant = { λ t. HoldsText (record { kind = t.kind; plant = t.plant; turns = t.turns.items }) t.slopes };
 }
 
 impl PackedText {

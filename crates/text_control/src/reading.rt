@@ -2,7 +2,7 @@
 
 ghost use Rattle.std.specs.Prelude.{◌≢◌, IfOk, IfErr};
 ghost use Rattle.text_control.specs.declared.control_fault.ControlFault.TheVariants.{Memory};
-ghost use Rattle.text_control.specs.Texts.{IsReadFrom, IsTextRefusedFor};
+ghost use Rattle.text_control.specs.Texts.{IsReadFrom, IsNoTextFor};
 
 use crate::control_fault::ControlFault;
 use crate::packed_text::PackedText;
@@ -14,7 +14,7 @@ use std::alloc::Global;
 /// text that they begin as, which is a table where they begin as none.
 pub fn read_text(alloc: Global, bytes: &[u8]) -> Result<PackedText, ControlFault>
     ensures read { IfOk result (IsReadFrom bytes.now) }
-    ensures refused { IfErr result (λ fault. fault ≢ Memory → IsTextRefusedFor bytes.now fault) }
+    ensures refused { IfErr result (λ fault. fault ≢ Memory → IsNoTextFor bytes.now fault) }
 {
     let Some((kind, rest)) = take_kind(bytes) else {
         if bytes.len() > TABLE_LIMIT {

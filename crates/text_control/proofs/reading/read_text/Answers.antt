@@ -3,8 +3,8 @@ use Rattle.base.proofs.Results.{passed_on}
 use Rattle.controller_table.specs.declared.text_kind.TextKind.{TextKind}
 use Rattle.controller_table.specs.KindTexts.{IsTextOf}
 use Rattle.text_control.specs.declared.control_fault.ControlFault.TheVariants.{Memory}
-use Rattle.text_control.specs.Texts.{IsReadFrom, IsTextRefusedFor, fault_of_patrol}
-use Rattle.text_control.proofs.TextsRead.{refused_after, too_long, none_too_long, none_begins}
+use Rattle.text_control.specs.Texts.{IsReadFrom, IsNoTextFor, control_fault}
+use Rattle.text_control.proofs.RefusedTexts.{refused_after, too_long, none_too_long, none_begins}
 use Rattle.text_control.proofs.reading.read_text.Goals as goal
 
 pub returns-then-bytes-gt-TABLE_LIMIT-clause-refused : goal.returns-then-bytes-gt-TABLE_LIMIT-clause-refused
@@ -24,8 +24,8 @@ returns-in_err-text-clause-refused c =
     let bytes = c.args.bytes.now in
     let fault = c.in_err-text.field-0.0 in
     let short = subst (λ (n : ℕ). length bytes ≤ n) c.most_bytes.ensures c.if-bytes-most_bytes.false in
-    passed_on c.from_residual.result (fault_of_patrol fault) (λ f. (f ≡ Memory → ⊥) → IsTextRefusedFor bytes f) c.from_residual.ensures.1 (λ some.
-    refused_after bytes c.in-Some.kind c.in-Some.rest.now fault c.in-Some.ensures short (λ e. some (ap fault_of_patrol e)) (c.in_err-text.ensures.refused (λ e. some (ap fault_of_patrol e))))
+    passed_on c.from_residual.result (control_fault fault) (λ f. (f ≡ Memory → ⊥) → IsNoTextFor bytes f) c.from_residual.ensures.1 (λ some.
+    refused_after bytes c.in-Some.kind c.in-Some.rest.now fault c.in-Some.ensures short (λ e. some (ap control_fault e)) (c.in_err-text.ensures.refused (λ e. some (ap control_fault e))))
 
 pub returns-clause-read : goal.returns-clause-read
 returns-clause-read c =
