@@ -31,4 +31,4 @@ pub use table_writer::TableWriter;
 pub use text_fault::TextFault;
 pub use text_kind::{PATROL_LIMIT, TextKind, take_kind};
 pub use text_pieces::Pieces;
-pub use text_reader::read_after;
+pub use text_reader::{read_after, read_kind};
