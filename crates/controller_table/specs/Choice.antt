@@ -1,6 +1,6 @@
 -- What a table says to do at a state: the static quantiser with one input for each cell (Reissig, Weber and
 -- Rungger, 2017, section VI).
-use Rattle.std.specs.Prelude.{◌≡◌, ℕ, ◌<◌, ℤ, List, Option, Some}
+use Rattle.std.specs.Prelude.{◌≡◌, ℕ, ◌<◌, ◌==◌, Bool, false, ℤ, List, Option, Some}
 use Rattle.game_core.specs.declared.game.Row.{Row}
 use Rattle.game_core.specs.Solution.{row_of}
 use Rattle.grid_quantiser.specs.Cells.{IsInDomain, cell_of}
@@ -13,6 +13,11 @@ use Rattle.controller_table.specs.Tables.{IsTable}
 pub record HasRowAt (p : Description) (rows : List (Option Row)) (x : List ℤ) (row : Row) : Type 0 where
   pub inside : IsInDomain (axes_of p) x
   pub is : row_of rows (cell_of (axes_of p) x) ≡ Some row
+
+-- at rank 0 a plant that is to be brought to its targets is there
+abbrev pub has_arrived : GoalKind → Row → Bool
+has_arrived Reach row = row.rank == 0
+has_arrived Keep row = false
 
 -- a row applies an input: at rank 0 a plant has reached its targets, and nothing is applied
 abbrev pub Applies : GoalKind → Row → ℕ → Type 0

@@ -20,7 +20,7 @@ mod text_reader;
 mod turn_lines;
 
 pub use base::NoMemory;
-pub use goal_format::format_of;
+pub use goal_format::{format_of, has_arrived};
 pub use row_runs::TableVersion;
 pub use rows_text::RowsText;
 pub use rows_writer::RowsWriter;

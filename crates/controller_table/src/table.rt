@@ -9,13 +9,14 @@ ghost use Rattle.controller_table.specs.KindTexts.{table_text, bytes_of_rows, Is
 ghost use Rattle.controller_table.specs.Tables.{RowsFit};
 ghost use Rattle.controller_table.specs.Choice.{Chooses};
 
+use crate::goal_format::has_arrived;
 use crate::rows_text::RowsText;
 use crate::table_copy::{copy_answer, copy_plant};
 use crate::text_kind::TextKind;
 use base::NoMemory;
 use game_core::{Answer, Row};
 use grid_quantiser::Point;
-use plant_record::{GoalKind, Plant};
+use plant_record::Plant;
 use row_runs::TableVersion;
 use std::alloc::Global;
 use std::marker::Model;
@@ -105,10 +106,10 @@ impl Table {
     {
         let cell = self.plant.grid().cell_of(x)?;
         let row = self.row(cell)?;
-        match self.plant.goal() {
-            GoalKind::Reach if row.rank == 0 => None,
-            GoalKind::Reach | GoalKind::Keep => Some(row.input),
+        if has_arrived(self.plant.goal(), row) {
+            return None;
         }
+        Some(row.input)
     }
 
     /// An equal table.

@@ -4,15 +4,15 @@ ghost use Rattle.std.specs.Prelude.{◌≡◌, ◌<◌, ◌∷◌, Some};
 ghost use Rattle.plant_record.specs.Limits.{IsWithinLimits};
 ghost use Rattle.successor_box.specs.Deviations.{HasNoOverflow};
 ghost use Rattle.controller_table.specs.Tables.{RowsFit};
-ghost use Rattle.loop_sim.specs.Trace.{row_at, has_arrived};
+ghost use Rattle.loop_sim.specs.Trace.{row_at};
 ghost use Rattle.loop_sim.specs.inside.Stages.{IsSample, IsStage, lines_from, lines_left, lines_past, lines_after};
 
 use crate::noise_generator::draw;
 use crate::sim_line::SimLine;
-use controller_table::Table;
+use controller_table::{Table, has_arrived};
 use game_core::Row;
 use grid_quantiser::Point;
-use plant_record::{GoalKind, step};
+use plant_record::step;
 
 /// A sample of a closed loop.
 #[derive(Clone, Copy)]
@@ -78,16 +78,6 @@ fn after(t: &Table, sample: &Sample, row: Row) -> Stage
         Stage::Ending(SimLine::Stopped { time })
     } else {
         Stage::Due(next_sample(t, sample, row))
-    }
-}
-
-/// Whether a plant is where it was to be brought.
-fn has_arrived(goal: GoalKind, row: Row) -> bool
-    ensures { result ≡ has_arrived goal row }
-{
-    match goal {
-        GoalKind::Reach => row.rank == 0,
-        GoalKind::Keep => false,
     }
 }
 
