@@ -3,7 +3,7 @@ use Rattle.std.specs.Prelude.{◌≡◌, ℕ, ◌≤◌, List, Some}
 use Rattle.game_core.specs.declared.game.Row.{Row}
 use Rattle.successor_box.specs.Deviations.{HasNoOverflow, deviations_of}
 use Rattle.controller_table.specs.KindTexts.{bytes_of_rows, IsOfWrittenVersion}
-use Rattle.loop_sim.specs.Trace.{row_at}
+use Rattle.controller_table.specs.Choice.{row_at}
 use Rattle.loop_sim.specs.TraceText.{trace_text}
 use Rattle.command_texts.specs.declared.text.Simulation.{Simulation}
 use Rattle.command_texts.specs.declared.text.Text.{Text}

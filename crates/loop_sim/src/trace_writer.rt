@@ -4,7 +4,6 @@ ghost use Rattle.loop_sim.specs.Trace.{HasSomeRowAt};
 ghost use Rattle.loop_sim.specs.TraceText.{trace_text};
 ghost use Rattle.base.specs.declared.limits.TheConstants.{SAMPLES_LIMIT};
 
-use crate::closed_loop::row_at;
 use crate::sim::Sim;
 use crate::trace_line::{write_first, write_line};
 use controller_table::Table;
@@ -48,7 +47,7 @@ impl<'a> TraceWriter<'a> {
         requires steps { steps ≤ SAMPLES_LIMIT }
         ensures { SomeIff result (HasSomeRowAt t.now x.now) (trace_text t.now.plant t.now.rows x.now seed steps) }
     {
-        row_at(t, x)?;
+        t.row_at(x)?;
         let mut line = LineText::empty();
         write_first(&mut line);
         Some(TraceWriter {

@@ -14,7 +14,6 @@ use command_line::{Refusal, StateNumbers};
 use command_texts::{Simulation, Text};
 use controller_table::{Table, read_table};
 use game_core::Row;
-use loop_sim::row_at;
 use std::alloc::Global;
 use successor_box::{Slopes, find_slopes};
 use text_abstraction::Stop;
@@ -73,5 +72,5 @@ fn row_for(table: &Table, start: &StateNumbers) -> Option<Row>
     if start.count() != table.plant().states() {
         return None;
     }
-    row_at(table, &start.point())
+    table.row_at(&start.point())
 }

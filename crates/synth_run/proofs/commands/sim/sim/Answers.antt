@@ -1,6 +1,6 @@
 use Rattle.std.proofs.Common.{List, refl, ap, ◌∙◌}
 use Rattle.std.specs.Prelude.{ℤ}
-use Rattle.loop_sim.specs.Trace.{row_at}
+use Rattle.controller_table.specs.Choice.{row_at}
 use Rattle.loop_sim.specs.TraceText.{trace_text}
 use Rattle.command_outcomes.specs.Stages.{IsStartRefusal}
 use Rattle.text_abstraction.specs.Causes.{of_table}
