@@ -1,5 +1,5 @@
 ghost use Rattle.std.specs.Prelude.{◌≡◌, ◌≤◌, SomeIff};
-ghost use Rattle.successor_box.specs.Deviations.{HasNoOverflow, deviations_of};
+ghost use Rattle.successor_box.specs.Deviations.{HasNoOverflow};
 ghost use Rattle.loop_sim.specs.Trace.{HasSomeRowAt};
 ghost use Rattle.loop_sim.specs.TraceText.{trace_text};
 ghost use Rattle.base.specs.declared.limits.TheConstants.{SAMPLES_LIMIT};
@@ -10,7 +10,6 @@ use controller_table::Table;
 use grid_quantiser::Point;
 use row_runs::LineText;
 use std::marker::Model;
-use successor_box::Slopes;
 use text_pieces::{Pieces, copy_prefix};
 
 /// Writes the text of a trace piece by piece. Seen as the bytes that are still to come.
@@ -35,14 +34,7 @@ impl<'a> Model for TraceWriter<'a> {
 
 impl<'a> TraceWriter<'a> {
     /// The writer of the trace from a state: None where the table has no row there.
-    pub fn new(
-        t: &'a Table,
-        s: &'a Slopes,
-        x: &Point,
-        seed: u64,
-        steps: u32,
-    ) -> Option<TraceWriter<'a>>
-        requires slopes { s.now ≡ deviations_of t.now.plant }
+    pub fn new(t: &'a Table, x: &Point, seed: u64, steps: u32) -> Option<TraceWriter<'a>>
         requires fits { HasNoOverflow t.now.plant }
         requires steps { steps ≤ SAMPLES_LIMIT }
         ensures { SomeIff result (HasSomeRowAt t.now x.now) (trace_text t.now.plant t.now.rows x.now seed steps) }
