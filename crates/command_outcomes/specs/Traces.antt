@@ -5,7 +5,7 @@ use Rattle.plant_record.specs.Description.{Description}
 use Rattle.successor_box.specs.Deviations.{HasNoOverflow}
 use Rattle.game_core.specs.declared.game.Row.{Row}
 use Rattle.controller_table.specs.Tables.{IsTable}
-use Rattle.loop_sim.specs.Trace.{row_at}
+use Rattle.controller_table.specs.Choice.{row_at}
 use Rattle.loop_sim.specs.TraceText.{trace_text}
 
 -- The numbers are as many as the plant's states, and as a state they lie in a cell with a row.

@@ -1,9 +1,9 @@
 -- The bytes of what a command writes.
 use Rattle.std.specs.Prelude.{◌≡◌, ℕ, ◌≤◌, List, Some}
 use Rattle.game_core.specs.declared.game.Row.{Row}
-use Rattle.successor_box.specs.Deviations.{HasNoOverflow, deviations_of}
+use Rattle.successor_box.specs.Deviations.{HasNoOverflow}
 use Rattle.controller_table.specs.KindTexts.{bytes_of_rows, IsOfWrittenVersion}
-use Rattle.loop_sim.specs.Trace.{row_at}
+use Rattle.controller_table.specs.Choice.{row_at}
 use Rattle.loop_sim.specs.TraceText.{trace_text}
 use Rattle.command_texts.specs.declared.text.Simulation.{Simulation}
 use Rattle.command_texts.specs.declared.text.Text.{Text}
@@ -14,10 +14,8 @@ use Rattle.base.specs.declared.limits.TheConstants.{SAMPLES_LIMIT}
 abbrev pub trace_of : Simulation → List ℕ
 trace_of s = trace_text s.table.plant s.table.rows s.start s.seed s.samples
 
--- A simulation that is ready to be written: its deviations are those of its plant, which has no overflow, and there is a
--- row where it begins.
+-- A simulation that is ready to be written: its plant has no overflow, and there is a row where it begins.
 pub record IsReady (s : Simulation) : Type 0 where
-  pub slopes : s.slopes ≡ deviations_of s.table.plant
   pub fits : HasNoOverflow s.table.plant
   pub samples : s.samples ≤ SAMPLES_LIMIT
   pub row : Row

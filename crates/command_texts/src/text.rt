@@ -11,7 +11,6 @@ use grid_quantiser::Point;
 use loop_sim::TraceWriter;
 use run_devices::{Sink, WriteFault, write_buffered, write_whole};
 use std::alloc::{AllocError, Global};
-use successor_box::Slopes;
 
 /// How many bytes are asked for before a trace is written: more than its writer takes of the stack.
 const TRACE_STACK: usize = 1 << 18;
@@ -20,7 +19,6 @@ const TRACE_STACK: usize = 1 << 18;
 #[derive(Drop)]
 pub struct Simulation {
     pub table: Table,
-    pub slopes: Slopes,
     pub start: Point,
     /// Decides the noises.
     pub seed: u64,
@@ -34,13 +32,7 @@ impl Simulation {
         requires { IsReady self.now }
         ensures { result ≡ trace_of self.now }
     {
-        match TraceWriter::new(
-            &self.table,
-            &self.slopes,
-            &self.start,
-            self.seed,
-            self.samples,
-        ) {
+        match TraceWriter::new(&self.table, &self.start, self.seed, self.samples) {
             Some(writer) => writer,
             None => unreachable!(),
         }

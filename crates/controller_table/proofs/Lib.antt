@@ -1,5 +1,6 @@
 pub mod Fitting
 pub mod OneRow
+pub mod RowsAtStates
 pub mod RefusedPlant
 pub mod SolutionsFit
 pub mod EachKind

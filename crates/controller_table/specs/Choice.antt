@@ -1,8 +1,10 @@
 -- What a table says to do at a state: the static quantiser with one input for each cell (Reissig, Weber and
 -- Rungger, 2017, section VI).
-use Rattle.std.specs.Prelude.{◌≡◌, ℕ, ◌<◌, ℤ, List, Option, Some}
+use Rattle.std.specs.Prelude.{◌≡◌, ℕ, ◌<◌, ◌==◌, ◌&&◌, Bool, true, false, ℤ, int_le, int_lt, List, [], ◌∷◌, Option, Some, None, if◌then◌else◌}
 use Rattle.game_core.specs.declared.game.Row.{Row}
 use Rattle.game_core.specs.Solution.{row_of}
+use Rattle.grid_quantiser.specs.declared.axis.Axis.{Axis}
+use Rattle.grid_quantiser.specs.Axes.{end_of}
 use Rattle.grid_quantiser.specs.Cells.{IsInDomain, cell_of}
 use Rattle.plant_record.specs.declared.aims.GoalKind.{GoalKind}
 use Rattle.plant_record.specs.declared.aims.GoalKind.TheVariants.{Reach, Keep}
@@ -13,6 +15,21 @@ use Rattle.controller_table.specs.Tables.{IsTable}
 pub record HasRowAt (p : Description) (rows : List (Option Row)) (x : List ℤ) (row : Row) : Type 0 where
   pub inside : IsInDomain (axes_of p) x
   pub is : row_of rows (cell_of (axes_of p) x) ≡ Some row
+
+-- whether a state lies in the domain
+abbrev pub is_in_domain : List Axis → List ℤ → Bool
+is_in_domain [] xs = true
+is_in_domain (a ∷ axes) [] = false
+is_in_domain (a ∷ axes) (x ∷ xs) = int_le a.lo x && int_lt x (end_of a) && is_in_domain axes xs
+
+-- the row of the cell in which a state lies
+abbrev pub row_at : Description → List (Option Row) → List ℤ → Option Row
+row_at p rows x = if is_in_domain (axes_of p) x then row_of rows (cell_of (axes_of p) x) else None
+
+-- at rank 0 a plant that is to be brought to its targets is there
+abbrev pub has_arrived : GoalKind → Row → Bool
+has_arrived Reach row = row.rank == 0
+has_arrived Keep row = false
 
 -- a row applies an input: at rank 0 a plant has reached its targets, and nothing is applied
 abbrev pub Applies : GoalKind → Row → ℕ → Type 0

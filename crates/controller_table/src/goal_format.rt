@@ -1,6 +1,10 @@
-ghost use Rattle.std.specs.Prelude.{◌≡◌};
-ghost use Rattle.controller_table.specs.TableText.{format_of};
+//! What a plant's goal makes of its rows.
 
+ghost use Rattle.std.specs.Prelude.{◌≡◌, ℕ, IsTrue, IsFalse};
+ghost use Rattle.controller_table.specs.TableText.{format_of};
+ghost use Rattle.controller_table.specs.Choice.{has_arrived, Applies};
+
+use game_core::Row;
 use plant_record::GoalKind;
 use row_runs::RowFormat;
 
@@ -11,5 +15,17 @@ pub fn format_of(goal: GoalKind) -> RowFormat
     match goal {
         GoalKind::Reach => RowFormat::InputAboveZero,
         GoalKind::Keep => RowFormat::InputAlone,
+    }
+}
+
+/// Whether a plant is where it was to be brought: its row there applies no input, and any other row its own.
+pub fn has_arrived(goal: GoalKind, row: Row) -> bool
+    ensures arrived { result ≡ has_arrived goal row }
+    ensures none { IsTrue result → (row.rank ≡ 0) × ((u : ℕ) → Applies goal row u → ⊥) }
+    ensures some { IsFalse result → Applies goal row row.input }
+{
+    match goal {
+        GoalKind::Reach => row.rank == 0,
+        GoalKind::Keep => false,
     }
 }

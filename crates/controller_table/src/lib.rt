@@ -20,7 +20,7 @@ mod text_reader;
 mod turn_lines;
 
 pub use base::NoMemory;
-pub use goal_format::format_of;
+pub use goal_format::{format_of, has_arrived};
 pub use row_runs::TableVersion;
 pub use rows_text::RowsText;
 pub use rows_writer::RowsWriter;
@@ -31,4 +31,4 @@ pub use table_writer::TableWriter;
 pub use text_fault::TextFault;
 pub use text_kind::{PATROL_LIMIT, TextKind, take_kind};
 pub use text_pieces::Pieces;
-pub use text_reader::read_after;
+pub use text_reader::{read_after, read_kind};

@@ -7,15 +7,16 @@ ghost use Rattle.plant_record.specs.Limits.{IsWithinLimits};
 ghost use Rattle.controller_table.specs.TableText.{version_number, written_version};
 ghost use Rattle.controller_table.specs.KindTexts.{table_text, bytes_of_rows, IsOfWrittenVersion};
 ghost use Rattle.controller_table.specs.Tables.{RowsFit};
-ghost use Rattle.controller_table.specs.Choice.{Chooses};
+ghost use Rattle.controller_table.specs.Choice.{row_at, Chooses};
 
+use crate::goal_format::has_arrived;
 use crate::rows_text::RowsText;
 use crate::table_copy::{copy_answer, copy_plant};
 use crate::text_kind::TextKind;
 use base::NoMemory;
 use game_core::{Answer, Row};
 use grid_quantiser::Point;
-use plant_record::{GoalKind, Plant};
+use plant_record::Plant;
 use row_runs::TableVersion;
 use std::alloc::Global;
 use std::marker::Model;
@@ -98,17 +99,25 @@ impl Table {
         self.answer.row(c)
     }
 
+    /// The row of the cell in which a state lies.
+    pub fn row_at(&self, x: &Point) -> Option<Row>
+        ensures { result ≡ row_at self.now.plant self.now.rows x.now }
+    {
+        let cell = self.plant().grid().cell_of(x)?;
+        self.row(cell)
+    }
+
     /// The input to apply at a state.
+    #[tactic(auto, using(crate::proofs::RowsAtStates::has_row, crate::proofs::RowsAtStates::no_row))]
     pub fn choice(&self, x: &Point) -> Option<u32>
         ensures chosen { IfSome result (λ u. Chooses self.now.plant self.now.rows x.now u) }
         ensures none { IfNone result ((u : ℕ) → Chooses self.now.plant self.now.rows x.now u → ⊥) }
     {
-        let cell = self.plant.grid().cell_of(x)?;
-        let row = self.row(cell)?;
-        match self.plant.goal() {
-            GoalKind::Reach if row.rank == 0 => None,
-            GoalKind::Reach | GoalKind::Keep => Some(row.input),
+        let row = self.row_at(x)?;
+        if has_arrived(self.plant.goal(), row) {
+            return None;
         }
+        Some(row.input)
     }
 
     /// An equal table.

@@ -1,20 +1,38 @@
-//! Reads what stands after the first line of a text.
+//! Reads a text of a kind, or what stands after its first line.
 
 ghost use Rattle.std.specs.Prelude.{◌≡◌, ◌≢◌, ◌+◌, ◌^◌, ◌<◌, ◌≤◌, ◌++◌, ℕ, length, IfOk, IfErr};
 ghost use Rattle.plant_record.specs.Limits.{IsWithinLimits};
 ghost use Rattle.plant_text.specs.CanonicalFronts.{IsFront};
 ghost use Rattle.row_reading.specs.Counting.{line_count};
 ghost use Rattle.controller_table.specs.declared.text_fault.TextFault.TheVariants.{Memory};
-ghost use Rattle.controller_table.specs.TextKinds.{first_line};
+ghost use Rattle.controller_table.specs.TextKinds.{first_line, most_bytes};
 ghost use Rattle.controller_table.specs.KindTexts.{IsTextOf};
+ghost use Rattle.controller_table.specs.HeadedTexts.{alone, IsTextRefusedFor};
 ghost use Rattle.controller_table.specs.inside.TextReading.{IsRefusedAfter, IsPlantRefused, fault_of_front};
 
 use crate::rows_text::RowsText;
 use crate::text_fault::TextFault;
 use crate::text_kind::TextKind;
+use plant_record::LimitKind;
 use plant_text::{Front, PlantFault, read_front};
 use row_reading::{line_count, read_turns};
 use std::alloc::Global;
+
+/// Reads the text of a kind that the bytes are, or answers why they are none.
+pub fn read_kind(alloc: Global, kind: TextKind, bytes: &[u8]) -> Result<RowsText, TextFault>
+    ensures kind { IfOk result (λ t. t.kind ≡ kind) }
+    ensures read { IfOk result (λ t. IsTextOf kind bytes.now t.plant t.turns) }
+    ensures refused { IfErr result (λ fault. fault ≢ Memory → IsTextRefusedFor (alone kind) (most_bytes kind) bytes.now fault) }
+{
+    if bytes.len() > kind.most_bytes() {
+        let what = LimitKind::TableText;
+        return Err(TextFault::Limit { what });
+    }
+    let Some(rest) = kind.take_first_line(bytes) else {
+        return Err(TextFault::Malformed { line: 1 });
+    };
+    read_after(alloc, kind, rest)
+}
 
 /// Reads the text of a kind from what stands after its first line, or answers why it is none. The bytes are so few that
 /// 32 bits count their lines.
@@ -30,17 +48,8 @@ pub fn read_after(alloc: Global, kind: TextKind, rest: &[u8]) -> Result<RowsText
     }
     match read_turns(alloc, kind.rules(&plant), &rest[length..]) {
         Ok(turns) => Ok(RowsText::new(kind, plant, turns)),
-        Err(fault) => Err(fault.after(1 + lines_in(&rest[..length])).into()),
+        Err(fault) => Err(fault.after(1 + line_count(&rest[..length]) as u32).into()),
     }
-}
-
-/// How many lines end in the bytes.
-fn lines_in(bytes: &[u8]) -> u32
-    requires { length bytes.now < 2 ^ 30 }
-    ensures count { result ≡ line_count bytes.now }
-    ensures bound { result ≤ length bytes.now }
-{
-    line_count(bytes) as u32
 }
 
 /// The plant whose text stands after the first line.
@@ -49,10 +58,7 @@ fn take_plant(alloc: Global, bytes: &[u8]) -> Result<Front, TextFault>
     ensures read { IfOk result (λ f. IsFront bytes.now f.plant f.length × IsWithinLimits f.plant) }
     ensures refused { IfErr result (λ fault. IsPlantRefused bytes.now fault) }
 {
-    match read_front(alloc, bytes) {
-        Ok(front) => Ok(front),
-        Err(fault) => Err(after_first_line(fault)),
-    }
+    read_front(alloc, bytes).map_err(after_first_line)
 }
 
 /// The fault of a text whose plant has this fault.

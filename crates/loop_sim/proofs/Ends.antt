@@ -6,11 +6,12 @@ use Rattle.grid_quantiser.specs.Cells.{point_of}
 use Rattle.plant_record.specs.declared.aims.GoalKind.{GoalKind}
 use Rattle.plant_record.specs.Description.{Description}
 use Rattle.plant_record.specs.Steps.{step_of}
+use Rattle.controller_table.specs.Choice.{row_at, has_arrived}
 use Rattle.loop_sim.specs.declared.sim_line.SimLine.{SimLine}
 use Rattle.loop_sim.specs.declared.sim_line.SimLine.TheVariants.{At, Arrived, Stopped}
 use Rattle.loop_sim.specs.Laws.{EndWithTheirLast}
 use Rattle.loop_sim.specs.Noise.{noises_at}
-use Rattle.loop_sim.specs.Trace.{row_at, has_arrived, sample_lines, trace_lines}
+use Rattle.loop_sim.specs.Trace.{sample_lines, trace_lines}
 
 more_lines : (lines : List SimLine) (t : ℕ) (x : List ℤ) (row : Row) → EndWithTheirLast lines → EndWithTheirLast (At t x row ∷ lines)
 more_lines [] t x row h = absurd h

@@ -1,4 +1,3 @@
-pub mod Rows
 pub mod Draws
 pub mod Lines
 pub mod Ends

@@ -12,12 +12,13 @@ use Rattle.plant_record.specs.Steps.{IsNoise, step_of, StepStaysInRange}
 use Rattle.successor_box.specs.Deviations.{HasNoOverflow}
 use Rattle.successor_box.proofs.Steps.{step_stays}
 use Rattle.controller_table.specs.Tables.{TableModel, RowsFit}
+use Rattle.controller_table.specs.Choice.{row_at}
 use Rattle.controller_table.proofs.OneRow.{row_fits as fits}
 use Rattle.loop_sim.specs.Noise.{generator, noises_at, noises_from}
-use Rattle.loop_sim.specs.Trace.{row_at, trace_lines}
+use Rattle.loop_sim.specs.Trace.{trace_lines}
 use Rattle.loop_sim.specs.inside.Stages.{lines_on}
 use Rattle.loop_sim.proofs.Draws.{noise_count, noises_later, noises_lie}
-use Rattle.loop_sim.proofs.Rows.{has_row}
+use Rattle.controller_table.proofs.RowsAtStates.{has_row}
 
 -- the row at a state fits the plant
 pub row_fits : (p : Description) (rows : List (Option Row)) (x : List ℤ) (row : Row) → RowsFit p rows → row_at p rows x ≡ Some row → row.input < vectors_of p.inputs

@@ -4,11 +4,11 @@ use Rattle.game_core.specs.declared.game.Row.{Row}
 use Rattle.plant_record.specs.Description.{Description}
 use Rattle.plant_record.specs.Plants.{IsPlant}
 use Rattle.plant_record.specs.Steps.{IsNoise}
-use Rattle.controller_table.specs.Choice.{HasRowAt}
+use Rattle.controller_table.specs.Choice.{row_at, HasRowAt}
 use Rattle.loop_sim.specs.declared.sim_line.SimLine.{SimLine}
 use Rattle.loop_sim.specs.declared.sim_line.SimLine.TheVariants.{At, Arrived, Stopped, Lost}
 use Rattle.loop_sim.specs.Noise.{noises_at}
-use Rattle.loop_sim.specs.Trace.{row_at, trace_lines}
+use Rattle.loop_sim.specs.Trace.{trace_lines}
 
 -- each noise that is drawn lies in its range
 abbrev pub NoisesLieInTheirRanges : Type 0

@@ -1,35 +1,16 @@
 -- The trace of a plant in closed loop with the rows of a table.
-use Rattle.std.specs.Prelude.{ℕ, zero, suc, ◌==◌, ◌&&◌, Bool, true, false, ℤ, int_le, int_lt, List, [], ◌∷◌, Option, Some, None, if◌then◌else◌}
+use Rattle.std.specs.Prelude.{ℕ, zero, suc, ℤ, List, [], ◌∷◌, Option, Some, None, if◌then◌else◌}
 use Rattle.game_core.specs.declared.game.Row.{Row}
-use Rattle.game_core.specs.Solution.{row_of}
-use Rattle.grid_quantiser.specs.declared.axis.Axis.{Axis}
-use Rattle.grid_quantiser.specs.Axes.{end_of}
-use Rattle.grid_quantiser.specs.Cells.{cell_of, point_of}
+use Rattle.grid_quantiser.specs.Cells.{point_of}
 use Rattle.plant_record.specs.declared.aims.GoalKind.{GoalKind}
-use Rattle.plant_record.specs.declared.aims.GoalKind.TheVariants.{Reach, Keep}
-use Rattle.plant_record.specs.Description.{Description, axes_of}
+use Rattle.plant_record.specs.Description.{Description}
 use Rattle.plant_record.specs.States.{state_point}
 use Rattle.plant_record.specs.Steps.{step_of}
 use Rattle.controller_table.specs.Tables.{TableModel}
-use Rattle.controller_table.specs.Choice.{HasRowAt}
+use Rattle.controller_table.specs.Choice.{row_at, HasRowAt, has_arrived}
 use Rattle.loop_sim.specs.declared.sim_line.SimLine.{SimLine}
 use Rattle.loop_sim.specs.declared.sim_line.SimLine.TheVariants.{At, Arrived, Stopped, Lost}
 use Rattle.loop_sim.specs.Noise.{noises_at}
-
--- whether a state lies in the domain
-abbrev pub is_in_domain : List Axis → List ℤ → Bool
-is_in_domain [] xs = true
-is_in_domain (a ∷ axes) [] = false
-is_in_domain (a ∷ axes) (x ∷ xs) = int_le a.lo x && int_lt x (end_of a) && is_in_domain axes xs
-
--- the row of the cell in which a state lies
-abbrev pub row_at : Description → List (Option Row) → List ℤ → Option Row
-row_at p rows x = if is_in_domain (axes_of p) x then row_of rows (cell_of (axes_of p) x) else None
-
--- at rank 0 a plant that is to be brought to its targets is there
-abbrev pub has_arrived : GoalKind → Row → Bool
-has_arrived Reach row = row.rank == 0
-has_arrived Keep row = false
 
 -- the lines of the sample at time t with state x and this row of its cell, where the lines on follow if the plant
 -- has not arrived

@@ -4,15 +4,15 @@ ghost use Rattle.std.specs.Prelude.{◌≡◌, ◌<◌, ◌∷◌, Some};
 ghost use Rattle.plant_record.specs.Limits.{IsWithinLimits};
 ghost use Rattle.successor_box.specs.Deviations.{HasNoOverflow};
 ghost use Rattle.controller_table.specs.Tables.{RowsFit};
-ghost use Rattle.loop_sim.specs.Trace.{row_at, has_arrived};
+ghost use Rattle.controller_table.specs.Choice.{row_at};
 ghost use Rattle.loop_sim.specs.inside.Stages.{IsSample, IsStage, lines_from, lines_left, lines_past, lines_after};
 
 use crate::noise_generator::draw;
 use crate::sim_line::SimLine;
-use controller_table::Table;
+use controller_table::{Table, has_arrived};
 use game_core::Row;
 use grid_quantiser::Point;
-use plant_record::{GoalKind, step};
+use plant_record::step;
 
 /// A sample of a closed loop.
 #[derive(Clone, Copy)]
@@ -37,14 +37,6 @@ pub(crate) enum Stage {
     Over,
 }
 
-/// The row of the cell in which a state lies.
-pub fn row_at(t: &Table, x: &Point) -> Option<Row>
-    ensures { result ≡ row_at t.now.plant t.now.rows x.now }
-{
-    let cell = t.plant().grid().cell_of(x)?;
-    t.row(cell)
-}
-
 /// The first line of a sample, and what is after it.
 pub(crate) fn first_line(t: &Table, sample: &Sample) -> (SimLine, Stage)
     requires plant { IsWithinLimits t.now.plant }
@@ -55,7 +47,7 @@ pub(crate) fn first_line(t: &Table, sample: &Sample) -> (SimLine, Stage)
     ensures stage { IsStage t.now.plant result.1 }
 {
     let Sample { time, x, .. } = *sample;
-    match row_at(t, &x) {
+    match t.row_at(&x) {
         Some(row) => (SimLine::At { time, x, row }, after(t, sample, row)),
         None => (SimLine::Lost { time, x }, Stage::Over),
     }
@@ -78,16 +70,6 @@ fn after(t: &Table, sample: &Sample, row: Row) -> Stage
         Stage::Ending(SimLine::Stopped { time })
     } else {
         Stage::Due(next_sample(t, sample, row))
-    }
-}
-
-/// Whether a plant is where it was to be brought.
-fn has_arrived(goal: GoalKind, row: Row) -> bool
-    ensures { result ≡ has_arrived goal row }
-{
-    match goal {
-        GoalKind::Reach => row.rank == 0,
-        GoalKind::Keep => false,
     }
 }
 

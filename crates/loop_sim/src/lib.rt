@@ -13,7 +13,6 @@ mod sim_line;
 mod trace_line;
 mod trace_writer;
 
-pub use closed_loop::row_at;
 pub use sim::Sim;
 pub use sim_line::SimLine;
 pub use trace_writer::TraceWriter;

@@ -3,7 +3,7 @@ ghost use Rattle.successor_box.specs.Deviations.{HasNoOverflow, deviations_of};
 ghost use Rattle.loop_sim.specs.Trace.{HasSomeRowAt, trace_lines, trace_from};
 ghost use Rattle.base.specs.declared.limits.TheConstants.{SAMPLES_LIMIT};
 
-use crate::closed_loop::{Sample, Stage, first_line, row_at};
+use crate::closed_loop::{Sample, Stage, first_line};
 use crate::sim_line::SimLine;
 use controller_table::Table;
 use controller_table::laws::every_table_fits;
@@ -42,7 +42,7 @@ impl<'a> Sim<'a> {
         requires steps { steps ≤ SAMPLES_LIMIT }
         ensures { SomeIff result (HasSomeRowAt t.now x.now) (trace_from t.now seed steps x.now) }
     {
-        row_at(t, x)?;
+        t.row_at(x)?;
         Some(Sim::begin(t, t.plant().state_point(x), seed, steps))
     }
 

@@ -1,17 +1,15 @@
 ghost use Rattle.std.specs.Prelude.{◌≡◌, ◌≤◌, SomeIff};
-ghost use Rattle.successor_box.specs.Deviations.{HasNoOverflow, deviations_of};
+ghost use Rattle.successor_box.specs.Deviations.{HasNoOverflow};
 ghost use Rattle.loop_sim.specs.Trace.{HasSomeRowAt};
 ghost use Rattle.loop_sim.specs.TraceText.{trace_text};
 ghost use Rattle.base.specs.declared.limits.TheConstants.{SAMPLES_LIMIT};
 
-use crate::closed_loop::row_at;
 use crate::sim::Sim;
 use crate::trace_line::{write_first, write_line};
 use controller_table::Table;
 use grid_quantiser::Point;
 use row_runs::LineText;
 use std::marker::Model;
-use successor_box::Slopes;
 use text_pieces::{Pieces, copy_prefix};
 
 /// Writes the text of a trace piece by piece. Seen as the bytes that are still to come.
@@ -36,19 +34,12 @@ impl<'a> Model for TraceWriter<'a> {
 
 impl<'a> TraceWriter<'a> {
     /// The writer of the trace from a state: None where the table has no row there.
-    pub fn new(
-        t: &'a Table,
-        s: &'a Slopes,
-        x: &Point,
-        seed: u64,
-        steps: u32,
-    ) -> Option<TraceWriter<'a>>
-        requires slopes { s.now ≡ deviations_of t.now.plant }
+    pub fn new(t: &'a Table, x: &Point, seed: u64, steps: u32) -> Option<TraceWriter<'a>>
         requires fits { HasNoOverflow t.now.plant }
         requires steps { steps ≤ SAMPLES_LIMIT }
         ensures { SomeIff result (HasSomeRowAt t.now x.now) (trace_text t.now.plant t.now.rows x.now seed steps) }
     {
-        row_at(t, x)?;
+        t.row_at(x)?;
         let mut line = LineText::empty();
         write_first(&mut line);
         Some(TraceWriter {

@@ -4,7 +4,7 @@ use Rattle.std.specs.Prelude.{ℤ, IfSome}
 use Rattle.game_core.specs.declared.game.Row.{Row}
 use Rattle.grid_quantiser.specs.Cells.{point_of}
 use Rattle.plant_record.specs.Description.{Description}
-use Rattle.loop_sim.specs.Trace.{row_at}
+use Rattle.controller_table.specs.Choice.{row_at}
 use Rattle.command_outcomes.specs.Traces.{HasRowFor}
 
 -- the row at a start of as many numbers as states

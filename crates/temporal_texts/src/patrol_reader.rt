@@ -4,8 +4,7 @@ ghost use Rattle.temporal_texts.specs.PatrolText.{IsPatrolText};
 ghost use Rattle.temporal_texts.specs.PatrolRefusals.{IsPatrolRefusedFor};
 
 use crate::patrol_table::PatrolTable;
-use controller_table::{PATROL_LIMIT, TextFault, TextKind, read_after};
-use plant_record::LimitKind;
+use controller_table::{TextFault, TextKind, read_kind};
 use std::alloc::Global;
 
 /// Reads the patrol text that the bytes are, or answers why they are none.
@@ -13,13 +12,5 @@ pub fn read_patrol(alloc: Global, bytes: &[u8]) -> Result<PatrolTable, TextFault
     ensures read { IfOk result (λ t. IsPatrolText bytes.now t.plant t.rows) }
     ensures refused { IfErr result (λ fault. fault ≢ Memory → IsPatrolRefusedFor bytes.now fault) }
 {
-    if bytes.len() > PATROL_LIMIT {
-        let what = LimitKind::TableText;
-        return Err(TextFault::Limit { what });
-    }
-    let Some(rest) = TextKind::Patrol.take_first_line(bytes) else {
-        return Err(TextFault::Malformed { line: 1 });
-    };
-    let text = read_after(alloc, TextKind::Patrol, rest)?;
-    Ok(PatrolTable::of(text))
+    Ok(PatrolTable::of(read_kind(alloc, TextKind::Patrol, bytes)?))
 }

@@ -4,9 +4,7 @@ ghost use Rattle.temporal_texts.specs.StayText.{IsStayText};
 ghost use Rattle.temporal_texts.specs.StayRefusals.{IsStayRefusedFor};
 
 use crate::stay_table::StayTable;
-use base::limits::TABLE_LIMIT;
-use controller_table::{TableFault, TextKind, read_after};
-use plant_record::LimitKind;
+use controller_table::{TableFault, TextKind, read_kind};
 use std::alloc::Global;
 
 /// Reads the stay text that the bytes are, or answers why they are none.
@@ -14,14 +12,7 @@ pub fn read_stay(alloc: Global, bytes: &[u8]) -> Result<StayTable, TableFault>
     ensures read { IfOk result (λ t. IsStayText bytes.now t.plant t.rows) }
     ensures refused { IfErr result (λ fault. fault ≢ Memory → IsStayRefusedFor bytes.now fault) }
 {
-    if bytes.len() > TABLE_LIMIT {
-        let what = LimitKind::TableText;
-        return Err(TableFault::Limit { what });
-    }
-    let Some(rest) = TextKind::Stay.take_first_line(bytes) else {
-        return Err(TableFault::Malformed { line: 1 });
-    };
-    match read_after(alloc, TextKind::Stay, rest) {
+    match read_kind(alloc, TextKind::Stay, bytes) {
         Ok(text) => Ok(StayTable::of(text)),
         Err(fault) => Err(fault.without_turns()),
     }

@@ -8,9 +8,9 @@ ghost use Rattle.text_control.specs.Control.{AreSized, AppliesAs, IsReply, IsRep
 use crate::packed_text::PackedText;
 use crate::reply::Reply;
 use crate::rows::row_at;
-use controller_table::TextKind;
+use controller_table::{TextKind, has_arrived};
 use game_core::Row;
-use plant_record::{GoalKind, Plant};
+use plant_record::Plant;
 
 /// Puts what is to be applied at the state into the inputs.
 pub fn control(text: &PackedText, state: &[i64], input: &mut [i64]) -> Reply
@@ -42,9 +42,9 @@ fn applies(text: &PackedText, row: Row) -> bool
     ensures some { IsTrue result → AppliesAs text.now.kind text.now.plant.goal row row.input }
     ensures none { IsFalse result → (row.rank ≡ 0) × ((u : ℕ) → AppliesAs text.now.kind text.now.plant.goal row u → ⊥) }
 {
-    match (text.kind(), text.plant().goal()) {
-        (TextKind::Table(_), GoalKind::Reach) => row.rank > 0,
-        _ => true,
+    match text.kind() {
+        TextKind::Table(_) => !has_arrived(text.plant().goal(), row),
+        TextKind::Stay | TextKind::Patrol => true,
     }
 }
 

@@ -5,13 +5,14 @@ use Rattle.grid_quantiser.specs.Cells.{point_of}
 use Rattle.plant_record.specs.Steps.{step_of}
 use Rattle.plant_record.specs.Description.{Description}
 use Rattle.controller_table.specs.Tables.{TableModel}
+use Rattle.controller_table.specs.Choice.{has_arrived}
 use Rattle.loop_sim.specs.declared.sim_line.SimLine.{SimLine}
 use Rattle.loop_sim.specs.declared.closed_loop.Sample.{Sample}
 use Rattle.loop_sim.specs.declared.closed_loop.Stage.{Stage}
 use Rattle.loop_sim.specs.declared.closed_loop.Stage.TheVariants.{Due, Ending, Over}
 use Rattle.loop_sim.specs.declared.sim_line.SimLine.TheVariants.{Arrived, Stopped}
 use Rattle.loop_sim.specs.Noise.{generator, noises_at}
-use Rattle.loop_sim.specs.Trace.{has_arrived, trace_lines}
+use Rattle.loop_sim.specs.Trace.{trace_lines}
 use Rattle.base.specs.declared.limits.TheConstants.{SAMPLES_LIMIT}
 
 -- the lines from a sample on

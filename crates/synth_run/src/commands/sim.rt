@@ -1,7 +1,7 @@
 //! From the bytes of a table's text to the plant in closed loop with it.
 
 ghost use Rattle.std.specs.Prelude.{◌≡◌, ◌≤◌, IfSome, IfNone, IfOk, IfErr, OnOk};
-ghost use Rattle.successor_box.specs.Deviations.{HasNoOverflow, deviations_of};
+ghost use Rattle.successor_box.specs.Deviations.{HasNoOverflow};
 ghost use Rattle.command_line.specs.declared.command.Command.{Command};
 ghost use Rattle.command_outcomes.specs.Stages.{IsStagedRefusal, IsStartRefusal};
 ghost use Rattle.command_outcomes.specs.Traces.{HasRowFor, HasNoRowFor};
@@ -14,9 +14,8 @@ use command_line::{Refusal, StateNumbers};
 use command_texts::{Simulation, Text};
 use controller_table::{Table, read_table};
 use game_core::Row;
-use loop_sim::row_at;
 use std::alloc::Global;
-use successor_box::{Slopes, find_slopes};
+use successor_box::find_slopes;
 use text_abstraction::Stop;
 
 /// The trace of the table that the bytes are.
@@ -32,26 +31,23 @@ pub fn sim(
     ensures refused { IfErr result (IsStopFor (IsStagedRefusal (Command.Sim samples seed start.now) bytes.now)) }
 {
     let table = read_table(alloc, bytes)?;
-    let slopes = slopes_of(alloc, &table, start)?;
+    refuse_start(alloc, &table, start)?;
     Ok(Work::of_text(Text::Trace(Simulation {
         table,
-        slopes,
         start: start.point(),
         seed,
         samples,
     })))
 }
 
-/// The deviations of a table's plant, where the table has a row for the start.
-fn slopes_of(alloc: Global, table: &Table, start: &StateNumbers) -> Result<Slopes, Stop>
-    ensures slopes { IfOk result (λ slopes. slopes ≡ deviations_of table.now.plant) }
+/// Refuses a table whose plant overflows, or that has no row for the start.
+fn refuse_start(alloc: Global, table: &Table, start: &StateNumbers) -> Result<(), Stop>
     ensures fits { OnOk result (HasNoOverflow table.now.plant) }
     ensures begins { OnOk result (HasRowFor table.now.plant table.now.rows start.now) }
     ensures refused { IfErr result (IsStopFor (IsStartRefusal start.now table.now.plant table.now.rows)) }
 {
-    let slopes = find_slopes(alloc, table.plant())?;
-    refuse_no_row(table, start)?;
-    Ok(slopes)
+    find_slopes(alloc, table.plant())?;
+    refuse_no_row(table, start)
 }
 
 /// Refuses a start at which a table has no row.
@@ -73,5 +69,5 @@ fn row_for(table: &Table, start: &StateNumbers) -> Option<Row>
     if start.count() != table.plant().states() {
         return None;
     }
-    row_at(table, &start.point())
+    table.row_at(&start.point())
 }

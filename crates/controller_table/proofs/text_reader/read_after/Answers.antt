@@ -49,7 +49,7 @@ after-requires c = λ line is.
     let at = c.in_ok-plant.ensures.read in
     let refused = rw is at (refused_by _ (turn_rules c.args.kind p) _ (drop length c.args.rest.now) _ c.rules.ensures (take_rest c.args.rest.now length) c.in-Err.ensures.refused) in
     let bound = line_bound (turn_rules c.args.kind p) (drop length c.args.rest.now) line refused in
-    omega (arith, bound, length-drop length c.args.rest.now, length-take-le length c.args.rest.now at.0.within, at.0.within, c.lines_in.ensures.bound, c.requires)
+    omega (arith, bound, length-drop length c.args.rest.now, length-take-le length c.args.rest.now at.0.within, at.0.within, c.line_count.ensures.bound, c.requires)
 
 pub returns-in-Err-clause-refused : goal.returns-in-Err-clause-refused
 returns-in-Err-clause-refused c =
@@ -58,5 +58,5 @@ returns-in-Err-clause-refused c =
     let at = c.in_ok-plant.ensures.read in
     let few : HasFewTurnsFor c.args.kind p = search rules in
     let refused = refused_by _ (turn_rules c.args.kind p) _ (drop length c.args.rest.now) c.in-Err.fault c.rules.ensures (take_rest c.args.rest.now length) c.in-Err.ensures.refused in
-    let told = rows_fault c.args.kind c.args.rest.now p length at.0 at.1 few c.lines_in.result c.lines_in.ensures.count c.in-Err.fault refused in
+    let told = rows_fault c.args.kind c.args.rest.now p length at.0 at.1 few c.line_count.result c.line_count.ensures.count c.in-Err.fault refused in
     λ _. rw (c.into.ensures, c.after.ensures) told

@@ -1,4 +1,4 @@
-use Rattle.loop_sim.proofs.Rows.{has_row, row_stands}
+use Rattle.controller_table.proofs.RowsAtStates.{has_row, row_stands}
 use Rattle.loop_sim.proofs.laws.rows_stand_at_states.Goals as goal
 
 pub returns : goal.returns

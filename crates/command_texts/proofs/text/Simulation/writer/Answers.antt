@@ -1,4 +1,4 @@
-use Rattle.loop_sim.proofs.Rows.{has_row}
+use Rattle.controller_table.proofs.RowsAtStates.{has_row}
 use Rattle.command_texts.proofs.text.Simulation.writer.Goals as goal
 
 pub unreachable-requires : goal.unreachable-requires

@@ -3,7 +3,7 @@ use Rattle.std.specs.Prelude.{List, SomeIff}
 use Rattle.plant_record.specs.States.{state_point}
 use Rattle.loop_sim.specs.declared.sim_line.SimLine.{SimLine}
 use Rattle.loop_sim.specs.Trace.{HasSomeRowAt, trace_lines, trace_from}
-use Rattle.loop_sim.proofs.Rows.{has_row, no_row}
+use Rattle.controller_table.proofs.RowsAtStates.{has_row, no_row}
 use Rattle.loop_sim.proofs.sim.Sim.new.Goals as goal
 
 pub returns-in_err-row_at : goal.returns-in_err-row_at

@@ -4,7 +4,7 @@ use Rattle.std.specs.List.{concat}
 use Rattle.loop_sim.specs.declared.sim_line.SimLine.{SimLine}
 use Rattle.loop_sim.specs.Trace.{HasSomeRowAt}
 use Rattle.loop_sim.specs.TraceText.{line_text, trace_text}
-use Rattle.loop_sim.proofs.Rows.{has_row, no_row}
+use Rattle.controller_table.proofs.RowsAtStates.{has_row, no_row}
 use Rattle.loop_sim.proofs.trace_writer.TraceWriter.new.Goals as goal
 
 pub returns-in_err-row_at : goal.returns-in_err-row_at

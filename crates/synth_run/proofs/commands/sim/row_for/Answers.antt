@@ -1,6 +1,6 @@
 use Rattle.std.proofs.Common.{◌≡◌, ◌∙◌, List, length, ap, rules}
 use Rattle.std.specs.Prelude.{ℤ}
-use Rattle.loop_sim.specs.Trace.{row_at}
+use Rattle.controller_table.specs.Choice.{row_at}
 use Rattle.synth_run.proofs.Simulations.{row_found}
 use Rattle.synth_run.proofs.commands.sim.row_for.Goals as goal
 

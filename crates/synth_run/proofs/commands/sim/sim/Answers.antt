@@ -1,6 +1,6 @@
 use Rattle.std.proofs.Common.{List, refl, ap, ◌∙◌}
 use Rattle.std.specs.Prelude.{ℤ}
-use Rattle.loop_sim.specs.Trace.{row_at}
+use Rattle.controller_table.specs.Choice.{row_at}
 use Rattle.loop_sim.specs.TraceText.{trace_text}
 use Rattle.command_outcomes.specs.Stages.{IsStartRefusal}
 use Rattle.text_abstraction.specs.Causes.{of_table}
@@ -11,12 +11,11 @@ use Rattle.synth_run.proofs.commands.sim.sim.Goals as goal
 pub returns-clause-made : goal.returns-clause-made
 returns-clause-made c =
     let table = c.in_ok-table.table in
-    let begins = c.in_ok-slopes.ensures.begins in
+    let begins = c.in_ok-refuse_start.ensures.begins in
     rw c.of_text.ensures
     (record {
       can_be_written = record {
-        slopes = c.in_ok-slopes.ensures.slopes;
-        fits = c.in_ok-slopes.ensures.fits;
+        fits = c.in_ok-refuse_start.ensures.fits;
         samples = c.requires;
         row = begins.row;
         begins = ap (λ (x : List ℤ). row_at table.plant table.rows x) c.point.ensures ∙ begins.has;
@@ -25,7 +24,7 @@ returns-clause-made c =
         plant = table.plant;
         rows = table.rows;
         table = c.in_ok-table.ensures.read.0;
-        fits = c.in_ok-slopes.ensures.fits;
+        fits = c.in_ok-refuse_start.ensures.fits;
         begins = begins;
         text_is = ap (λ (x : List ℤ). trace_text table.plant table.rows x c.args.seed c.args.samples) c.point.ensures;
       };
@@ -36,8 +35,8 @@ pub returns-in_err-table-clause-refused : goal.returns-in_err-table-clause-refus
 returns-in_err-table-clause-refused c =
     passed_on c.from_residual.result (of_table c.in_err-table.field-0.0) _ c.from_residual.ensures.1 (table_stop (IsStartRefusal c.args.start.now) c.args.bytes.now c.in_err-table.field-0.0 c.in_err-table.ensures.refused)
 
-pub returns-in_err-slopes-clause-refused : goal.returns-in_err-slopes-clause-refused
-returns-in_err-slopes-clause-refused c =
+pub returns-in_err-refuse_start-clause-refused : goal.returns-in_err-refuse_start-clause-refused
+returns-in_err-refuse_start-clause-refused c =
     let table = c.in_ok-table.table in
-    passed_on c.from_residual-in_err-slopes.result c.in_err-slopes.field-0.0 _ c.from_residual-in_err-slopes.ensures.1
-    (rows_stop (IsStartRefusal c.args.start.now) c.args.bytes.now table.plant table.rows c.in_err-slopes.field-0.0 c.in_ok-table.ensures.read.0 c.in_err-slopes.ensures.refused)
+    passed_on c.from_residual-in_err-refuse_start.result c.in_err-refuse_start.field-0.0 _ c.from_residual-in_err-refuse_start.ensures.1
+    (rows_stop (IsStartRefusal c.args.start.now) c.args.bytes.now table.plant table.rows c.in_err-refuse_start.field-0.0 c.in_ok-table.ensures.read.0 c.in_err-refuse_start.ensures.refused)

@@ -9,8 +9,7 @@ use Rattle.grid_quantiser.specs.declared.axis.Axis.{Axis}
 use Rattle.grid_quantiser.specs.Axes.{end_of}
 use Rattle.grid_quantiser.specs.Cells.{IsInDomain, cell_of}
 use Rattle.plant_record.specs.Description.{Description, axes_of}
-use Rattle.controller_table.specs.Choice.{HasRowAt}
-use Rattle.loop_sim.specs.Trace.{is_in_domain, row_at}
+use Rattle.controller_table.specs.Choice.{HasRowAt, is_in_domain, row_at}
 use Rattle.base.proofs.Integers.{less_from_int_lt, int_lt_from_less}
 
 not_below : (lo x : ℤ) → int_le lo x ≡ true → lo ≤ℤ x
