@@ -30,7 +30,7 @@ due_rows t = rows_for t.turns t.turn
 abbrev pub Tells : List ℕ → TextModel → Type 0
 Tells bytes t = IsTextOf t.kind bytes t.plant t.turns
 
--- and its first turn is due
+-- the bytes are that text, and its first turn is due
 abbrev pub IsReadFrom : List ℕ → TextModel → Type 0
 IsReadFrom bytes t = Tells bytes t × (t.turn ≡ 0)
 
