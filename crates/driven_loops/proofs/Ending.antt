@@ -1,6 +1,6 @@
 -- A followed loop by the table of a plant: one that is to reach its targets falls in rank with each sample, and
 -- one that is to be kept stays in cells with rows.
-use Rattle.std.proofs.Common.{◌≡◌, ◌≢◌, ℕ, zero, suc, ◌+◌, ◌<◌, ◌≤◌, List, length, Some, None, refl, sym, ap, subst, ◌∙◌, arith}
+use Rattle.std.proofs.Common.{◌≡◌, ◌≢◌, ℕ, zero, suc, ◌+◌, ◌<◌, ◌≤◌, List, Some, None, refl, sym, ap, subst, ◌∙◌, arith}
 use Rattle.std.specs.Prelude.{ℤ, pos}
 use Rattle.std.proofs.lemmas.List.Elements.{All-contains}
 use Rattle.std.specs.List.{All}
@@ -13,7 +13,6 @@ use Rattle.game_core.proofs.Rows.{below_cells}
 use Rattle.plant_record.specs.declared.aims.GoalKind.{GoalKind}
 use Rattle.plant_record.specs.declared.aims.GoalKind.TheVariants.{Reach, Keep}
 use Rattle.plant_record.specs.Description.{Description}
-use Rattle.plant_record.specs.States.{LiesInSome, IsClear}
 use Rattle.controller_table.specs.Choice.{Applies, HasRowAt}
 use Rattle.controller_table.specs.TableText.{written_version}
 use Rattle.controller_table.specs.declared.text_kind.TextKind.TheVariants.{Table}
@@ -21,23 +20,14 @@ use Rattle.plant_refine.proofs.Choosing.{one_row}
 use Rattle.text_control.specs.declared.reply.Reply.{Reply}
 use Rattle.text_control.specs.declared.reply.Reply.TheVariants.{Apply, Arrived, NoRow, WrongSizes}
 use Rattle.text_control.specs.Texts.{TextModel, due_rows}
-use Rattle.text_control.specs.Control.{AreSized, IsReply, IsRank, reply_number}
-use Rattle.text_control.specs.Loops.{AlwaysAnswers}
-use Rattle.text_control.specs.Followed.{FollowedSample}
-use Rattle.driven_loops.specs.Laws.{AlwaysArrived}
+use Rattle.text_control.specs.Control.{AreSized, IsReply, reply_number}
+use Rattle.driven_loops.specs.LoopPromises.{LoopsEnd, LoopsKeep}
 use Rattle.driven_loops.specs.Followed.{IsFollowedLoop}
 use Rattle.driven_loops.specs.FollowedLaws.{FollowedTablesEnd, FollowedTablesKeep}
 use Rattle.driven_loops.proofs.ReadBack.{HoldsTable, says, holds_table}
 use Rattle.driven_loops.proofs.LeadingOn.{LeadOn, HasNext, clear_at, in_target, led}
 use Rattle.driven_loops.proofs.RowAnswers.{row_answers, has_rank}
 use Rattle.plant_refine.proofs.KeepRows.{cell_below, clear_of, enabled, leads_on}
-
--- what the law says where this was read
-abbrev EndsLoops : Description → TextModel → Type 0
-EndsLoops p t =
-    (t.plant ≡ p)
-    × ((x y : List ℤ) (k : ℕ) (samples : List FollowedSample) → IsRank t x k → IsFollowedLoop t x samples y
-    → IsClear p y × ((n : ℕ) × IsRank t y n × (n + length samples ≤ k) × (0 < n → AlwaysAnswers t y) × (n ≡ 0 → LiesInSome p p.targets y × AlwaysArrived t y)))
 
 -- a rank falls with each sample
 abbrev Fallen : ℕ → ℕ → ℕ → Type 0
@@ -91,7 +81,7 @@ module _ (p : Description) (t : TextModel) (goal : p.goal ≡ Reach) (h : HoldsT
   goal_at : (c : ℕ) (row : Row) → row_of (due_rows m) c ≡ Some row → row.rank ≡ 0 → mark_of h.game c ≡ Goal
   goal_at c row is none = promised.arrived c row.input (subst (λ (n : ℕ). row_of (due_rows m) c ≡ Some (record { rank = n; input = row.input })) none is)
 
-  ends : EndsLoops p m
+  ends : LoopsEnd IsFollowedLoop p m
   unfolding falling_rows
   ends = (
     refl,
@@ -115,11 +105,7 @@ module _ (p : Description) (t : TextModel) (goal : p.goal ≡ Reach) (h : HoldsT
 pub followed_tables_end : FollowedTablesEnd
 followed_tables_end p bytes text t spells goal given read =
     let h = holds_table p bytes text t spells Reach goal given read in
-    subst (EndsLoops p) (sym h.is) (ends p t goal h)
-
--- what the law says where this was read
-abbrev KeepsLoops : Description → TextModel → Type 0
-KeepsLoops p t = (t.plant ≡ p) × ((x y : List ℤ) (k : ℕ) (samples : List FollowedSample) → IsRank t x k → IsFollowedLoop t x samples y → IsClear p y × AlwaysAnswers t y × ((n : ℕ) × IsRank t y n))
+    subst (LoopsEnd IsFollowedLoop p) (sym h.is) (ends p t goal h)
 
 -- any rank may come
 abbrev AnyRank : ℕ → ℕ → ℕ → Type 0
@@ -140,7 +126,7 @@ module _ (p : Description) (t : TextModel) (goal : p.goal ≡ Keep) (h : HoldsTa
     leads = λ c row is applies d lt among. let next = leads_on h.solution c row is d lt among in (next.0, next.1, tt);
   }
 
-  keeps : KeepsLoops p kept
+  keeps : LoopsKeep IsFollowedLoop p kept
   keeps = (
     refl,
     λ x y k samples rank loop.
@@ -152,4 +138,4 @@ module _ (p : Description) (t : TextModel) (goal : p.goal ≡ Keep) (h : HoldsTa
 pub followed_tables_keep : FollowedTablesKeep
 followed_tables_keep p bytes text t spells goal given read =
     let h = holds_table p bytes text t spells Keep goal given read in
-    subst (KeepsLoops p) (sym h.is) (keeps p t goal h)
+    subst (LoopsKeep IsFollowedLoop p) (sym h.is) (keeps p t goal h)

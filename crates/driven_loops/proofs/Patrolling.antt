@@ -6,7 +6,6 @@ use Rattle.game_core.specs.declared.game.Row.{Row}
 use Rattle.game_core.specs.Solution.{row_of, HasRowBelow}
 use Rattle.game_core.specs.Solution as solutions
 use Rattle.plant_record.specs.Description.{Description}
-use Rattle.plant_record.specs.States.{IsClear}
 use Rattle.controller_table.specs.Choice.{HasRowAt}
 use Rattle.turn_rows.specs.Targets.{IsInTarget, next_turn}
 use Rattle.turn_rows.specs.Rows.{rows_for}
@@ -21,17 +20,11 @@ use Rattle.text_control.specs.Visits.{with_turn, IsVisit}
 use Rattle.text_control.specs.Followed.{FollowedSample, IsInItsBox}
 use Rattle.controller_table.proofs.TextRows.{turn_known}
 use Rattle.driven_loops.specs.Followed.{IsFollowedPatrolLoop, FollowedEndsTurn}
+use Rattle.driven_loops.specs.LoopPromises.{LoopsPatrol}
 use Rattle.driven_loops.specs.FollowedLaws.{FollowedPatrolTextsGoOn}
 use Rattle.driven_loops.proofs.ReadBack.{HoldsPatrol, says, holds_patrol}
 use Rattle.driven_loops.proofs.LeadingOn.{LeadOn, clear_at, next_cell}
 use Rattle.driven_loops.proofs.RowAnswers.{row_answers, has_rank}
-
--- what the law says where this was read
-abbrev PatrolsLoops : Description → TextModel → Type 0
-PatrolsLoops p t =
-    (t.plant ≡ p)
-    × ((j : ℕ) (x y : List ℤ) (k : ℕ) (samples : List FollowedSample) (u : TextModel) → IsRank (with_turn t j) x k → IsFollowedPatrolLoop (with_turn t j) x samples u y
-    → IsClear p y × AlwaysAnswers u y × (k ≤ length samples → Any (FollowedEndsTurn (with_turn t j)) (take k samples)) × (u ≡ with_turn t u.turn) × ((n : ℕ) × IsRank u y n))
 
 module _ (p : Description) (t : TextModel) (h : HoldsPatrol p t) where
   abbrev m : TextModel
@@ -105,7 +98,7 @@ module _ (p : Description) (t : TextModel) (h : HoldsPatrol p t) where
             (turn_ends samples j s.next y u on.1.0 n on.1.1 (omega (arith, less, le)) (omega (arith, few)) (subst (λ (v : TextModel). IsFollowedPatrolLoop v s.next samples u y) on.0 loop.4.3))
       ]
 
-  patrols : PatrolsLoops p m
+  patrols : LoopsPatrol IsFollowedPatrolLoop FollowedEndsTurn p m
   patrols = (
     refl,
     λ j x y k samples u rank loop.
@@ -125,4 +118,4 @@ module _ (p : Description) (t : TextModel) (h : HoldsPatrol p t) where
 pub followed_patrol_texts_go_on : FollowedPatrolTextsGoOn
 followed_patrol_texts_go_on p bytes text t spells given read =
     let h = holds_patrol p bytes text t spells given read in
-    subst (PatrolsLoops p) (sym h.is) (patrols p t h)
+    subst (LoopsPatrol IsFollowedPatrolLoop FollowedEndsTurn p) (sym h.is) (patrols p t h)

@@ -1,26 +1,15 @@
 -- A followed loop by the text of reach and stay falls in rank with each sample, down to 0, and stays there.
-use Rattle.std.proofs.Common.{◌≡◌, ℕ, ◌-◌, ◌≤◌, List, length, refl, sym, subst, arith}
-use Rattle.std.specs.Prelude.{ℤ}
+use Rattle.std.proofs.Common.{ℕ, ◌-◌, ◌≤◌, refl, sym, subst, arith}
 use Rattle.plant_record.specs.Description.{Description}
-use Rattle.plant_record.specs.States.{LiesInSome, IsClear}
 use Rattle.temporal_promises.proofs.Settling.{cell_below, stayed, clear_of, goal_of, leads_lower}
 use Rattle.controller_table.specs.declared.text_kind.TextKind.TheVariants.{Stay}
 use Rattle.text_control.specs.Texts.{TextModel, due_rows}
-use Rattle.text_control.specs.Control.{IsRank}
-use Rattle.text_control.specs.Loops.{AlwaysAnswers}
-use Rattle.text_control.specs.Followed.{FollowedSample}
 use Rattle.driven_loops.specs.Followed.{IsFollowedLoop}
+use Rattle.driven_loops.specs.LoopPromises.{LoopsSettle}
 use Rattle.driven_loops.specs.FollowedLaws.{FollowedStayTextsSettle}
 use Rattle.driven_loops.proofs.ReadBack.{HoldsStay, says, holds_stay}
 use Rattle.driven_loops.proofs.LeadingOn.{LeadOn, HasNext, clear_at, in_target, led}
 use Rattle.driven_loops.proofs.RowAnswers.{row_answers, has_rank}
-
--- what the law says where this was read
-abbrev SettlesLoops : Description → TextModel → Type 0
-SettlesLoops p t =
-    (t.plant ≡ p)
-    × ((x y : List ℤ) (k : ℕ) (samples : List FollowedSample) → IsRank t x k → IsFollowedLoop t x samples y
-    → IsClear p y × AlwaysAnswers t y × (k ≤ length samples → LiesInSome p p.targets y) × ((n : ℕ) × IsRank t y n × (n ≤ k - length samples)))
 
 -- a rank falls with each sample, down to 0
 abbrev FallenToZero : ℕ → ℕ → ℕ → Type 0
@@ -41,7 +30,7 @@ module _ (p : Description) (t : TextModel) (h : HoldsStay p t) where
     leads = λ c row is applies. leads_lower h.solution c row is;
   }
 
-  settles : SettlesLoops p m
+  settles : LoopsSettle IsFollowedLoop p m
   unfolding settling_rows
   settles = (
     refl,
@@ -58,4 +47,4 @@ module _ (p : Description) (t : TextModel) (h : HoldsStay p t) where
 pub followed_stay_texts_settle : FollowedStayTextsSettle
 followed_stay_texts_settle p bytes text t spells given read =
     let h = holds_stay p bytes text t spells given read in
-    subst (SettlesLoops p) (sym h.is) (settles p t h)
+    subst (LoopsSettle IsFollowedLoop p) (sym h.is) (settles p t h)

@@ -35,7 +35,7 @@ written_tables_keep p bytes text t spells goal given read =
       h.0,
       λ x y k samples rank loop.
           let end = h.1 x y k (seen t samples) rank ((loops_are_followed bytes text t read).0 (inl given) x y samples loop) in
-          (end.0, end.1),
+          (end.0, end.1, end.2),
     )
 
 pub written_stay_texts_settle : WrittenStayTextsSettle
@@ -44,7 +44,9 @@ written_stay_texts_settle p bytes text t spells given read =
       h.0,
       λ x y k samples rank loop.
           let end = h.1 x y k (seen t samples) rank ((loops_are_followed bytes text t read).0 (inr given) x y samples loop) in
-          (end.0, end.1, λ le. end.2 (omega (arith, le, length-map samples (followed_of t.plant)))),
+          let rest = end.3 in
+          let low = rest.2 in
+          (end.0, end.1, λ le. end.2 (omega (arith, le, length-map samples (followed_of t.plant))), (rest.0, rest.1, omega (arith, low, length-map samples (followed_of t.plant)))),
     )
 
 -- a sample that ends a turn is one of the loop's

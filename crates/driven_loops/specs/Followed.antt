@@ -3,13 +3,11 @@
 use Rattle.std.specs.Prelude.{◌≡◌, ℕ, ◌/◌, ◌%◌, ◌≤◌, ℤ, List, [], ◌∷◌, length}
 use Rattle.grid_quantiser.specs.declared.axis.Axis.{Axis}
 use Rattle.grid_quantiser.specs.Axes.{cells_of}
-use Rattle.grid_quantiser.specs.CellBoxes.{IsInBox}
-use Rattle.plant_record.specs.Description.{Description, axes_of}
-use Rattle.turn_rows.specs.Targets.{target_at}
+use Rattle.plant_record.specs.Description.{Description}
 use Rattle.text_control.specs.Texts.{TextModel}
 use Rattle.text_control.specs.Loops.{LoopSample, moved_by, Answers}
 use Rattle.text_control.specs.Followed.{FollowedSample, IsInItsBox}
-use Rattle.text_control.specs.Visits.{HasArrivedInTurn, EncodesVisit}
+use Rattle.text_control.specs.Visits.{EndsTurnAt, EncodesVisit}
 
 -- a sample under the plant's equations: the next state is the one that they lead to
 abbrev pub followed_of : Description → LoopSample → FollowedSample
@@ -36,4 +34,4 @@ IsFollowedPatrolLoop t x (s ∷ samples) u y =
 
 -- a sample that leads to an arrival of a turn, within its target
 abbrev pub FollowedEndsTurn : TextModel → FollowedSample → Type 0
-FollowedEndsTurn t s = HasArrivedInTurn t s.next × IsInBox (axes_of t.plant) (target_at t.plant t.turn).low (target_at t.plant t.turn).high s.next
+FollowedEndsTurn t s = EndsTurnAt t s.next

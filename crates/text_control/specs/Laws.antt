@@ -1,12 +1,9 @@
 -- What holds of every text, and what one that keeps its promise does to a plant whose loop applies the answers.
 use Rattle.std.specs.Prelude.{◌≡◌, ◌⊎◌, ℕ, ◌<◌, ◌≤◌, ℤ, List, length, take}
 use Rattle.std.specs.List.{All, Any}
-use Rattle.grid_quantiser.specs.CellBoxes.{IsInBox}
-use Rattle.plant_record.specs.Description.{axes_of}
 use Rattle.plant_record.specs.States.{LiesInSome, IsClear}
 use Rattle.row_runs.specs.declared.run.TableVersion.{TableVersion}
 use Rattle.temporal_texts.specs.Settles.{Settles}
-use Rattle.turn_rows.specs.Targets.{target_at}
 use Rattle.temporal_texts.specs.Patrols.{Patrols}
 use Rattle.controller_table.specs.TextKinds.{HasFewTurnsFor}
 use Rattle.plant_refine.specs.Drives.{Drives}
@@ -15,7 +12,7 @@ use Rattle.controller_table.specs.declared.text_kind.TextKind.TheVariants.{Table
 use Rattle.text_control.specs.declared.control_fault.ControlFault.{ControlFault}
 use Rattle.text_control.specs.Texts.{TextModel, Tells, IsReadFrom, IsNoTextFor}
 use Rattle.text_control.specs.Control.{IsRank}
-use Rattle.text_control.specs.Visits.{HasArrivedInTurn}
+use Rattle.text_control.specs.Visits.{EndsTurnAt}
 use Rattle.text_control.specs.Loops.{LoopSample, moved_by, AlwaysAnswers, IsLoop, IsPatrolLoop}
 
 -- bytes say what is read from them
@@ -58,7 +55,7 @@ StayLoopsSettle =
 
 -- a sample that leads to an arrival of a turn, within its target
 abbrev pub EndsTurn : TextModel → LoopSample → Type 0
-EndsTurn t s = HasArrivedInTurn t (moved_by t.plant s) × IsInBox (axes_of t.plant) (target_at t.plant t.turn).low (target_at t.plant t.turn).high (moved_by t.plant s)
+EndsTurn t s = EndsTurnAt t (moved_by t.plant s)
 
 -- Where a patrol text patrols its plant's targets: on every loop from a state of rank k for the turn, each state is off the
 -- obstacles and has an answer for its turn, and within k samples the first turn ends.

@@ -2,9 +2,10 @@
 use Rattle.std.specs.Prelude.{◌≡◌, ℕ, ℤ, pos, negsuc, List, length}
 use Rattle.game_core.specs.declared.game.Row.{Row}
 use Rattle.grid_quantiser.specs.Cells.{cell_of}
+use Rattle.grid_quantiser.specs.CellBoxes.{IsInBox}
 use Rattle.plant_record.specs.Description.{axes_of}
 use Rattle.controller_table.specs.Choice.{HasRowAt}
-use Rattle.turn_rows.specs.Targets.{IsInTarget, next_turn}
+use Rattle.turn_rows.specs.Targets.{IsInTarget, target_at, next_turn}
 use Rattle.turn_rows.specs.Rows.{rows_for}
 use Rattle.temporal_texts.specs.TextTrajectories.{IsTurnFrom}
 use Rattle.text_control.specs.declared.visits.Visit.{Visit}
@@ -22,6 +23,10 @@ pub record HasArrivedInTurn (t : TextModel) (x : List ℤ) : Type 0 where
   pub target : IsInTarget t.plant t.turn (cell_of (axes_of t.plant) x)
   pub row : Row
   pub next : HasRowAt t.plant (rows_for t.turns (turn_after t)) x row
+
+-- the turn that is due ends at a state: the state is an arrival, within the turn's target
+abbrev pub EndsTurnAt : TextModel → List ℤ → Type 0
+EndsTurnAt t x = HasArrivedInTurn t x × IsInBox (axes_of t.plant) (target_at t.plant t.turn).low (target_at t.plant t.turn).high x
 
 -- a turn begins at a state: the state is an arrival, and the turn is the one after that which is due
 abbrev pub BeginsAt : TextModel → List ℤ → ℕ → Type 0
