@@ -1,9 +1,10 @@
 -- What a text says is what each of its rows, values and ranks speaks of.
-use Rattle.std.proofs.Common.{◌≡◌, ℕ, List, refl, subst, arith}
+use Rattle.std.proofs.Common.{◌≡◌, ℕ, List, refl, ap, subst, arith}
 use Rattle.std.specs.Prelude.{ℤ}
 use Rattle.game_core.specs.declared.game.Row.{Row}
 use Rattle.plant_record.specs.Description.{Description, vector_of}
 use Rattle.turn_rows.specs.Rows.{rows_for}
+use Rattle.controller_table.specs.declared.text_kind.TextKind.{TextKind}
 use Rattle.controller_table.specs.TextKinds.{turn_rules}
 use Rattle.controller_table.specs.Choice.{HasRowAt}
 use Rattle.controller_table.specs.TextRows.{HasTextRow}
@@ -40,5 +41,5 @@ module _ (bytes : List ℕ) (t : TextModel) (tells : Tells bytes t) (x : List �
   text_rank row has = (row, text_row t.turn row has, refl)
 
   -- of a text of one turn the first is due where it has a row
-  pub first_due : (turn_rules t.kind t.plant).turns ≡ 1 → (row : Row) → HasRow row → t.turn ≡ 0
-  first_due one row has = omega (arith, turn_of_row t.kind bytes t.plant t.turns tells t.turn x row has, one)
+  pub first_due : (kind : TextKind) → t.kind ≡ kind → (turn_rules kind t.plant).turns ≡ 1 → (row : Row) → HasRow row → t.turn ≡ 0
+  first_due kind is one row has = omega (arith, turn_of_row t.kind bytes t.plant t.turns tells t.turn x row has, ap (λ (k : TextKind). (turn_rules k t.plant).turns) is, one)

@@ -145,16 +145,12 @@ module _ (bytes : List ℕ) (t : TextModel) (version : TableVersion) (tells : Te
       let there : HasSomeRow bytes (moved_by p s) = subst (HasSomeRow bytes) (moves_on s x r.2.0 loop.0 loop.1 r.2.1) r.2.2.1 in
       kept stays samples (moved_by p s) y there loop.3
 
--- a state with a rank has it in the first turn
-first_turn : (bytes : List ℕ) (t : TextModel) (version : TableVersion) → Tells bytes t → t.kind ≡ Table version → (x : List ℤ) (k : ℕ) → IsRank t x k → t.turn ≡ 0
-first_turn bytes t version tells kind x k rank = first_due bytes t tells x (ap (λ (kd : TextKind). (turn_rules kd t.plant).turns) kind) rank.0.row rank.0.has
-
 pub reach_loops_arrive : ReachLoopsArrive
 reach_loops_arrive bytes t version tells kind drives x y k samples rank loop out =
-    let first = first_turn bytes t version tells kind x k rank in
+    let first = first_due bytes t tells x (Table version) kind refl rank.0.row rank.0.has in
     driven bytes t version tells kind first samples x y k (λ ws many each. drives x k ws (rank_told bytes t version tells kind first x k rank) many (All-from_recursion (IsNoise t.plant.noises) ws each)) loop out
 
 pub keep_loops_go_on : KeepLoopsGoOn
 keep_loops_go_on bytes t version tells kind stays x y k samples rank loop =
-    let first = first_turn bytes t version tells kind x k rank in
+    let first = first_due bytes t tells x (Table version) kind refl rank.0.row rank.0.has in
     kept bytes t version tells kind first stays samples x y (k, rank_told bytes t version tells kind first x k rank) loop

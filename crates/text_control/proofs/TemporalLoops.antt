@@ -7,7 +7,6 @@ use Rattle.game_core.specs.declared.game.Row.{Row}
 use Rattle.grid_quantiser.specs.CellBoxes.{IsInBox}
 use Rattle.plant_record.specs.Description.{Description, axes_of, vector_of}
 use Rattle.controller_table.specs.Choice.{HasRowAt}
-use Rattle.controller_table.specs.TextKinds.{turn_rules}
 use Rattle.controller_table.specs.TextRows.{HasTextRow}
 use Rattle.turn_rows.specs.Rows.{rows_for}
 use Rattle.temporal_texts.specs.StayText.{HasStayRow}
@@ -78,7 +77,7 @@ module _ (bytes : List ℕ) (t : TextModel) (tells : Tells bytes t) (kind : t.ki
 pub stay_loops_settle : StayLoopsSettle
 stay_loops_settle bytes t tells kind settles x y k samples rank loop =
     let at = rank.0 in
-    let first = first_due bytes t tells x (ap (λ (kd : TextKind). (turn_rules kd t.plant).turns) kind) at.row at.has in
+    let first = first_due bytes t tells x Stay kind refl at.row at.has in
     let way = as_trajectory bytes t tells kind first samples x y loop in
     let end = stay_trajectories_settle t.plant bytes settles x y at.row way.0 (stay_row bytes t tells kind first x at.row at.has) way.1 in
     (end.0, stay_answers bytes t tells kind first y end.1.0 end.1.1, λ le. end.2 (let same = same_length t.plant way.0 samples way.2 in let r = at.is in omega (arith, le, same, r)))
