@@ -100,10 +100,11 @@ impl Table {
     }
 
     /// The row of the cell in which a state lies.
+    #[tactic(auto, using(crate::proofs::RowsAtStates::row_inside, crate::proofs::RowsAtStates::no_row_outside))]
     pub fn row_at(&self, x: &Point) -> Option<Row>
         ensures { result ≡ row_at self.now.plant self.now.rows x.now }
     {
-        let cell = self.plant().grid().cell_of(x)?;
+        let cell = self.plant.grid().cell_of(x)?;
         self.row(cell)
     }
 
