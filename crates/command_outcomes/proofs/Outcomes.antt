@@ -212,7 +212,7 @@ table_exact Passes Refuses exact bytes =
     (λ t u f g. let same = one_table_per_text bytes t.0 u.0 t.1 u.1 f g in λ i. (same.0 i, same.1 i))
     (λ r s f g. let x = faulty_table bytes r f in let y = faulty_table bytes s g in x.2 ∙ ap refusal_of_table (one_table_refusal bytes x.0 y.0 x.1 y.1) ∙ sym y.2)
     (λ t table r f. let x = faulty_table bytes r f in table_or_refused bytes t.0 t.1 x.0 table x.1)
-    (λ t table. exact t.0 t.1 table.limits.plant))
+    (λ t table. exact t.0 t.1 table.1.limits.plant))
     (λ t. ((t.0, t.1), t.2, t.3))
     (λ r f. elim f [
       | inl refused ↦ inl refused

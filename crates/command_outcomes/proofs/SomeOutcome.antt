@@ -33,6 +33,7 @@ use Rattle.controller_table.specs.declared.table_fault.TableFault.TheVariants as
 use Rattle.controller_table.specs.Tables.{IsTable}
 use Rattle.controller_table.specs.TableRefusals.{IsTableRefusedFor}
 use Rattle.controller_table.proofs.OneRefusal.{no_text_is_neither}
+use Rattle.controller_table.proofs.TableTexts.{within_one}
 use Rattle.command_line.specs.declared.command.Command.TheVariants.{Synth, Check, Upgrade, Sim, Demo, Stay, Patrol}
 use Rattle.command_line.specs.declared.command.Command.{Command}
 use Rattle.command_line.specs.declared.outcome.Outcome.TheVariants.{Done, Refused}
@@ -132,11 +133,11 @@ verdict : (bytes : List ℕ) (p : Description) (rows : List (Option Row)) → Is
 verdict bytes p rows table (overflows i u first) deny = deny (inr (Overflow i u, inl (inl (i, u, refl, first))))
 verdict bytes p rows table (has_many_edges many) deny = deny (inr (Limit Edges, inl (inr (refl, many))))
 verdict bytes p rows table (is_solvable s) deny =
-    some_game p table.limits (λ game. by_game game.0 game.1)
+    some_game p table.1.limits (λ game. by_game game.0 game.1)
   where
     by_game : (g : Game) → IsGameOf p g → ⊥
     by_game g is = first_without (IsRightFor p.goal g rows) g.cells (λ found. elim found [
-      | inl all ↦ deny (inl (s, record { game = g; abstraction = is; solution = solved p.goal g rows is.game (table.fitting.one_each ∙ sym is.cells) all }))
+      | inl all ↦ deny (inl (s, record { game = g; abstraction = is; solution = solved p.goal g rows is.game ((within_one _ rows table.1.within).one_each ∙ sym is.cells) all }))
       | inr (c, wrong) ↦ deny (inr (Invalid c, inr (c, refl, s, record { game = g; abstraction = is; wrong = wrong })))
     ])
 
@@ -188,7 +189,7 @@ driven p rows start deny = some_overflow p (λ found. elim found [
 
 decided : (command : Command) (bytes : List ℕ) → (IsDecided (IsAnswerable command bytes) (IsStagedRefusal command bytes) → ⊥) → ⊥
 decided (Synth workers) bytes deny = by_text bytes IsSolvable IsPlantRefusal plant_decided deny
-decided Check bytes deny = by_table bytes AreRight IsRowsRefusal (λ p rows table refute. plant_end p table.limits (λ end. verdict bytes p rows table end refute)) deny
+decided Check bytes deny = by_table bytes AreRight IsRowsRefusal (λ p rows table refute. plant_end p table.1.limits (λ end. verdict bytes p rows table end refute)) deny
 decided Upgrade bytes deny = by_table bytes (λ p rows. HasNoOverflow p) (λ p rows r. IsOverflow p r) (λ p rows table refute. range p refute) deny
 decided (Sim samples seed start) bytes deny = by_table bytes (λ p rows. HasNoOverflow p × HasRowFor p rows start) (IsStartRefusal start) (λ p rows table refute. driven p rows start refute) deny
 decided (Demo number workers) bytes deny = deny (inl tt)

@@ -169,19 +169,19 @@ module _ {Name : Type 0} (kind_of : Name → TextKind) (one_name : (k l : Name) 
 
   -- ---- never both
 
-  pub text_or_refused : (most : ℕ) (bytes : List ℕ) (k : Name) (p : Description) (turns : List (List (Option Row))) (f : TextFault) → IsTextOf (kind_of k) bytes p turns → HasFewTurnsFor (kind_of k) p → length bytes ≤ most → IsTextRefusedFor kind_of most bytes f → ⊥
-  text_or_refused most bytes k p turns f t few short refused =
+  pub text_or_refused : (most : ℕ) (bytes : List ℕ) (k : Name) (p : Description) (turns : List (List (Option Row))) (f : TextFault) → IsTextOf (kind_of k) bytes p turns → length bytes ≤ most → IsTextRefusedFor kind_of most bytes f → ⊥
+  text_or_refused most bytes k p turns f t short refused =
       elim (by_length most bytes f refused) [
         | inl long ↦ long.1 short
         | inr reason ↦
-            no_reason bytes k p (after_plant (kind_of k) p turns) t.limits t.text few
+            no_reason bytes k p (after_plant (kind_of k) p turns) t.limits t.text t.few
             (λ n r. turns_or_refused (turn_rules (kind_of k) p) (small_turns (kind_of k) p t.limits) (after_plant (kind_of k) p turns) turns n (record { within = t.within; text = refl }) r) f reason.1
       ]
 
 -- ---- no text is neither: where none of these stands, nothing is denied
 
 module _ {Name : Type 0} (kind_of : Name → TextKind) (most : ℕ) (bytes : List ℕ) (unrefused : (f : TextFault) → IsTextRefusedFor kind_of most bytes f → ⊥)
-    (untold : (k : Name) (p : Description) (turns : List (List (Option Row))) → IsTextOf (kind_of k) bytes p turns → HasFewTurnsFor (kind_of k) p → ⊥) where
+    (untold : (k : Name) (p : Description) (turns : List (List (Option Row))) → IsTextOf (kind_of k) bytes p turns → ⊥) where
   module _ (short : length bytes ≤ most) (k : Name) (rest : List ℕ) (are : bytes ≡ first_line (kind_of k) ++ rest) where
     unrefused_after : (f : TextFault) → (f ≡ faults.Memory → ⊥) → IsRefusedAfter (kind_of k) rest f → ⊥
     unrefused_after f some refused = unrefused f (refused_among kind_of k most bytes rest short are f some refused)
@@ -196,7 +196,7 @@ module _ {Name : Type 0} (kind_of : Name → TextKind) (most : ℕ) (bytes : Lis
       no_row few n refused = unrefused_after (faults.Malformed (1 + line_count (take count rest) + n)) (λ e. cc) (inr (rows_refused (kind_of k) rest p count is_front limits few n (line_count (take count rest)) refl refused))
 
       no_turns : HasFewTurnsFor (kind_of k) p → (turns : List (List (Option Row))) → AreTurnsText (turn_rules (kind_of k) p) (drop count rest) turns → ⊥
-      no_turns few turns told = untold k p turns (subst (λ (x : List ℕ). IsTextOf (kind_of k) x p turns) (sym are) (text_told (kind_of k) rest p count is_front limits turns told)) few
+      no_turns few turns told = untold k p turns (subst (λ (x : List ℕ). IsTextOf (kind_of k) x p turns) (sym are) (text_told (kind_of k) rest p count is_front limits few turns told))
 
     no_plant : (p : Description) (count : ℕ) → IsFront rest p count → IsWithinLimits p → ⊥
     no_plant p count is_front limits = elim (few_or_many (kind_of k) p) [

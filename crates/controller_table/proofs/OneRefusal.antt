@@ -1,7 +1,6 @@
 -- A text has one reason to be refused as a table, none where it is one, and no text is neither.
-use Rattle.std.proofs.Common.{◌≡◌, ℕ, List, [], ◌∷◌, Option, refl, sym, ap, subst, ◌∙◌}
+use Rattle.std.proofs.Common.{◌≡◌, ℕ, List, [], ◌∷◌, refl, sym, ap, subst, ◌∙◌}
 use Rattle.base.specs.declared.limits.TheConstants.{TABLE_LIMIT}
-use Rattle.game_core.specs.declared.game.Row.{Row}
 use Rattle.plant_record.specs.Description.{Description}
 use Rattle.controller_table.specs.declared.table_fault.TableFault.{TableFault}
 use Rattle.controller_table.specs.declared.table_fault.TableFault.TheVariants as tables
@@ -15,8 +14,8 @@ use Rattle.controller_table.specs.HeadedTexts.{IsTextRefusedFor, text_fault}
 use Rattle.controller_table.specs.Laws.{OneTableRefusal, TableOrRefused, NoTextIsNeither}
 use Rattle.controller_table.proofs.HeadedLaws as headed
 use Rattle.controller_table.proofs.OneTable.{same_version}
-use Rattle.controller_table.proofs.ShortTexts.{texts_are_short}
-use Rattle.controller_table.proofs.TableTexts.{only_turn, as_text, as_table}
+use Rattle.controller_table.proofs.ShortTexts.{tables_are_short}
+use Rattle.controller_table.proofs.TableTexts.{only_turn}
 
 -- ---- texts without a limit on their turns
 
@@ -50,10 +49,10 @@ one_refusal bytes f g h k = same_fault f g (headed.one_refusal Table same_versio
 
 pub table_or_refused : TableOrRefused
 table_or_refused bytes p rows f t refused =
-    headed.text_or_refused Table same_version TABLE_LIMIT bytes t.version p (rows ∷ []) (text_fault f) (as_text bytes p rows t) tt (texts_are_short (Table t.version) bytes p (rows ∷ []) (as_text bytes p rows t) tt) refused
+    headed.text_or_refused Table same_version TABLE_LIMIT bytes t.0 p (rows ∷ []) (text_fault f) t.1 (tables_are_short bytes p rows t) refused
 
 pub no_text_is_neither : NoTextIsNeither
 no_text_is_neither bytes no_table no_refusal =
-    headed.no_text_is_neither Table TABLE_LIMIT bytes (none_refuses Table TABLE_LIMIT bytes (λ v p. tt) no_refusal) (λ v p turns t few.
+    headed.no_text_is_neither Table TABLE_LIMIT bytes (none_refuses Table TABLE_LIMIT bytes (λ v p. tt) no_refusal) (λ v p turns t.
     let only = only_turn (turn_rules (Table v) p) turns refl t.within in
-    no_table p only.0 (as_table v bytes p only.0 (subst (λ (x : List (List (Option Row))). IsTextOf (Table v) bytes p x) only.1 t)).0)
+    no_table p only.0 (v, subst (IsTextOf (Table v) bytes p) only.1 t))

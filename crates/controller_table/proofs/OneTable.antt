@@ -14,7 +14,6 @@ use Rattle.controller_table.specs.Tables.{IsTable}
 use Rattle.controller_table.specs.Choice.{HasRowAt, Applies, Chooses}
 use Rattle.controller_table.specs.Laws.{OneTablePerText, OneChoice, OneRank}
 use Rattle.controller_table.proofs.HeadedLaws.{one_text}
-use Rattle.controller_table.proofs.TableTexts.{as_text}
 use Rattle.std.proofs.lemmas.Option.{same_Some}
 
 -- ---- one table
@@ -24,8 +23,8 @@ same_version v w e = cc
 
 pub one_table : OneTablePerText
 one_table bytes p q rows others h k =
-    let same = one_text (Table h.version) (Table k.version) bytes p q (rows ∷ []) (others ∷ []) (as_text bytes p rows h) (as_text bytes q others k) in
-    (same.1, same_head rows others [] [] same.2, same_version h.version k.version same.0)
+    let same = one_text (Table h.0) (Table k.0) bytes p q (rows ∷ []) (others ∷ []) h.1 k.1 in
+    (same.1, same_head rows others [] [] same.2, same_version h.0 k.0 same.0)
 
 -- ---- one row at a state
 

@@ -1,4 +1,4 @@
--- A text of a plant with few enough turns is within the limit on its bytes.
+-- A text is within the limit on its bytes.
 use Rattle.std.proofs.Common.{◌≡◌, ℕ, suc, ◌+◌, ◌-◌, ◌*◌, ◌^◌, ◌≤◌, List, [], ◌∷◌, ◌++◌, length, length-append, Option, ap, subst, append-nil, arith}
 use Rattle.std.specs.Prelude.{codes}
 use Rattle.std.specs.List.{AllByRecursion, concat}
@@ -25,7 +25,6 @@ use Rattle.row_reading.proofs.RowsRead.{few_lines}
 use Rattle.controller_table.proofs.EachKind.{short_rows, few_turns}
 use Rattle.controller_table.proofs.PlantLength.{line_length, plant_length}
 use Rattle.controller_table.proofs.RowLengths.{AreShort, seven, rows_length}
-use Rattle.controller_table.proofs.TableTexts.{as_text}
 
 -- ---- the lines of turns
 
@@ -80,8 +79,8 @@ enough (Table v) p within few = one_turn (cells_of (axes_of p)) within.cells
 enough Stay p within few = one_turn (cells_of (axes_of p)) within.cells
 enough Patrol p within few = all_turns (length p.targets) (cells_of (axes_of p)) within.plant.targets_bound few
 
-pub texts_are_short : (k : TextKind) (bytes : List ℕ) (p : Description) (turns : List (List (Option Row))) → IsTextOf k bytes p turns → HasFewTurnsFor k p → length bytes ≤ most_bytes k
-texts_are_short k bytes p turns t few =
+pub texts_are_short : (k : TextKind) (bytes : List ℕ) (p : Description) (turns : List (List (Option Row))) → IsTextOf k bytes p turns → length bytes ≤ most_bytes k
+texts_are_short k bytes p turns t =
     let rules : TurnRules = turn_rules k p in
     let size = t.within.one_list_each in
     let plant = plant_length p t.limits.plant in
@@ -89,7 +88,7 @@ texts_are_short k bytes p turns t few =
     let most = few_turns k p t.limits in
     let long = turns_length rules short 0 turns (omega (arith, size, most)) (recursion_from_All (AreRowsWithin rules.rows) turns t.within.each) in
     let all = subst (λ (n : ℕ). length (concat (lines_from rules 0 turns)) ≤ n * (33 + rules.rows.cells * 29)) size long in
-    let room = enough k p t.limits few in
+    let room = enough k p t.limits t.few in
     let after : List ℕ = concat (turn_lines rules turns) in
     omega (
       arith,
@@ -106,4 +105,4 @@ texts_are_short k bytes p turns t few =
     )
 
 pub tables_are_short : TablesAreShort
-tables_are_short bytes p rows t = texts_are_short (Table t.version) bytes p (rows ∷ []) (as_text bytes p rows t) tt
+tables_are_short bytes p rows t = texts_are_short (Table t.0) bytes p (rows ∷ []) t.1

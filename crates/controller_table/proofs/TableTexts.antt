@@ -10,9 +10,9 @@ use Rattle.row_reading.specs.declared.row_rules.TurnRules.{TurnRules}
 use Rattle.row_reading.specs.RowsTexts.{AreRowsWithin, AreTurnsWithin}
 use Rattle.controller_table.specs.declared.text_kind.TextKind.{TextKind}
 use Rattle.controller_table.specs.declared.text_kind.TextKind.TheVariants.{Table}
-use Rattle.controller_table.specs.Tables.{RowsFit, IsTable, IsTableIn}
+use Rattle.controller_table.specs.Tables.{RowsFit, IsTableIn}
 use Rattle.controller_table.specs.TextKinds.{turn_rules}
-use Rattle.controller_table.specs.KindTexts.{IsTextOf, HoldsRows}
+use Rattle.controller_table.specs.KindTexts.{table_text, HoldsRows}
 use Rattle.controller_table.proofs.Fitting.{within_in}
 
 pub one_within : (rules : TurnRules) (rows : List (Option Row)) → rules.turns ≡ 1 → AreRowsWithin rules.rows rows → AreTurnsWithin rules (rows ∷ [])
@@ -31,18 +31,9 @@ only_turn rules (rows ∷ s ∷ turns) one within = absurd (omega (arith, within
 pub table_held : (v : TableVersion) (p : Description) (rows : List (Option Row)) → IsWithinLimits p → RowsFit p rows → HoldsRows (record { kind = Table v; plant = p; turns = rows ∷ [] })
 table_held v p rows limits fit = record { limits = limits; few = tt; within = one_within (turn_rules (Table v) p) rows refl (within_in Second v p rows fit) }
 
-pub as_text : (bytes : List ℕ) (p : Description) (rows : List (Option Row)) → (t : IsTable bytes p rows) → IsTextOf (Table t.version) bytes p (rows ∷ [])
-as_text bytes p rows t = record {
-  limits = t.limits;
-  within = (table_held t.version p rows t.limits t.fitting).within;
-  text = t.text;
-}
-
-pub as_table : (v : TableVersion) (bytes : List ℕ) (p : Description) (rows : List (Option Row)) → IsTextOf (Table v) bytes p (rows ∷ []) → IsTableIn v bytes p rows
-as_table v bytes p rows t = (
-  record { limits = t.limits; fitting = within_in v Second p rows (within_one (turn_rules (Table v) p) rows t.within); version = v; text = t.text },
-  refl,
-)
+-- and their text is one
+pub as_table : (v : TableVersion) (bytes : List ℕ) (p : Description) (rows : List (Option Row)) → IsWithinLimits p → RowsFit p rows → bytes ≡ table_text v p rows → IsTableIn v bytes p rows
+as_table v bytes p rows limits fit text = record { limits = limits; few = tt; within = (table_held v p rows limits fit).within; text = text }
 
 -- rows that the text of a table holds fit its plant
 pub rows_held : (v : TableVersion) (kind : TextKind) (p : Description) (turns : List (List (Option Row))) (rows : List (Option Row)) → kind ≡ Table v → turns ≡ rows ∷ [] → AreTurnsWithin (turn_rules kind p) turns → RowsFit p rows

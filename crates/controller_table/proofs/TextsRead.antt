@@ -60,8 +60,8 @@ module _ (kind : TextKind) (rest : List ℕ) (p : Description) (count : ℕ) (at
   pub many_turns : (HasFewTurnsFor kind p → ⊥) → HasManyTurns (alone kind) bytes
   many_turns many = record { name = tt; plant = p; limits = limits; rest = drop count rest; are = are; many = many }
 
-  pub text_told : (turns : List (List (Option Row))) → AreTurnsText (turn_rules kind p) (drop count rest) turns → IsTextOf kind bytes p turns
-  text_told turns told = record { limits = limits; within = told.within; text = are ∙ ap (λ (x : List ℕ). first_line kind ++ text_of p ++ x) told.text }
+  pub text_told : HasFewTurnsFor kind p → (turns : List (List (Option Row))) → AreTurnsText (turn_rules kind p) (drop count rest) turns → IsTextOf kind bytes p turns
+  text_told few turns told = record { limits = limits; few = few; within = told.within; text = are ∙ ap (λ (x : List ℕ). first_line kind ++ text_of p ++ x) told.text }
 
   pub rows_refused : HasFewTurnsFor kind p → (line lines : ℕ) → lines ≡ line_count (take count rest) → AreTurnsRefusedAt (turn_rules kind p) (drop count rest) line → AreRowsRefusedAt (alone kind) bytes (1 + lines + line)
   rows_refused few line lines before refused = record {

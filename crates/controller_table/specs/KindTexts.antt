@@ -34,9 +34,10 @@ bytes_of_rows t = rows_text t.kind t.plant t.turns
 abbrev pub IsOfWrittenVersion : RowsModel → Type 0
 IsOfWrittenVersion t = (turn_rules t.kind t.plant).rows.version ≡ written_version
 
--- The bytes are the text of a kind, of a plant within the limits and of rows that the kind allows.
+-- The bytes are the text of a kind, of a plant within the limits with few enough turns, and of rows that the kind allows.
 pub record IsTextOf (kind : TextKind) (bytes : List ℕ) (p : Description) (turns : List (List (Option Row))) : Type 0 where
   pub limits : IsWithinLimits p
+  pub few : HasFewTurnsFor kind p
   pub within : AreTurnsWithin (turn_rules kind p) turns
   pub text : bytes ≡ rows_text kind p turns
 

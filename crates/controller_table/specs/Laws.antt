@@ -15,7 +15,7 @@ use Rattle.controller_table.specs.TableRefusals.{IsShortTable, IsTableRefusedFor
 -- no bytes are the table of two plants, or of one plant with other rows, or in two versions
 abbrev pub OneTablePerText : Type 0
 OneTablePerText =
-    (bytes : List ℕ) (p q : Description) (rows others : List (Option Row)) (table : IsTable bytes p rows) (other : IsTable bytes q others) → (p ≡ q) × (rows ≡ others) × (table.version ≡ other.version)
+    (bytes : List ℕ) (p q : Description) (rows others : List (Option Row)) (table : IsTable bytes p rows) (other : IsTable bytes q others) → (p ≡ q) × (rows ≡ others) × (table.0 ≡ other.0)
 
 -- the table that bytes are chooses at most one input at a state
 abbrev pub OneChoice : Type 0

@@ -3,10 +3,9 @@ use Rattle.std.specs.Prelude.{IfSome}
 use Rattle.std.proofs.Common.{inl, inr, ℕ, List, [], ◌∷◌, Option, refl, subst}
 use Rattle.controller_table.specs.TableText.{written_version}
 use Rattle.controller_table.specs.declared.text_kind.TextKind.TheVariants as kinds
-use Rattle.controller_table.proofs.TableTexts.{as_text}
+use Rattle.controller_table.proofs.TableTexts.{as_table}
 use Rattle.text_control.specs.declared.control_fault.ControlFault.{ControlFault}
 use Rattle.text_control.specs.Texts.{TextModel, IsReadFrom, IsNoTextFor}
-use Rattle.controller_table.specs.TextKinds.{HasFewTurnsFor}
 use Rattle.text_control.proofs.TextRefusals.{read_texts_tell, text_or_refused}
 use Rattle.command_line.specs.declared.command.Command.TheVariants.{Synth, Check, Upgrade, Sim, Demo, Stay, Patrol}
 use Rattle.synth_run.specs.RunClauses.{IsAnswered}
@@ -14,15 +13,15 @@ use Rattle.driven_loops.proofs.ReadBack.{says}
 use Rattle.driven_loops.specs.Laws.{AnswersAreWritten, WrittenTextsAreRead}
 
 -- what was read isn't refused
-both : (text : List ℕ) (t : TextModel) → IsReadFrom text t → HasFewTurnsFor t.kind t.plant → ((m : TextModel) × IsReadFrom text m) × ((f : ControlFault) → IsNoTextFor text f → ⊥)
-both text t read few = ((t, read), λ f refused. text_or_refused text t f (read_texts_tell text t read) few refused)
+both : (text : List ℕ) (t : TextModel) → IsReadFrom text t → ((m : TextModel) × IsReadFrom text m) × ((f : ControlFault) → IsNoTextFor text f → ⊥)
+both text t read = ((t, read), λ f. text_or_refused text t f (read_texts_tell text t read))
 
 pub written_texts_are_read : WrittenTextsAreRead
 written_texts_are_read bytes text (inl given) =
-    let table = as_text text given.0 given.3.rows (record { limits = given.1.limits; fitting = given.3.fitting; version = written_version; text = given.3.text_is }) in
-    both text (says (kinds.Table written_version) given.0 (given.3.rows ∷ [])) (table, refl) tt
-written_texts_are_read bytes text (inr (inl given)) = both text (says kinds.Stay given.0 (given.3.rows ∷ [])) (given.3.table, refl) tt
-written_texts_are_read bytes text (inr (inr given)) = both text (says kinds.Patrol given.0 given.3.rows) (given.3.table, refl) given.2.1
+    let table = as_table written_version text given.0 given.3.rows given.1.limits given.3.fitting given.3.text_is in
+    both text (says (kinds.Table written_version) given.0 (given.3.rows ∷ [])) (table, refl)
+written_texts_are_read bytes text (inr (inl given)) = both text (says kinds.Stay given.0 (given.3.rows ∷ [])) (given.3.table, refl)
+written_texts_are_read bytes text (inr (inr given)) = both text (says kinds.Patrol given.0 given.3.rows) (given.3.table, refl)
 
 pub answers_are_written : AnswersAreWritten
 answers_are_written (Synth workers) told bytes out writes is answered =

@@ -6,7 +6,7 @@ use Rattle.std.specs.Fmt.{signed_decimal}
 use Rattle.std.proofs.Math.Seq.{take-append_seam, drop-append_seam}
 use Rattle.std.proofs.lemmas.List.Elements.{All-head, All-tail}
 use Rattle.line_words.specs.Numbers.{IsLiteral}
-use Rattle.controller_table.specs.Tables.{TableModel, IsTable, IsTableIn}
+use Rattle.controller_table.specs.Tables.{TableModel, IsTableIn}
 use Rattle.row_runs.specs.declared.run.TableVersion.{TableVersion}
 use Rattle.row_runs.specs.declared.run.TableVersion.TheVariants.{First, Second}
 use Rattle.controller_table.specs.KindTexts.{table_text}
@@ -24,8 +24,8 @@ use Rattle.live_script.proofs.TableLines.{one_announced, not_asked}
 
 -- ---- tables
 
-some_byte : (text : List ℕ) (t : TableModel) → IsTable text t.plant t.rows → 1 ≤ length text
-some_byte text t is = longer is.version (ap length is.text)
+some_byte : (text : List ℕ) (t : TableModel) → IsTableIn t.version text t.plant t.rows → 1 ≤ length text
+some_byte text t is = longer t.version (ap length is.text)
   where
     longer : (v : TableVersion) → length text ≡ length (table_text v t.plant t.rows) → 1 ≤ length text
     longer First e = omega (arith, e)
@@ -34,8 +34,8 @@ some_byte text t is = longer is.version (ap length is.text)
 -- the line and the text of a table announce the text
 pub announces : (t : TableModel) (bytes rest : List ℕ) (h : IsPublishOf t bytes) → Announce (bytes ++ rest) (length h.text) (h.text ++ rest)
 announces t bytes rest h = record {
-  some = some_byte h.text t h.is_table.0;
-  most = short.tables_are_short h.text t.plant t.rows h.is_table.0;
+  some = some_byte h.text t h.is_table;
+  most = short.tables_are_short h.text t.plant t.rows (t.version, h.is_table);
   are = ap (λ (x : List ℕ). x ++ rest) h.are ∙ append_assoc (publish_line (length h.text)) h.text rest;
 }
 
@@ -49,9 +49,8 @@ one_text v w s t size e = (
 -- one table in one version is read from a text
 same_table : (text : List ℕ) (t u : TableModel) → IsTableIn t.version text t.plant t.rows → IsTableIn u.version text u.plant u.rows → t ≡ u
 same_table text t u h k =
-    let one = tables.one_table text t.plant u.plant t.rows u.rows h.0 k.0 in
-    let version : t.version ≡ u.version = sym h.1 ∙ one.2 ∙ k.1 in
-    λ i. record { version = version i; plant = one.0 i; rows = one.1 i }
+    let one = tables.one_table text t.plant u.plant t.rows u.rows (t.version, h) (u.version, k) in
+    λ i. record { version = one.2 i; plant = one.0 i; rows = one.1 i }
 
 -- ---- questions
 

@@ -50,7 +50,7 @@ module _ (n number : ℕ) (bytes : List ℕ) (f : ScriptFault) (first rest : Lis
   stuck (is_malformed e m) (Ask xs) h fits = m.no_question xs rest fits h.0 (asked xs h.1)
   stuck (has_refused_table g e r) (Publish t) h fits =
       let same = one_announced bytes (length r.text) (length h.text) (r.text ++ r.rest) (h.text ++ rest) r.announced (announced t h) in
-      refusals.table_or_refused h.text t.plant t.rows g h.is_table.0 (subst (λ (x : List ℕ). IsTableRefusedFor x g) (one_text r.text h.text r.rest rest same.0 same.1).0 r.refused)
+      refusals.table_or_refused h.text t.plant t.rows g (t.version, h.is_table) (subst (λ (x : List ℕ). IsTableRefusedFor x g) (one_text r.text h.text r.rest rest same.0 same.1).0 r.refused)
   stuck (has_refused_table g e r) (Ask xs) h fits = not_asked bytes (length r.text) (r.text ++ r.rest) r.announced xs rest (asked xs h.1)
   stuck (has_ninth_table e r) (Publish t) h fits = omega (arith, r.full, fits)
   stuck (has_ninth_table e r) (Ask xs) h fits = not_asked bytes r.size r.after r.announced xs rest (asked xs h.1)

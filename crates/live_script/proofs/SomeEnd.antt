@@ -24,8 +24,8 @@ module _ (n number : ℕ) (most : n ≤ 8) (bytes : List ℕ) (unended : bytes �
   whole_text : (text rest : List ℕ) → n < 8 → Announce bytes (length text) (text ++ rest) → ⊥
   whole_text text rest few told =
       no_text_is_neither text
-      (λ p rows table. no_command (Publish (record { version = table.version; plant = p; rows = rows })) (publish_line (length text) ++ text) rest
-      (told.are ∙ sym (append_assoc (publish_line (length text)) text rest)) (record { text = text; is_table = (table, refl); are = refl }) few)
+      (λ p rows table. no_command (Publish (record { version = table.0; plant = p; rows = rows })) (publish_line (length text) ++ text) rest
+      (told.are ∙ sym (append_assoc (publish_line (length text)) text rest)) (record { text = text; is_table = table.1; are = refl }) few)
       (λ f refused. unrefused (of_table number f) (refused_after n number bytes f (record { few = few; text = text; rest = rest; announced = told; refused = refused })))
 
   cut_text : (after : List ℕ) (size : ℕ) → n < 8 → size ≤ length after → Announce bytes size after → ⊥

@@ -62,4 +62,4 @@ module _ {bytes : List ℕ} {p : Description} {g : Game} {rows : List (Option Ro
 
 pub tables_keep : KeptTablesKeepPlants
 tables_keep bytes p g rows goal table game solution =
-    table_keeps (record { goal = goal; table = table; abstraction = game; solution = solution; refined = refines p g table.limits.plant game })
+    table_keeps (record { goal = goal; table = table; abstraction = game; solution = solution; refined = refines p g table.1.limits.plant game })

@@ -51,4 +51,4 @@ module _ {p : Description} {g : Game} {rows : List (Option Row)} (h : Guides p g
       comes ws x row.0.rank row.0.input row.1 (omega (arith, row.2, len)) (recursion_from_All (IsNoise p.noises) ws noises)
 
 pub tables_drive : RightTablesDrivePlants
-tables_drive bytes p g rows table game right = table_drives (guides p rows table.limits.plant (record { game = g; abstraction = game; right = right })) bytes table
+tables_drive bytes p g rows table game right = table_drives (guides p rows table.1.limits.plant (record { game = g; abstraction = game; right = right })) bytes table

@@ -17,6 +17,8 @@ use Rattle.controller_table.specs.KindTexts.{rows_text}
 use Rattle.controller_table.specs.TableText.{written_version}
 use Rattle.controller_table.specs.declared.text_kind.TextKind.TheVariants.{Table}
 use Rattle.controller_table.proofs.SolutionsFit.{keep_fits}
+use Rattle.controller_table.proofs.TableTexts.{as_table}
+use Rattle.controller_table.specs.TextKinds.{HasFewTurns}
 use Rattle.plant_refine.proofs.SolutionTables.{tables_control}
 use Rattle.synth_run.specs.Headline.{IsTableOf, IsStayTableOf, IsPatrolTableOf}
 use Rattle.command_line.specs.declared.outcome.Refusal.{Refusal}
@@ -48,7 +50,7 @@ solution_table p g rows goal limits same graph abstraction solution =
       solution = solved;
       fitting = fits;
       text_is = refl;
-      controls = tables_control (rows_text (Table written_version) p (rows ∷ [])) p rows (record { limits = limits; fitting = fits; version = written_version; text = refl }) solved;
+      controls = tables_control (rows_text (Table written_version) p (rows ∷ [])) p rows (written_version, as_table written_version (rows_text (Table written_version) p (rows ∷ [])) p rows limits fits refl) solved;
     }
 
 -- the text of a plant within the limits and of the solution of its game
@@ -65,9 +67,9 @@ stay_table p g rows limits abstraction solution =
     }
 
 -- the text of a plant within the limits and of the solution of its patrol
-pub patrol_table : (p : Description) (g : Game) (rows : List (List (Option Row))) → IsWithinLimits p → IsGameOf p g → IsPatrol g (IsInTarget p) (length p.targets) rows → IsPatrolTableOf p (patrol_text p rows)
-patrol_table p g rows limits abstraction solution =
-    let table = solution_has_patrol_text p g rows limits abstraction solution in
+pub patrol_table : (p : Description) (g : Game) (rows : List (List (Option Row))) → IsWithinLimits p → HasFewTurns p → IsGameOf p g → IsPatrol g (IsInTarget p) (length p.targets) rows → IsPatrolTableOf p (patrol_text p rows)
+patrol_table p g rows limits few abstraction solution =
+    let table = solution_has_patrol_text p g rows limits few abstraction solution in
     record {
       game = g;
       abstraction = abstraction;

@@ -10,7 +10,7 @@ use Rattle.plant_game.specs.Abstraction.{IsGameOf}
 use Rattle.turn_rows.specs.Targets.{IsInTarget}
 use Rattle.row_reading.specs.RowsTexts.{IsRowWithin, AreRowsWithin, AreTurnsWithin}
 use Rattle.controller_table.specs.declared.text_kind.TextKind.TheVariants.{Patrol}
-use Rattle.controller_table.specs.TextKinds.{patrol_rules, turn_rules}
+use Rattle.controller_table.specs.TextKinds.{patrol_rules, turn_rules, HasFewTurns}
 use Rattle.temporal_texts.specs.PatrolText.{patrol_text, IsPatrolText}
 use Rattle.turn_rows.specs.Rows.{rows_for}
 use Rattle.temporal_games.specs.Patrol.{IsPatrol}
@@ -36,5 +36,5 @@ patrol_rows_fit p g rows a s = record {
     }
 
 -- the text of the solution is one
-pub solution_has_patrol_text : (p : Description) (g : Game) (rows : List (List (Option Row))) → IsWithinLimits p → IsGameOf p g → IsPatrol g (IsInTarget p) (length p.targets) rows → IsPatrolText (patrol_text p rows) p rows
-solution_has_patrol_text p g rows within game solution = record { limits = within; within = patrol_rows_fit p g rows game solution; text = refl }
+pub solution_has_patrol_text : (p : Description) (g : Game) (rows : List (List (Option Row))) → IsWithinLimits p → HasFewTurns p → IsGameOf p g → IsPatrol g (IsInTarget p) (length p.targets) rows → IsPatrolText (patrol_text p rows) p rows
+solution_has_patrol_text p g rows within few game solution = record { limits = within; few = few; within = patrol_rows_fit p g rows game solution; text = refl }

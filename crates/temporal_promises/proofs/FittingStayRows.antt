@@ -173,4 +173,4 @@ stay_rows_fit p g rows a s = record {
 
 -- the text of the solution is one
 pub solution_has_stay_text : (p : Description) (g : Game) (rows : List (Option Row)) → IsWithinLimits p → IsGameOf p g → IsStaySolution g rows → IsStayText (stay_text p rows) p rows
-solution_has_stay_text p g rows within game solution = record { limits = within; within = one_within (turn_rules Stay p) rows refl (stay_rows_fit p g rows game solution); text = refl }
+solution_has_stay_text p g rows within game solution = record { limits = within; few = tt; within = one_within (turn_rules Stay p) rows refl (stay_rows_fit p g rows game solution); text = refl }

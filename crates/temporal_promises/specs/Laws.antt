@@ -6,6 +6,7 @@ use Rattle.plant_record.specs.Description.{Description}
 use Rattle.plant_record.specs.Limits.{IsWithinLimits}
 use Rattle.plant_game.specs.Abstraction.{IsGameOf}
 use Rattle.temporal_games.specs.Stay.{IsStaySolution}
+use Rattle.controller_table.specs.TextKinds.{HasFewTurns}
 use Rattle.turn_rows.specs.Targets.{IsInTarget}
 use Rattle.temporal_games.specs.Patrol.{IsPatrol}
 use Rattle.temporal_texts.specs.StayText.{stay_text, IsStayText}
@@ -18,7 +19,7 @@ abbrev pub StaySolutionsSettle : Type 0
 StaySolutionsSettle =
     (p : Description) (g : Game) (rows : List (Option Row)) → IsWithinLimits p → IsGameOf p g → IsStaySolution g rows → IsStayText (stay_text p rows) p rows × Settles p (stay_text p rows)
 
--- the text of the patrol of a plant's game is a patrol text, and patrols the plant's targets
+-- the text of the patrol of a plant's game, where the turns are few enough, is a patrol text, and patrols the plant's targets
 abbrev pub PatrolSolutionsPatrol : Type 0
 PatrolSolutionsPatrol =
-    (p : Description) (g : Game) (rows : List (List (Option Row))) → IsWithinLimits p → IsGameOf p g → IsPatrol g (IsInTarget p) (length p.targets) rows → IsPatrolText (patrol_text p rows) p rows × Patrols p (patrol_text p rows)
+    (p : Description) (g : Game) (rows : List (List (Option Row))) → IsWithinLimits p → HasFewTurns p → IsGameOf p g → IsPatrol g (IsInTarget p) (length p.targets) rows → IsPatrolText (patrol_text p rows) p rows × Patrols p (patrol_text p rows)

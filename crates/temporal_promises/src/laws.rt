@@ -7,7 +7,7 @@ pub fn stay_solutions_settle()
     ensures { StaySolutionsSettle }
 {}
 
-/// The text of the patrol of a plant's game is a patrol text, and patrols the plant's targets.
+/// The text of the patrol of a plant's game, where the turns are few enough, is a patrol text, and patrols the plant's targets.
 pub fn patrol_solutions_patrol()
     ensures { PatrolSolutionsPatrol }
 {}

@@ -6,7 +6,6 @@ use Rattle.plant_record.specs.Description.{Description}
 use Rattle.plant_record.specs.States.{LiesInSome, IsClear}
 use Rattle.controller_table.specs.declared.table_fault.TableFault.{TableFault}
 use Rattle.controller_table.specs.declared.text_fault.TextFault.{TextFault}
-use Rattle.controller_table.specs.TextKinds.{HasFewTurns}
 use Rattle.temporal_texts.specs.StayText.{IsStayText, HasStayRow}
 use Rattle.temporal_texts.specs.StayRefusals.{IsStayRefusedFor}
 use Rattle.temporal_texts.specs.Settles.{Settles}
@@ -41,14 +40,13 @@ OnePatrolText =
 abbrev pub OnePatrolRefusal : Type 0
 OnePatrolRefusal = (bytes : List ℕ) (f g : TextFault) → IsPatrolRefusedFor bytes f → IsPatrolRefusedFor bytes g → f ≡ g
 
--- no patrol text of a plant with few enough turns is refused
+-- no patrol text is refused
 abbrev pub PatrolTextOrRefused : Type 0
-PatrolTextOrRefused = (bytes : List ℕ) (p : Description) (rows : List (List (Option Row))) (f : TextFault) → IsPatrolText bytes p rows → HasFewTurns p → IsPatrolRefusedFor bytes f → ⊥
+PatrolTextOrRefused = (bytes : List ℕ) (p : Description) (rows : List (List (Option Row))) (f : TextFault) → IsPatrolText bytes p rows → IsPatrolRefusedFor bytes f → ⊥
 
--- no text is neither the patrol text of such a plant nor refused as one
+-- no text is neither a patrol text nor refused as one
 abbrev pub NoPatrolTextIsNeither : Type 0
-NoPatrolTextIsNeither =
-    (bytes : List ℕ) → ((p : Description) (rows : List (List (Option Row))) → IsPatrolText bytes p rows → HasFewTurns p → ⊥) → ((f : TextFault) → IsPatrolRefusedFor bytes f → ⊥) → ⊥
+NoPatrolTextIsNeither = (bytes : List ℕ) → ((p : Description) (rows : List (List (Option Row))) → IsPatrolText bytes p rows → ⊥) → ((f : TextFault) → IsPatrolRefusedFor bytes f → ⊥) → ⊥
 
 -- Where a text settles its plant, every trajectory by its rows from a state with a row stays off the obstacles, always
 -- comes to a state with a row, and from the sample of the first row's rank on lies in a target.

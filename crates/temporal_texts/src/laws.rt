@@ -32,12 +32,12 @@ pub fn one_patrol_refusal()
     ensures { OnePatrolRefusal }
 {}
 
-/// No patrol text of a plant with few enough turns is refused.
+/// No patrol text is refused.
 pub fn patrol_text_or_refused()
     ensures { PatrolTextOrRefused }
 {}
 
-/// No text is neither the patrol text of a plant with few enough turns nor refused as one.
+/// No text is neither a patrol text nor refused as one.
 pub fn no_patrol_text_is_neither()
     ensures { NoPatrolTextIsNeither }
 {}

@@ -18,7 +18,7 @@ use Rattle.controller_table.specs.TextKinds.{turn_rules}
 use Rattle.controller_table.specs.TextRows.{HasTextRow}
 use Rattle.controller_table.proofs.HeadedLaws.{one_text}
 use Rattle.controller_table.proofs.OneTable.{one_choice}
-use Rattle.controller_table.proofs.TableTexts.{only_turn, as_text, as_table}
+use Rattle.controller_table.proofs.TableTexts.{only_turn}
 use Rattle.game_core.specs.declared.game.Row.{Row}
 use Rattle.turn_rows.specs.Rows.{rows_for}
 use Rattle.plant_refine.specs.Drives.{Comes}
@@ -58,10 +58,10 @@ module _ (bytes : List ℕ) (t : TextModel) (version : TableVersion) (tells : Te
       let text : IsTextOf (Table version) bytes p t.turns = subst (λ (k : TextKind). IsTextOf k bytes p t.turns) kind tells in
       let only = only_turn (turn_rules (Table version) p) t.turns refl text.within in
       let due : only.0 ≡ due_rows t = ap (λ (rows : List (List (Option Row))). rows_for rows 0) (sym only.1) ∙ ap (rows_for t.turns) (sym first) in
-      subst (IsTable bytes p) due (as_table version bytes p only.0 (subst (IsTextOf (Table version) bytes p) only.1 text)).0
+      subst (IsTable bytes p) due (version, subst (IsTextOf (Table version) bytes p) only.1 text)
 
   noises : All IsNoiseVariable p.noises
-  noises = table.limits.plant.noises
+  noises = table.1.limits.plant.noises
 
   rank_told : (x : List ℤ) (k : ℕ) → IsRank t x k → HasRank bytes x k
   rank_told x k rank = record { plant = p; rows = due_rows t; table = table; row = rank.0.row; has = rank.0.has; ranked = sym rank.0.is }
@@ -75,9 +75,8 @@ module _ (bytes : List ℕ) (t : TextModel) (version : TableVersion) (tells : Te
 
   chooses : (x : List ℤ) (u : ℕ) → IsChoice bytes x u → AlwaysAnswers t x
   chooses x u c =
-      let text = as_text bytes c.plant c.rows c.table in
-      let same = (one_text (Table c.table.version) t.kind bytes c.plant p (c.rows ∷ []) t.turns text tells).0 in
-      let has : HasTextRow (Table c.table.version) bytes 0 x c.chosen.0 = record { plant = c.plant; turns = c.rows ∷ []; text = text; has = c.chosen.1 } in
+      let same = (one_text (Table c.table.0) t.kind bytes c.plant p (c.rows ∷ []) t.turns c.table.1 tells).0 in
+      let has : HasTextRow (Table c.table.0) bytes 0 x c.chosen.0 = record { plant = c.plant; turns = c.rows ∷ []; text = c.table.1; has = c.chosen.1 } in
       always_answers t x bytes tells (vector_of c.plant.inputs u)
       (subst (λ (due : TextKind × ℕ). AreTextValues due.0 due.1 bytes x (vector_of c.plant.inputs u)) (λ i. (same i, sym first i)) (c.chosen.0, has, u, c.chosen.2, refl))
 

@@ -9,7 +9,7 @@ use Rattle.controller_table.specs.declared.text_fault.TextFault.{TextFault}
 use Rattle.controller_table.specs.declared.text_kind.TextKind.{TextKind}
 use Rattle.controller_table.specs.declared.text_kind.TextKind.TheVariants.{Table, Stay, Patrol}
 use Rattle.controller_table.specs.declared.text_kind.TheConstants.{PATROL_LIMIT}
-use Rattle.controller_table.specs.TextKinds.{first_line, most_bytes, HasFewTurnsFor}
+use Rattle.controller_table.specs.TextKinds.{first_line, most_bytes}
 use Rattle.controller_table.specs.KindTexts.{IsTextOf}
 use Rattle.controller_table.specs.HeadedTexts.{BeginsAs, alone}
 use Rattle.controller_table.proofs.HeadedLaws as headed
@@ -47,10 +47,10 @@ module _ (bytes : List ℕ) where
   one_fault k Patrol f g h m = headed.one_refusal (alone Patrol) (one_name Patrol) PATROL_LIMIT bytes f g (refused_as_begun k Patrol f m.0 h).1 m.1
 
   module _ (p : Description) (turns : List (List (Option Row))) (f : TextFault) where
-    unrefused : (kind : TextKind) → IsTextOf kind bytes p turns → HasFewTurnsFor kind p → length bytes ≤ most_bytes kind → IsRefusedAs kind bytes f → ⊥
-    unrefused (Table v) text few short h = headed.text_or_refused Table same_version TABLE_LIMIT bytes v p turns f text few short h.2
-    unrefused Stay text few short h = headed.text_or_refused (alone Stay) (one_name Stay) TABLE_LIMIT bytes tt p turns f text few short h.1
-    unrefused Patrol text few short h = headed.text_or_refused (alone Patrol) (one_name Patrol) PATROL_LIMIT bytes tt p turns f text few short h.1
+    unrefused : (kind : TextKind) → IsTextOf kind bytes p turns → length bytes ≤ most_bytes kind → IsRefusedAs kind bytes f → ⊥
+    unrefused (Table v) text short h = headed.text_or_refused Table same_version TABLE_LIMIT bytes v p turns f text short h.2
+    unrefused Stay text short h = headed.text_or_refused (alone Stay) (one_name Stay) TABLE_LIMIT bytes tt p turns f text short h.1
+    unrefused Patrol text short h = headed.text_or_refused (alone Patrol) (one_name Patrol) PATROL_LIMIT bytes tt p turns f text short h.1
 
 -- ---- laws
 
@@ -58,8 +58,8 @@ pub one_text_refusal : OneTextRefusal
 one_text_refusal bytes f g h k = h.2 ∙ ap control_fault (one_fault bytes h.0 k.0 h.1 k.1 h.3 k.3) ∙ sym k.2
 
 pub text_or_refused : TextOrRefused
-text_or_refused bytes t f tells few refused =
-    unrefused bytes t.plant t.turns refused.1 t.kind tells few (texts_are_short t.kind bytes t.plant t.turns tells few)
+text_or_refused bytes t f tells refused =
+    unrefused bytes t.plant t.turns refused.1 t.kind tells (texts_are_short t.kind bytes t.plant t.turns tells)
     (refused_as_begun bytes refused.0 t.kind refused.1 (begins t.kind bytes t.plant t.turns tells) refused.3)
 
 -- what a text says where its first turn is due

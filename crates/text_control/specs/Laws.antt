@@ -5,7 +5,6 @@ use Rattle.plant_record.specs.States.{LiesInSome, IsClear}
 use Rattle.row_runs.specs.declared.run.TableVersion.{TableVersion}
 use Rattle.temporal_texts.specs.Settles.{Settles}
 use Rattle.temporal_texts.specs.Patrols.{Patrols}
-use Rattle.controller_table.specs.TextKinds.{HasFewTurnsFor}
 use Rattle.plant_refine.specs.Drives.{Drives}
 use Rattle.plant_refine.specs.Stays.{Stays}
 use Rattle.controller_table.specs.declared.text_kind.TextKind.TheVariants.{Table, Stay, Patrol}
@@ -23,13 +22,13 @@ ReadTextsTell = (bytes : List ℕ) (t : TextModel) → IsReadFrom bytes t → Te
 abbrev pub OneTextRefusal : Type 0
 OneTextRefusal = (bytes : List ℕ) (f g : ControlFault) → IsNoTextFor bytes f → IsNoTextFor bytes g → f ≡ g
 
--- no text with few enough turns is refused
+-- no text is refused
 abbrev pub TextOrRefused : Type 0
-TextOrRefused = (bytes : List ℕ) (t : TextModel) (f : ControlFault) → Tells bytes t → HasFewTurnsFor t.kind t.plant → IsNoTextFor bytes f → ⊥
+TextOrRefused = (bytes : List ℕ) (t : TextModel) (f : ControlFault) → Tells bytes t → IsNoTextFor bytes f → ⊥
 
--- no bytes are neither such a text nor refused
+-- no bytes are neither a text nor refused
 abbrev pub NoBytesAreNeither : Type 0
-NoBytesAreNeither = (bytes : List ℕ) → ((t : TextModel) → Tells bytes t → HasFewTurnsFor t.kind t.plant → ⊥) → ((f : ControlFault) → IsNoTextFor bytes f → ⊥) → ⊥
+NoBytesAreNeither = (bytes : List ℕ) → ((t : TextModel) → Tells bytes t → ⊥) → ((f : ControlFault) → IsNoTextFor bytes f → ⊥) → ⊥
 
 -- Where a table drives its plant: on every loop from a state of rank k, until a state lies in a target each is off the obstacles
 -- and has an answer, and within k samples one lies in a target.

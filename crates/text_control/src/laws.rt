@@ -12,12 +12,12 @@ pub fn one_text_refusal()
     ensures { OneTextRefusal }
 {}
 
-/// No text is refused, of a patrol where its plant has few enough turns.
+/// No text is refused.
 pub fn text_or_refused()
     ensures { TextOrRefused }
 {}
 
-/// No bytes are neither such a text nor refused.
+/// No bytes are neither a text nor refused.
 pub fn no_bytes_are_neither()
     ensures { NoBytesAreNeither }
 {}

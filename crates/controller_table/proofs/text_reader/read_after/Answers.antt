@@ -39,8 +39,9 @@ returns-in-Ok-clause-read c =
     let p = c.in_ok-plant.field-0.plant in
     let length = c.in_ok-plant.field-0.length in
     let at = c.in_ok-plant.ensures.read in
+    let few : HasFewTurnsFor c.args.kind p = search rules in
     let told = told_by _ (turn_rules c.args.kind p) _ (drop length c.args.rest.now) _ c.rules.ensures (take_rest c.args.rest.now length) c.in-Ok.ensures.read in
-    subst (λ (t : RowsModel). IsTextOf c.args.kind (first_line c.args.kind ++ c.args.rest.now) t.plant t.turns) (sym c.new.ensures) (text_told c.args.kind c.args.rest.now p length at.0 at.1 c.in-Ok.turns told)
+    subst (λ (t : RowsModel). IsTextOf c.args.kind (first_line c.args.kind ++ c.args.rest.now) t.plant t.turns) (sym c.new.ensures) (text_told c.args.kind c.args.rest.now p length at.0 at.1 few c.in-Ok.turns told)
 
 pub after-requires : goal.after-requires
 after-requires c = λ line is.

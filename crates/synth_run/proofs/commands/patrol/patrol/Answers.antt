@@ -29,7 +29,7 @@ returns-clause-made g c =
     rw (c.of_text.ensures, c.new-text.ensures)
     (record {
       can_be_written = refl;
-      answer = (p, accepted, (c.in_ok-plant.ensures.solvable, few), patrol_table p (game_of c.in_ok-game.game) c.in_ok-rows.rows accepted.limits (subst (IsGameOf p) (sym c.in_ok-game.ensures.game) c.in_ok-plant.ensures.game) c.in_ok-rows.ensures);
+      answer = (p, accepted, (c.in_ok-plant.ensures.solvable, few), patrol_table p (game_of c.in_ok-game.game) c.in_ok-rows.rows accepted.limits few (subst (IsGameOf p) (sym c.in_ok-game.ensures.game) c.in_ok-plant.ensures.game) c.in_ok-rows.ensures);
       leaves = refl;
     })
 
