@@ -23,6 +23,6 @@ RowsFit p rows = AreRowsWithin (rules_of written_version p) rows
 abbrev pub IsTableIn : TableVersion → List ℕ → Description → List (Option Row) → Type 0
 IsTableIn version bytes p rows = IsTextOf (Table version) bytes p (rows ∷ [])
 
--- the same in either version
+-- the bytes are such a table, in either version
 abbrev pub IsTable : List ℕ → Description → List (Option Row) → Type 0
 IsTable bytes p rows = (version : TableVersion) × IsTableIn version bytes p rows

@@ -18,15 +18,15 @@ use Rattle.text_control.specs.Loops.{LoopSample, moved_by, AlwaysAnswers, IsLoop
 abbrev pub ReadTextsTell : Type 0
 ReadTextsTell = (bytes : List ℕ) (t : TextModel) → IsReadFrom bytes t → Tells bytes t
 
--- bytes have one reason to be none of the three texts
+-- bytes have at most one reason to be none of the three texts
 abbrev pub OneTextRefusal : Type 0
 OneTextRefusal = (bytes : List ℕ) (f g : ControlFault) → IsNoTextFor bytes f → IsNoTextFor bytes g → f ≡ g
 
--- no text is refused
+-- no bytes are refused that are one of the three texts
 abbrev pub TextOrRefused : Type 0
 TextOrRefused = (bytes : List ℕ) (t : TextModel) (f : ControlFault) → Tells bytes t → IsNoTextFor bytes f → ⊥
 
--- no bytes are neither a text nor refused
+-- no bytes are neither one of the three texts nor refused
 abbrev pub NoBytesAreNeither : Type 0
 NoBytesAreNeither = (bytes : List ℕ) → ((t : TextModel) → Tells bytes t → ⊥) → ((f : ControlFault) → IsNoTextFor bytes f → ⊥) → ⊥
 

@@ -7,17 +7,17 @@ pub fn read_texts_tell()
     ensures { ReadTextsTell }
 {}
 
-/// Bytes have one reason to be none of the three texts.
+/// Bytes have at most one reason to be none of the three texts.
 pub fn one_text_refusal()
     ensures { OneTextRefusal }
 {}
 
-/// No text is refused.
+/// No bytes are refused that are one of the three texts.
 pub fn text_or_refused()
     ensures { TextOrRefused }
 {}
 
-/// No bytes are neither a text nor refused.
+/// No bytes are neither one of the three texts nor refused.
 pub fn no_bytes_are_neither()
     ensures { NoBytesAreNeither }
 {}
