@@ -1,4 +1,5 @@
 use Rattle.std.proofs.Common.{refl}
+use Rattle.controller_table.specs.Tables.{IsTable}
 use Rattle.plant_refine.proofs.SolutionTables.{tables_control}
 use Rattle.command_outcomes.specs.Stages.{IsRowsRefusal}
 use Rattle.text_abstraction.specs.Causes.{of_table}
@@ -10,7 +11,7 @@ pub returns-clause-made : goal.returns-clause-made
 returns-clause-made g c =
     let plant = c.in_ok-table.table.plant in
     let rows = c.in_ok-table.table.rows in
-    let table = c.in_ok-table.ensures.read.0 in
+    let table : IsTable c.args.bytes.now plant rows = (c.in_ok-table.table.version, c.in_ok-table.ensures.read) in
     let judged = c.in_ok-check_table.ensures in
     rw c.of_text.ensures
     (record {
@@ -37,4 +38,4 @@ pub returns-in_err-check_table-clause-refused : goal.returns-in_err-check_table-
 returns-in_err-check_table-clause-refused g c =
     let table = c.in_ok-table.table in
     passed_on c.from_residual-in_err-check_table.result c.in_err-check_table.field-0.0 _ c.from_residual-in_err-check_table.ensures.1
-    (rows_stop IsRowsRefusal c.args.bytes.now table.plant table.rows c.in_err-check_table.field-0.0 c.in_ok-table.ensures.read.0 c.in_err-check_table.ensures.refused)
+    (rows_stop IsRowsRefusal c.args.bytes.now table.plant table.rows c.in_err-check_table.field-0.0 (table.version, c.in_ok-table.ensures.read) c.in_err-check_table.ensures.refused)

@@ -23,7 +23,7 @@ returns-clause-made c =
       answer = record {
         plant = table.plant;
         rows = table.rows;
-        table = c.in_ok-table.ensures.read.0;
+        table = (table.version, c.in_ok-table.ensures.read);
         fits = c.in_ok-refuse_start.ensures.fits;
         begins = begins;
         text_is = ap (λ (x : List ℤ). trace_text table.plant table.rows x c.args.seed c.args.samples) c.point.ensures;
@@ -39,4 +39,4 @@ pub returns-in_err-refuse_start-clause-refused : goal.returns-in_err-refuse_star
 returns-in_err-refuse_start-clause-refused c =
     let table = c.in_ok-table.table in
     passed_on c.from_residual-in_err-refuse_start.result c.in_err-refuse_start.field-0.0 _ c.from_residual-in_err-refuse_start.ensures.1
-    (rows_stop (IsStartRefusal c.args.start.now) c.args.bytes.now table.plant table.rows c.in_err-refuse_start.field-0.0 c.in_ok-table.ensures.read.0 c.in_err-refuse_start.ensures.refused)
+    (rows_stop (IsStartRefusal c.args.start.now) c.args.bytes.now table.plant table.rows c.in_err-refuse_start.field-0.0 (table.version, c.in_ok-table.ensures.read) c.in_err-refuse_start.ensures.refused)
