@@ -1,6 +1,6 @@
 -- Facts of texts, tables and solutions, by the statements that stand in the crates below.
 use Rattle.game_core.proofs.RankBound.{rank_below}
-use Rattle.plant_text.specs.Laws.{OnePlantPerText, OneRefusal, ReadOrRefused}
+use Rattle.plant_text.specs.Laws.{OnePlantPerText, OneRefusal, NoPlantTextIsRefused}
 use Rattle.plant_text.proofs.lemmas.LinesLead as lines
 use Rattle.controller_table.specs.Laws.{OneTablePerText, OneTableRefusal, TableOrRefused, ReachSolutionsFit}
 use Rattle.controller_table.proofs.OneRefusal as refusals
@@ -13,8 +13,8 @@ one_plant_per_text = lines.one_plant
 pub one_refusal : OneRefusal
 one_refusal = lines.one_refusal
 
-pub read_or_refused : ReadOrRefused
-read_or_refused = lines.read_or_refused
+pub no_plant_text_is_refused : NoPlantTextIsRefused
+no_plant_text_is_refused = lines.no_plant_text_is_refused
 
 pub one_table_per_text : OneTablePerText
 one_table_per_text = tables.one_table

@@ -33,7 +33,7 @@ use Rattle.command_outcomes.specs.Stages.{SpellPlantWith, IsReadRefusal, IsRefus
 use Rattle.command_outcomes.specs.Traces.{HasRowFor, HasNoRowFor}
 use Rattle.command_outcomes.specs.OutcomeLaws.{OneOutcomePerText}
 use Rattle.command_outcomes.proofs.Stages.{staged}
-use Rattle.command_outcomes.proofs.Below.{one_plant_per_text, one_refusal, read_or_refused, one_table_per_text, one_table_refusal, table_or_refused}
+use Rattle.command_outcomes.proofs.Below.{one_plant_per_text, one_refusal, no_plant_text_is_refused, one_table_per_text, one_table_refusal, table_or_refused}
 use Rattle.table_check.proofs.Verdicts.{one_first}
 
 -- ---- what passes isn't refused, and what is refused has one reason
@@ -200,7 +200,7 @@ text_exact : (Passes : Description → Type 0) (Refuses : Description → Refusa
 text_exact Passes Refuses exact bytes =
     read_then (IsAccepted bytes) (IsRefused bytes) Passes Refuses (λ p q f g. one_plant_per_text bytes p q f.spells g.spells)
     (λ r s f g. let x = faulty_plant bytes r f in let y = faulty_plant bytes s g in x.2 ∙ ap refusal_of_plant (one_refusal bytes x.0 y.0 x.1 y.1) ∙ sym y.2)
-    (λ p accepted r f. let x = faulty_plant bytes r f in read_or_refused bytes p x.0 accepted.spells accepted.short accepted.limits x.1)
+    (λ p accepted r f. let x = faulty_plant bytes r f in no_plant_text_is_refused bytes p x.0 accepted.spells accepted.short accepted.limits x.1)
     (λ p accepted. exact p accepted.limits.plant)
 
 -- tables demand one thing where their plants and rows do

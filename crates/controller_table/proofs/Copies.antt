@@ -6,7 +6,7 @@ use Rattle.plant_record.specs.Description.{Description}
 use Rattle.plant_record.specs.Limits.{IsWithinLimits}
 use Rattle.plant_writing.specs.CanonicalText.{text_of}
 use Rattle.plant_text.specs.CanonicalFronts.{IsFront, IsFrontRefusedFor}
-use Rattle.plant_text.proofs.lemmas.CanonicalFronts.{one_front, front_read_or_refused}
+use Rattle.plant_text.proofs.lemmas.CanonicalFronts.{one_front, no_front_is_refused}
 use Rattle.controller_table.proofs.PlantLength.{plant_bytes, plant_length}
 
 module _ (p : Description) (within : IsWithinLimits p) (text : List ℕ) (is : text ≡ text_of p) where
@@ -20,4 +20,4 @@ module _ (p : Description) (within : IsWithinLimits p) (text : List ℕ) (is : t
   same_plant q count front = (one_front text q p count (length text) front own_front).0
 
   pub not_refused : (fault : PlantFault) → IsFrontRefusedFor text fault → ⊥
-  not_refused fault refused = front_read_or_refused text p (length text) fault own_front within refused
+  not_refused fault refused = no_front_is_refused text p (length text) fault own_front within refused

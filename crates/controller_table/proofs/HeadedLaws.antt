@@ -108,7 +108,7 @@ module _ {Name : Type 0} (kind_of : Name → TextKind) (one_name : (k l : Name) 
   module _ (bytes : List ℕ) (l : Name) (p : Description) (rest : List ℕ) (limits : IsWithinLimits p) (are : bytes ≡ first_line (kind_of l) ++ text_of p ++ rest) where
     -- it isn't refused
     plant_or_refused : (f : PlantFault) → IsPlantRefusedFor kind_of bytes f → ⊥
-    plant_or_refused f h = fronts.front_read_or_refused h.rest p (length (text_of p)) f (front_at p h.rest rest limits (after_first h.name l bytes h.rest rest p h.are are)) limits h.refused
+    plant_or_refused f h = fronts.no_front_is_refused h.rest p (length (text_of p)) f (front_at p h.rest rest limits (after_first h.name l bytes h.rest rest p h.are are)) limits h.refused
 
     -- another one that stands there is this, after the same first line
     same : (k : Name) (q : Description) (other : List ℕ) → IsWithinLimits q → bytes ≡ first_line (kind_of k) ++ text_of q ++ other → (k ≡ l) × (q ≡ p) × (other ≡ rest)

@@ -33,9 +33,9 @@ OnePlantAtTheFront =
 abbrev pub OneRefusal : Type 0
 OneRefusal = (bytes : List ℕ) (f g : PlantFault) → IsRefusedFor bytes f → IsRefusedFor bytes g → f ≡ g
 
--- a text that spells a plant within the limits, and is short, is not refused
-abbrev pub ReadOrRefused : Type 0
-ReadOrRefused = (bytes : List ℕ) (p : Description) (f : PlantFault) → Spells bytes p → IsShort bytes → IsWithinLimits p → IsRefusedFor bytes f → ⊥
+-- no text is refused that spells a plant within the limits, if it is short
+abbrev pub NoPlantTextIsRefused : Type 0
+NoPlantTextIsRefused = (bytes : List ℕ) (p : Description) (f : PlantFault) → Spells bytes p → IsShort bytes → IsWithinLimits p → IsRefusedFor bytes f → ⊥
 
 -- no text is neither that of a plant within the limits, if it is short, nor refused
 abbrev pub NoPlantTextIsNeither : Type 0
@@ -53,9 +53,9 @@ OneFront = (bytes : List ℕ) (p q : Description) (m n : ℕ) → IsFront bytes 
 abbrev pub OneFrontRefusal : Type 0
 OneFrontRefusal = (bytes : List ℕ) (f g : PlantFault) → IsFrontRefusedFor bytes f → IsFrontRefusedFor bytes g → f ≡ g
 
--- a front that holds a plant within the limits is not refused
-abbrev pub FrontReadOrRefused : Type 0
-FrontReadOrRefused = (bytes : List ℕ) (p : Description) (count : ℕ) (f : PlantFault) → IsFront bytes p count → IsWithinLimits p → IsFrontRefusedFor bytes f → ⊥
+-- no front is refused that holds a plant within the limits
+abbrev pub NoFrontIsRefused : Type 0
+NoFrontIsRefused = (bytes : List ℕ) (p : Description) (count : ℕ) (f : PlantFault) → IsFront bytes p count → IsWithinLimits p → IsFrontRefusedFor bytes f → ⊥
 
 -- no bytes have neither a plant within the limits at their front nor a reason why none is read there
 abbrev pub NoFrontIsNeither : Type 0

@@ -1,6 +1,6 @@
 //! What holds of every plant and of its text.
 
-ghost use Rattle.plant_text.specs.Laws.{OnePlantPerText, OnePlantAtTheFront, SpelledPlantsArePlants, OneRefusal, ReadOrRefused, CanonicalTextsSpell, CanonicalTextsReadBack, NumbersAreWords, OneFront, OneFrontRefusal, FrontReadOrRefused, NoPlantTextIsNeither, NoFrontIsNeither};
+ghost use Rattle.plant_text.specs.Laws.{OnePlantPerText, OnePlantAtTheFront, SpelledPlantsArePlants, OneRefusal, NoPlantTextIsRefused, CanonicalTextsSpell, CanonicalTextsReadBack, NumbersAreWords, OneFront, OneFrontRefusal, NoFrontIsRefused, NoPlantTextIsNeither, NoFrontIsNeither};
 
 /// No bytes spell two plants.
 pub fn one_plant_per_text()
@@ -23,8 +23,8 @@ pub fn one_front_refusal()
 {}
 
 /// No front is refused that is the canonical text of a plant within the limits.
-pub fn front_read_or_refused()
-    ensures { FrontReadOrRefused }
+pub fn no_front_is_refused()
+    ensures { NoFrontIsRefused }
 {}
 
 /// No front is neither the canonical text of a plant within the limits nor refused.
@@ -42,9 +42,9 @@ pub fn one_refusal()
     ensures { OneRefusal }
 {}
 
-/// No text is refused that spells a plant within the limits.
-pub fn read_or_refused()
-    ensures { ReadOrRefused }
+/// No text of at most 65,536 bytes is refused that spells a plant within the limits.
+pub fn no_plant_text_is_refused()
+    ensures { NoPlantTextIsRefused }
 {}
 
 /// No text of at most 65,536 bytes is neither that of a plant within the limits nor refused; a longer one is refused.

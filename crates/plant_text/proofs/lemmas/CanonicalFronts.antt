@@ -1,4 +1,4 @@
--- Some bytes have one plant at their front, or one reason why none is read there.
+-- Bytes have at most one plant at their front, at most one reason why none is read there, and never both.
 use Rattle.std.proofs.Common.{◌≡◌, ℕ, List, ◌++◌, length, drop, refl, sym, ap, ◌∙◌, subst, arith, length-drop}
 use Rattle.std.proofs.lemmas.List.{take-append-drop}
 use Rattle.plant_record.specs.Description.{Description}
@@ -10,7 +10,7 @@ use Rattle.plant_text.specs.declared.plant_fault.PlantFault.{PlantFault}
 use Rattle.plant_text.specs.declared.plant_fault.PlantFault.TheVariants as faults
 use Rattle.plant_text.specs.Grammar.{PartialPlant, nothing_yet, IsWhole}
 use Rattle.plant_text.specs.CanonicalFronts.{FrontStep, IsFrontEnded, IsFirstRefusedAtFront, IsFront, IsFrontRefusedFor}
-use Rattle.plant_text.specs.Laws.{OnePlantAtTheFront, OneFront, OneFrontRefusal, FrontReadOrRefused}
+use Rattle.plant_text.specs.Laws.{OnePlantAtTheFront, OneFront, OneFrontRefusal, NoFrontIsRefused}
 use Rattle.plant_text.proofs.lemmas.LinesLead.{one_whole}
 use Rattle.plant_text.proofs.lemmas.LineFaults.{AreApart, IsReason, one_reason, no_reason}
 use Rattle.plant_text.proofs.lemmas.FrontGrammar.{IsOnTheWay, at_the_beginning, front_is_grammar}
@@ -62,5 +62,5 @@ module _ (bytes : List ℕ) where
 pub one_front_refusal : OneFrontRefusal
 one_front_refusal bytes f g h k = one_reason (IsLine bytes) (IsOf bytes) (fronts_apart bytes) f g (as_reason bytes f h) (as_reason bytes g k)
 
-pub front_read_or_refused : FrontReadOrRefused
-front_read_or_refused bytes p count f front within h = no_reason (IsLine bytes) (IsOf bytes) (fronts_apart bytes) p f (count, front) within (as_reason bytes f h)
+pub no_front_is_refused : NoFrontIsRefused
+no_front_is_refused bytes p count f front within h = no_reason (IsLine bytes) (IsOf bytes) (fronts_apart bytes) p f (count, front) within (as_reason bytes f h)

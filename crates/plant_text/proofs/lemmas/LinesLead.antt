@@ -1,4 +1,4 @@
--- A text spells one plant, or it has one reason to be refused.
+-- A text spells at most one plant, has at most one reason to be refused, and never both.
 use Rattle.std.proofs.Common.{inl, inr, ◌≡◌, ◌⊎◌, List, [], ℕ, Some, None, refl, sym, ◌∙◌, ap, subst}
 use Rattle.std.proofs.lemmas.Option.{same_Some}
 use Rattle.plant_record.specs.declared.limit_kind.LimitKind.TheVariants.{PlantText, TableText, Vectors, Cells, Pairs, Edges}
@@ -10,7 +10,7 @@ use Rattle.plant_text.specs.declared.plant_fault.PlantFault.{PlantFault}
 use Rattle.plant_text.specs.declared.plant_fault.PlantFault.TheVariants as faults
 use Rattle.plant_text.specs.Grammar.{PartialPlant, nothing_yet, HasEquations, LineStep, IsEnded, IsWhole, Spells, IsLineRefused}
 use Rattle.plant_text.specs.PlantRefusals.{IsShort, IsRefusedFor}
-use Rattle.plant_text.specs.Laws.{OnePlantPerText, OneRefusal, ReadOrRefused, SpelledPlantsArePlants}
+use Rattle.plant_text.specs.Laws.{OnePlantPerText, OneRefusal, NoPlantTextIsRefused, SpelledPlantsArePlants}
 use Rattle.plant_text.specs.inside.PartialPlantRules.{KeepsRules, IsAimless}
 use Rattle.plant_text.proofs.lemmas.RulesKept.{rules_of_nothing}
 use Rattle.plant_text.proofs.lemmas.LineGrammar.{lines_are_grammar}
@@ -102,8 +102,8 @@ one_refusal bytes f g h k =
     texts.one_by_length (IsShort bytes) (IsReason (IsLine bytes) (IsOf bytes) f) (IsReason (IsLine bytes) (IsOf bytes) g) (faults.Limit PlantText) f g (by_length bytes f h) (by_length bytes g k)
     (one_reason (IsLine bytes) (IsOf bytes) (lines_apart bytes) f g)
 
-pub read_or_refused : ReadOrRefused
-read_or_refused bytes p f spells short within h = elim (by_length bytes f h) [
+pub no_plant_text_is_refused : NoPlantTextIsRefused
+no_plant_text_is_refused bytes p f spells short within h = elim (by_length bytes f h) [
   | inl long ↦ long.1 short
   | inr reason ↦ no_reason (IsLine bytes) (IsOf bytes) (lines_apart bytes) p f spells within reason.1
 ]
