@@ -2,6 +2,7 @@ ghost use Rattle.std.specs.Prelude.{◌≡◌, ◌<◌, [], ◌∷◌, ◌++◌,
 ghost use Rattle.grid_quantiser.specs.Cells.{point_of};
 ghost use Rattle.base.specs.declared.limits.TheConstants.{STATES_LIMIT};
 
+use base::limits::STATES_LIMIT;
 use grid_quantiser::Point;
 use std::marker::Model;
 
@@ -34,7 +35,7 @@ impl StateNumbers {
         ensures { result ≡ [] }
     {
         StateNumbers {
-            six: [0; 6],
+            six: [0; STATES_LIMIT],
             count: 0,
         }
     }

@@ -6,6 +6,7 @@ ghost use Rattle.plant_record.specs.Limits.{IsWithinLimits};
 ghost use Rattle.loop_sim.specs.Noise.{generator, next_state, noises_from};
 ghost use Rattle.base.specs.declared.limits.TheConstants.{NUMBER_LIMIT};
 
+use base::limits::STATES_LIMIT;
 use grid_quantiser::Point;
 use plant_record::Plant;
 
@@ -22,7 +23,7 @@ pub(crate) fn draw(p: &Plant, before: u64) -> (Point, u64)
     ensures noises { result.0 ≡ point_of (noises_from p.now.noises before 0) }
     ensures state { result.1 ≡ generator before (length p.now.noises) }
 {
-    let mut noises = [0; 6];
+    let mut noises = [0; STATES_LIMIT];
     let mut state = before;
     for k in 0..p.noises() {
         state = next_state(state);
