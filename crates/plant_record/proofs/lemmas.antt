@@ -4,6 +4,7 @@ pub mod ValueIndices
 pub mod InputVectors
 pub mod LimitEnds
 pub mod Limits
+pub mod ListElements
 pub mod NextPoints
 pub mod Numbers
 pub mod OrderedBoxes

@@ -10,6 +10,7 @@ pub mod Soundness
 pub mod Spelling
 pub mod States
 pub mod Steps
+pub mod VariableKinds
 pub mod Variables
 pub mod Versions
 pub mod inside

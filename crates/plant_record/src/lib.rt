@@ -22,5 +22,7 @@ pub use plant::Plant;
 pub use plant_parts::{PlantParts, numbers_along};
 pub use transition::{step, step_along};
 pub use variable_names::Names;
-pub use variables::{InputVariable, Name, NoiseVariable, StateVariable, Values, Variables};
+pub use variables::{
+    InputVariable, Name, NoiseVariable, StateVariable, Values, Variable, Variables,
+};
 pub use version::PlantVersion;

@@ -9,6 +9,7 @@ ghost use Rattle.plant_record.specs.Description.{axes_of, value_counts, vectors_
 ghost use Rattle.mixed_radix.specs.Radix.{size, AreDigits, AreDigitsOf};
 ghost use Rattle.line_words.specs.Numbers.{IsLiteral};
 ghost use Rattle.plant_record.specs.ValueIndices.{value_count, value_index, value_at};
+ghost use Rattle.plant_record.specs.VariableKinds.{IsVariableAt};
 ghost use Rattle.plant_record.specs.Plants.{IsPlant};
 ghost use Rattle.plant_record.specs.Limits.{IsWithinLimits, Exceeds};
 ghost use Rattle.plant_record.specs.CellMarks.{IsGoalCell, IsObstacleCell};
@@ -21,6 +22,7 @@ use crate::aims::GoalKind;
 use crate::cell_marks::{lies_in_one, touches_one};
 use crate::limit_kind::LimitKind;
 use crate::plant_parts::{PlantParts, grid_of, value_counts};
+use crate::variables::Variable;
 use crate::version::PlantVersion;
 use base::limits::{INPUTS_LIMIT, PAIRS_LIMIT, STATES_LIMIT, VECTORS_LIMIT};
 use fixed_expr::Expr;
@@ -131,6 +133,23 @@ impl Plant {
         (self.parts.variables.states.len()
             + self.parts.variables.inputs.len()
             + self.parts.variables.noises.len()) as u32
+    }
+
+    /// The variable at a position: the states come first, then the input variables, then the noises.
+    #[inline]
+    pub fn variable(&self, k: u32) -> Variable
+        requires { k < length self.now.states + length self.now.inputs + length self.now.noises }
+        ensures { IsVariableAt self.now k result }
+    {
+        let states = self.states();
+        let inputs = self.input_variables();
+        if k < states {
+            Variable::State(k)
+        } else if k - states < inputs {
+            Variable::Input(k - states)
+        } else {
+            Variable::Noise(k - states - inputs)
+        }
     }
 
     /// How many input vectors there are.

@@ -1,14 +1,15 @@
-ghost use Rattle.std.specs.Prelude.{◌≡◌, ◌≤◌, ◌<◌, length, pos, slice_index_or, take};
+ghost use Rattle.std.specs.Prelude.{◌≡◌, ◌+◌, ◌≤◌, ◌<◌, length, pos, slice_index_or, take};
 ghost use Rattle.std.specs.List.{All};
 ghost use Rattle.fixed_expr.specs.Expression.{expression_of};
 ghost use Rattle.fixed_expr.specs.Value.{IsWellFormed, Evaluates};
-ghost use Rattle.plant_record.specs.Description.{names_of, vectors_of};
+ghost use Rattle.plant_record.specs.Description.{vectors_of};
 ghost use Rattle.plant_record.specs.Limits.{IsWithinLimits};
 ghost use Rattle.plant_record.specs.Steps.{equation_at, values_at, AnswersStep};
 ghost use Rattle.base.specs.declared.limits.TheConstants.{STATES_LIMIT};
 ghost use Rattle.plant_record.specs.inside.EquationValues.{EvaluatesEach};
 
 use crate::plant::Plant;
+use crate::variables::Variable;
 use base::limits::{STATES_LIMIT, VARIABLES_LIMIT};
 use fixed_expr::{Expr, eval};
 use grid_quantiser::Point;
@@ -37,30 +38,27 @@ pub fn step_along(p: &Plant, x: &Point, input: u32, noise: &Point, state: u32) -
 /// The values of the variables, and 0 past them.
 fn values_at(p: &Plant, x: &Point, input: u32, noise: &Point) -> [i128; VARIABLES_LIMIT]
     requires { input < vectors_of p.now.inputs }
-    ensures { take (length (names_of p.now)) result ≡ values_at p.now x.now input noise.now }
+    ensures { take (length p.now.states + length p.now.inputs + length p.now.noises) result ≡ values_at p.now x.now input noise.now }
 {
     let mut values = [0; VARIABLES_LIMIT];
-    for i in 0..p.variables() as usize {
-        values[i] = value_at(p, x, input, noise, i);
+    for k in 0..p.variables() {
+        values[k as usize] = value_at(p, x, input, noise, k);
     }
     values
 }
 
 /// The value of one variable.
-fn value_at(p: &Plant, x: &Point, input: u32, noise: &Point, i: usize) -> i128
+#[tactic(auto, using(crate::proofs::lemmas::VariableValues::state_value, crate::proofs::lemmas::VariableValues::input_value, crate::proofs::lemmas::VariableValues::noise_value))]
+fn value_at(p: &Plant, x: &Point, input: u32, noise: &Point, k: u32) -> i128
     requires plant { IsWithinLimits p.now }
     requires input { input < vectors_of p.now.inputs }
-    requires variable { i < length (names_of p.now) }
-    ensures { result ≡ slice_index_or (values_at p.now x.now input noise.now) i (pos 0) }
+    requires variable { k < length p.now.states + length p.now.inputs + length p.now.noises }
+    ensures { result ≡ slice_index_or (values_at p.now x.now input noise.now) k (pos 0) }
 {
-    let states = p.states() as usize;
-    let noises = states + p.input_variables() as usize;
-    if i < states {
-        x[i]
-    } else if i < noises {
-        p.input_value(input, (i - states) as u32)
-    } else {
-        noise[i - noises]
+    match p.variable(k) {
+        Variable::State(i) => x[i as usize],
+        Variable::Input(i) => p.input_value(input, i),
+        Variable::Noise(i) => noise[i as usize],
     }
 }
 

@@ -114,6 +114,14 @@ pub struct Variables {
     pub noises: Vec<NoiseVariable>,
 }
 
+/// A variable of a plant: the state, the input or the noise at a position among those.
+#[derive(Clone, Copy)]
+pub enum Variable {
+    State(u32),
+    Input(u32),
+    Noise(u32),
+}
+
 impl Variables {
     /// The names of all variables.
     pub fn names(&self) -> Names<'_>

@@ -4,7 +4,7 @@ use Rattle.std.specs.Prelude.{ℤ, pos, ◌-ℤ◌, ◌*ℤ◌, Option}
 use Rattle.std.specs.Int.{int_min, int_max}
 use Rattle.std.proofs.lemmas.Bool.{cases_lt, cases_Bool, both_ways, and_from, and_left, and_right, not_from_false, ne_eqb, cond_below, cond_above, cond-true, cond-false}
 use Rattle.std.proofs.lemmas.Int.{ints, clamps}
-use Rattle.std.proofs.lemmas.List.{length-map, get_or-take, length-take-le}
+use Rattle.std.proofs.lemmas.List.{length-map, length-take-le}
 use Rattle.fixed_expr.specs.Expression.{Expression}
 use Rattle.fixed_expr.specs.Mentions.{mentions}
 use Rattle.fixed_expr.specs.inside.Alike.{AreSameIn, AreSameBut}
@@ -27,7 +27,9 @@ use Rattle.plant_record.specs.Description.{Description, axis_of, axes_of, vector
 use Rattle.plant_record.specs.declared.version.PlantVersion.{PlantVersion}
 use Rattle.plant_record.specs.declared.version.PlantVersion.TheVariants.{One, Two}
 use Rattle.plant_record.specs.ValueIndices.{value_index}
+use Rattle.plant_record.proofs.lemmas.ListElements.{in_first, in_third}
 use Rattle.plant_record.proofs.lemmas.ValueIndices.{inputs_rest}
+use Rattle.plant_record.proofs.lemmas.VariableValues.{vector_length, state_value, input_value}
 use Rattle.plant_record.specs.Soundness.{IsSound}
 use Rattle.plant_record.specs.Steps.{equation_at}
 use Rattle.successor_box.specs.SuccessorBoxes.{noise_centre, area_of, radii_of, deviation_at, central_values, cell_area_of, growth_of, next_interval_of, low_corner, high_corner}
@@ -35,16 +37,15 @@ use Rattle.successor_box.specs.PairExtents.{index_in, shifts_along, shifted_by, 
 use Rattle.successor_box.specs.inside.Area.{no_range, offsets_of, shifted_to}
 use Rattle.successor_box.proofs.Below.{centres_depend_on_their_indices}
 use Rattle.successor_box.proofs.CellOffsets.{cell_range, same_constants, same_offsets, same_cell_range}
-use Rattle.successor_box.proofs.CellValues.{vector_count}
-use Rattle.successor_box.proofs.Centres.{centre_count}
-use Rattle.successor_box.proofs.Ranges.{in_first, in_second, in_third, input_range}
+use Rattle.successor_box.proofs.Centres.{centre_enough}
+use Rattle.successor_box.proofs.Ranges.{input_range}
 use Rattle.successor_box.proofs.ExtentEnds.{low_is, high_is}
 
 -- inputs have no radius
 same_radii : (p : Description) (u v : ℕ) → radii_of p v ≡ radii_of p u
 same_radii p u v =
     ap (λ (zs : List ℤ). map radius_of (axes_of p) ++ zs ++ map (λ (w : NoiseVariable). w.high -ℤ noise_centre w) p.noises)
-    (same_constants (pos 0) (vector_of p.inputs v) (vector_of p.inputs u) (vector_count p.inputs v ∙ sym (vector_count p.inputs u)))
+    (same_constants (pos 0) (vector_of p.inputs v) (vector_of p.inputs u) (vector_length p.inputs v ∙ sym (vector_length p.inputs u)))
 
 -- ---- one central value
 
@@ -58,23 +59,21 @@ module _ (p : Description) where
   abbrev noises : List ℤ
   noises = take (length p.noises) (map noise_centre p.noises)
 
-  pub centre_long : (c : ℕ) → length (centre c) ≡ states
-  centre_long c = length-take-le states (centre_of (axes_of p) c) (omega (arith, centre_count (axes_of p) c, length-map p.states axis_of))
+  centre_long : (c : ℕ) → length (centre c) ≡ states
+  centre_long c = length-take-le states (centre_of (axes_of p) c) (centre_enough p c)
 
   pub central_state : (c u k : ℕ) → k < states → get_or (central_values p c u) k (pos 0) ≡ get_or (centre_of (axes_of p) c) k (pos 0)
-  central_state c u k lt =
-      in_first (centre c) (vector_of p.inputs u) noises k (pos 0) (omega (arith, lt, centre_long c))
-      ∙ get_or-take states (centre_of (axes_of p) c) k (pos 0) lt
+  central_state c u k lt = sym (state_value p (centre_of (axes_of p) c) (map noise_centre p.noises) u k k (centre_enough p c) refl lt)
 
   -- which is the middle of its index
   pub central_middle : IsSound p → (c u k : ℕ) → c < cells_of (axes_of p) → k < states → get_or (central_values p c u) k (pos 0) ≡ middle_of (get_or (axes_of p) k no_axis) (index_along (axes_of p) k c)
   central_middle sound c u k cell lt = central_state c u k lt ∙ centres_depend_on_their_indices (axes_of p) c k sound.axes cell (omega (arith, lt, length-map p.states axis_of))
 
   pub central_input : (c u k : ℕ) → states ≤ k → k < states + length p.inputs → get_or (central_values p c u) k (pos 0) ≡ get_or (vector_of p.inputs u) (k - states) (pos 0)
-  central_input c u k past lt = in_second (centre c) (vector_of p.inputs u) noises k (pos 0) states (centre_long c) past (omega (arith, lt, vector_count p.inputs u))
+  central_input c u k past lt = sym (input_value p (centre_of (axes_of p) c) (map noise_centre p.noises) u k (k - states) (centre_enough p c) (omega (arith, past)) (omega (arith, past, lt)))
 
   pub central_noise : (c u k : ℕ) → states + length p.inputs ≤ k → get_or (central_values p c u) k (pos 0) ≡ get_or noises (k - states - length p.inputs) (pos 0)
-  central_noise c u k past = in_third (centre c) (vector_of p.inputs u) noises k (pos 0) states (length p.inputs) (centre_long c) (vector_count p.inputs u) past
+  central_noise c u k past = in_third (centre c) (vector_of p.inputs u) noises k (k - states - length p.inputs) (pos 0) states (length p.inputs) (centre_long c) (vector_length p.inputs u) (omega (arith, past))
 
   -- the index of a pair by its kind
   pub state_slot : (c u k : ℕ) → k < states → index_along (axes_of p) k c ≡ index_in p c u k
@@ -96,7 +95,7 @@ module _ (p : Description) (c u d v k : ℕ) where
   noise_ranges = map (λ (w : NoiseVariable). record { lo = w.low; hi = w.high }) p.noises
 
   ranges_count : (w : ℕ) → length (ranges w) ≡ length p.inputs
-  ranges_count w = length-map (vector_of p.inputs w) _ ∙ vector_count p.inputs w
+  ranges_count w = length-map (vector_of p.inputs w) _ ∙ vector_length p.inputs w
 
   states_count : length state_ranges ≡ length p.states
   states_count = length-map p.states _
@@ -107,15 +106,20 @@ module _ (p : Description) (c u d v k : ℕ) where
       elim (cases_lt k (length p.states)) [
         | inl state ↦
             let lt : k < length state_ranges = omega (arith, state, states_count) in
-            in_first state_ranges (ranges v) noise_ranges k no_range lt ∙ sym (in_first state_ranges (ranges u) noise_ranges k no_range lt)
+            in_first state_ranges (ranges v) noise_ranges k k no_range refl lt ∙ sym (in_first state_ranges (ranges u) noise_ranges k k no_range refl lt)
         | inr past ↦
             elim (cases_lt k (length p.states + length p.inputs)) [
               | inl input ↦
                   let value = sym (central_input p d v k past input) ∙ same past ∙ central_input p c u k past input in
-                  sym (input_range p v k no_range past input) ∙ ap (λ (z : ℤ). record { lo = z; hi = z }) value ∙ input_range p u k no_range past input
+                  let i : ℕ = k - length p.states in
+                  let at : k ≡ length p.states + i = omega (arith, past) in
+                  let lt : i < length p.inputs = omega (arith, past, input) in
+                  sym (input_range p v k i no_range at lt) ∙ ap (λ (z : ℤ). record { lo = z; hi = z }) value ∙ input_range p u k i no_range at lt
               | inr noise ↦
-                  in_third state_ranges (ranges v) noise_ranges k no_range (length p.states) (length p.inputs) states_count (ranges_count v) noise
-                  ∙ sym (in_third state_ranges (ranges u) noise_ranges k no_range (length p.states) (length p.inputs) states_count (ranges_count u) noise)
+                  let i : ℕ = k - length p.states - length p.inputs in
+                  let at : k ≡ length p.states + length p.inputs + i = omega (arith, noise) in
+                  in_third state_ranges (ranges v) noise_ranges k i no_range (length p.states) (length p.inputs) states_count (ranges_count v) at
+                  ∙ sym (in_third state_ranges (ranges u) noise_ranges k i no_range (length p.states) (length p.inputs) states_count (ranges_count u) at)
             ]
       ]
 

@@ -19,8 +19,9 @@ use Rattle.plant_record.specs.Description.{Description, axis_of, axes_of, names_
 use Rattle.plant_record.specs.Steps.{IsNoise, values_at}
 use Rattle.plant_record.specs.Soundness.{IsFilledByCells, IsSound}
 use Rattle.plant_record.specs.Variables.{IsNoiseVariable}
+use Rattle.plant_record.proofs.lemmas.VariableValues.{vector_length}
 use Rattle.successor_box.specs.SuccessorBoxes.{noise_centre, area_of, ranges_between, cell_area_of, central_values}
-use Rattle.successor_box.proofs.CellValues.{in_append, inputs_in, noises_in, centres_in, centres_are_noise, vector_count}
+use Rattle.successor_box.proofs.CellValues.{in_append, inputs_in, noises_in, centres_in, centres_are_noise}
 use Rattle.base.proofs.Integers.{up_to}
 
 same : (z : ℤ) → z ≤ℤ z
@@ -95,7 +96,7 @@ module _ (p : Description) (c u : ℕ) where
   pub cell_area_count : length (cell_area_of p c u) ≡ length (names_of p)
   cell_area_count =
       let states : length (ranges_between (low_of (axes_of p) c) (high_of (axes_of p) c)) ≡ length p.states = ranges_long (low_of (axes_of p) c) (high_of (axes_of p) c) (length p.states) low_count high_count in
-      simp (length-append, length-map, vector_count, states)
+      simp (length-append, length-map, vector_length, states)
 
   module _ (sound : IsSound p) where
     pub cell_intervals : All IsInterval (cell_area_of p c u)

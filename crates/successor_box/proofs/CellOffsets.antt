@@ -11,12 +11,13 @@ use Rattle.grid_quantiser.specs.Cells.{low_of, high_of, radius_of, centre_of}
 use Rattle.plant_record.specs.declared.variables.StateVariable.{StateVariable}
 use Rattle.plant_record.specs.declared.variables.NoiseVariable.{NoiseVariable}
 use Rattle.plant_record.specs.Description.{Description, axis_of, axes_of, vector_of}
+use Rattle.plant_record.proofs.lemmas.ListElements.{in_first, in_second, in_third}
+use Rattle.plant_record.proofs.lemmas.VariableValues.{vector_length}
 use Rattle.successor_box.specs.SuccessorBoxes.{noise_centre, ranges_between, cell_area_of, central_values}
 use Rattle.successor_box.specs.inside.Area.{no_range, variables_of, noise_offset, offsets_of, shifted_to}
-use Rattle.successor_box.proofs.CellAreas.{low_count, high_count}
-use Rattle.successor_box.proofs.CellValues.{vector_count}
-use Rattle.successor_box.proofs.Centres.{centre_count}
-use Rattle.successor_box.proofs.Ranges.{in_first, in_second, in_third, between_count}
+use Rattle.successor_box.proofs.CellAreas.{ranges_long, low_count, high_count}
+use Rattle.successor_box.proofs.Centres.{centre_enough, central_count}
+use Rattle.successor_box.proofs.Ranges.{after_count}
 
 -- ---- intervals shifted by numbers, one for each
 
@@ -81,12 +82,7 @@ module _ (p : Description) (c u : ℕ) where
   noise_middles = take (length p.noises) (map noise_centre p.noises)
 
   centre_long : length centre ≡ length p.states
-  centre_long = length-take-le (length p.states) (centre_of (axes_of p) c) (omega (arith, centre_count (axes_of p) c, length-map p.states axis_of))
-
-  pub central_count : length (central_values p c u) ≡ variables_of p
-  central_count =
-      let noises_long : length noise_middles ≡ length p.noises = length-take-le (length p.noises) (map noise_centre p.noises) (omega (arith, length-map p.noises noise_centre)) in
-      omega (arith, length-append (centre ++ vector_of p.inputs u) noise_middles, length-append centre (vector_of p.inputs u), centre_long, vector_count p.inputs u, noises_long)
+  centre_long = length-take-le (length p.states) (centre_of (axes_of p) c) (centre_enough p c)
 
   abbrev input_offsets : List Interval
   input_offsets = map (λ (_ : ℤ). no_range) (vector_of p.inputs u)
@@ -95,7 +91,7 @@ module _ (p : Description) (c u : ℕ) where
   states_offset = length-map (axes_of p) axis_offset ∙ length-map p.states axis_of
 
   inputs_offset : length input_offsets ≡ length p.inputs
-  inputs_offset = length-map (vector_of p.inputs u) _ ∙ vector_count p.inputs u
+  inputs_offset = length-map (vector_of p.inputs u) _ ∙ vector_length p.inputs u
 
   pub offset_count : length (offsets_of p u) ≡ variables_of p
   offset_count = omega (arith, length-append (map axis_offset (axes_of p) ++ input_offsets) (map noise_offset p.noises), length-append (map axis_offset (axes_of p)) input_offsets, states_offset, inputs_offset, length-map p.noises noise_offset)
@@ -103,7 +99,7 @@ module _ (p : Description) (c u : ℕ) where
   pub cell_area_is : cell_area_of p c u ≡ shifted_all (central_values p c u) (offsets_of p u)
   cell_area_is =
       let front : length (centre ++ vector_of p.inputs u) ≡ length (map axis_offset (axes_of p) ++ input_offsets) =
-      omega (arith, length-append centre (vector_of p.inputs u), length-append (map axis_offset (axes_of p)) input_offsets, centre_long, vector_count p.inputs u, states_offset, inputs_offset) in
+      omega (arith, length-append centre (vector_of p.inputs u), length-append (map axis_offset (axes_of p)) input_offsets, centre_long, vector_length p.inputs u, states_offset, inputs_offset) in
       sym (shifted_append (centre ++ vector_of p.inputs u) noise_middles (map axis_offset (axes_of p) ++ input_offsets) (map noise_offset p.noises) front
       ∙ ap₂ (λ (is js : List Interval). is ++ js)
       (shifted_append centre (vector_of p.inputs u) (map axis_offset (axes_of p)) input_offsets (omega (arith, centre_long, states_offset))
@@ -111,10 +107,13 @@ module _ (p : Description) (c u : ℕ) where
       (noises_shifted p.noises))
 
   pub cell_range : (k : ℕ) → k < variables_of p → get_or (cell_area_of p c u) k no_range ≡ shifted_to (get_or (central_values p c u) k (pos 0)) (get_or (offsets_of p u) k no_range)
-  cell_range k lt = ap (λ (area : List Interval). get_or area k no_range) cell_area_is ∙ shifted_at (central_values p c u) (offsets_of p u) k (omega (arith, lt, central_count)) (omega (arith, lt, offset_count))
+  cell_range k lt = ap (λ (area : List Interval). get_or area k no_range) cell_area_is ∙ shifted_at (central_values p c u) (offsets_of p u) k (omega (arith, lt, central_count p c u)) (omega (arith, lt, offset_count))
 
 pub cell_area_long : (p : Description) (c u : ℕ) → length (cell_area_of p c u) ≡ variables_of p
-cell_area_long p c u = between_count p u (low_of (axes_of p) c) (high_of (axes_of p) c) (low_count p c u) (high_count p c u)
+cell_area_long p c u =
+    let lows : List ℤ = low_of (axes_of p) c in
+    let highs : List ℤ = high_of (axes_of p) c in
+    after_count p u (ranges_between lows highs) (ranges_long lows highs (length p.states) (low_count p c u) (high_count p c u))
 
 -- inputs have no offset
 pub same_constants : {X : Type 0} (x : X) (ys zs : List ℤ) → length ys ≡ length zs → map (λ (_ : ℤ). x) ys ≡ map (λ (_ : ℤ). x) zs
@@ -125,7 +124,7 @@ same_constants x _ _ long = absurd (omega (arith, long))
 pub same_offsets : (p : Description) (u v : ℕ) → offsets_of p v ≡ offsets_of p u
 same_offsets p u v =
     ap (λ (os : List Interval). map axis_offset (axes_of p) ++ os ++ map noise_offset p.noises)
-    (same_constants no_range (vector_of p.inputs v) (vector_of p.inputs u) (vector_count p.inputs v ∙ sym (vector_count p.inputs u)))
+    (same_constants no_range (vector_of p.inputs v) (vector_of p.inputs u) (vector_length p.inputs v ∙ sym (vector_length p.inputs u)))
 
 pub same_cell_range : (p : Description) (c u d v k : ℕ) → get_or (central_values p d v) k (pos 0) ≡ get_or (central_values p c u) k (pos 0) → get_or (cell_area_of p d v) k no_range ≡ get_or (cell_area_of p c u) k no_range
 same_cell_range p c u d v k same =
@@ -143,15 +142,15 @@ module _ (p : Description) (u k : ℕ) where
   abbrev no_offsets : List Interval
   no_offsets = map (λ (_ : ℤ). no_range) (vector_of p.inputs u)
 
-  pub state_offset : k < length p.states → axis_offset (get_or (axes_of p) k no_axis) ≡ get_or (offsets_of p u) k no_range
-  state_offset lt =
-      sym (in_first state_offsets no_offsets (map noise_offset p.noises) k no_range (omega (arith, lt, states_offset p 0 u))
-      ∙ get_or-map axis_offset (axes_of p) k no_axis no_range (omega (arith, lt, length-map p.states axis_of)))
+  pub state_offset : (i : ℕ) → k ≡ i → i < length p.states → axis_offset (get_or (axes_of p) i no_axis) ≡ get_or (offsets_of p u) k no_range
+  state_offset i at lt =
+      sym (in_first state_offsets no_offsets (map noise_offset p.noises) k i no_range at (omega (arith, lt, states_offset p 0 u))
+      ∙ get_or-map axis_offset (axes_of p) i no_axis no_range (omega (arith, lt, length-map p.states axis_of)))
 
   pub input_offset : length p.states ≤ k → k < length p.states + length p.inputs → no_range ≡ get_or (offsets_of p u) k no_range
   input_offset le lt =
-      sym (in_second state_offsets no_offsets (map noise_offset p.noises) k no_range (length p.states) (states_offset p 0 u) le (omega (arith, lt, inputs_offset p 0 u))
-      ∙ get_or-map (λ (_ : ℤ). no_range) (vector_of p.inputs u) (k - length p.states) (pos 0) no_range (omega (arith, le, lt, vector_count p.inputs u)))
+      sym (in_second state_offsets no_offsets (map noise_offset p.noises) k (k - length p.states) no_range (length p.states) (states_offset p 0 u) (omega (arith, le)) (omega (arith, le, lt, inputs_offset p 0 u))
+      ∙ get_or-map (λ (_ : ℤ). no_range) (vector_of p.inputs u) (k - length p.states) (pos 0) no_range (omega (arith, le, lt, vector_length p.inputs u)))
 
-  pub noise_offset_is : length p.states + length p.inputs ≤ k → get_or (map noise_offset p.noises) (k - length p.states - length p.inputs) no_range ≡ get_or (offsets_of p u) k no_range
-  noise_offset_is le = sym (in_third state_offsets no_offsets (map noise_offset p.noises) k no_range (length p.states) (length p.inputs) (states_offset p 0 u) (inputs_offset p 0 u) le)
+  pub noise_offset_is : (i : ℕ) → k ≡ length p.states + length p.inputs + i → get_or (map noise_offset p.noises) i no_range ≡ get_or (offsets_of p u) k no_range
+  noise_offset_is i at = sym (in_third state_offsets no_offsets (map noise_offset p.noises) k i no_range (length p.states) (length p.inputs) (states_offset p 0 u) (inputs_offset p 0 u) at)

@@ -1,5 +1,5 @@
 -- The values of the variables at a cell's centre, and at every point of the cell.
-use Rattle.std.proofs.Common.{◌≡◌, ℕ, suc, ◌%◌, List, [], ◌∷◌, ◌++◌, All, length, take, map, refl, ap, arith}
+use Rattle.std.proofs.Common.{◌≡◌, ℕ, List, [], ◌∷◌, ◌++◌, All, length, take, map, arith}
 use Rattle.std.specs.Prelude.{ℤ, pos, negsuc, ◌+ℤ◌, ◌-ℤ◌, ◌≤ℤ◌}
 use Rattle.std.proofs.lemmas.Int.{ints}
 use Rattle.std.proofs.lemmas.List.{length-append, length-map}
@@ -12,12 +12,12 @@ use Rattle.grid_quantiser.specs.Axes.{end_of}
 use Rattle.grid_quantiser.specs.Cells.{IsInDomain, centre_of, radius_of}
 use Rattle.grid_quantiser.specs.Laws.{AreStatesNear}
 use Rattle.plant_record.specs.declared.variables.StateVariable.{StateVariable}
-use Rattle.plant_record.specs.declared.variables.InputVariable.{InputVariable}
 use Rattle.plant_record.specs.declared.variables.NoiseVariable.{NoiseVariable}
-use Rattle.plant_record.specs.Description.{Description, axis_of, axes_of, names_of, vectors_of, vector_of}
+use Rattle.plant_record.specs.Description.{Description, axis_of, axes_of, names_of, vector_of}
 use Rattle.plant_record.specs.Steps.{IsNoise, values_at}
 use Rattle.plant_record.specs.Soundness.{IsFilledByCells}
 use Rattle.plant_record.specs.Variables.{IsNoiseVariable}
+use Rattle.plant_record.proofs.lemmas.VariableValues.{vector_length}
 use Rattle.successor_box.specs.SuccessorBoxes.{noise_centre, area_of, radii_of, central_values}
 use Rattle.base.proofs.Integers.{up_to}
 
@@ -113,9 +113,5 @@ module _ (p : Description) (c u : ℕ) (x w : List ℤ) (noise : IsNoise p.noise
 
 -- ---- how many variables there are
 
-pub vector_count : (inputs : List InputVariable) (u : ℕ) → length (vector_of inputs u) ≡ length inputs
-vector_count [] u = refl
-vector_count (i ∷ inputs) u = ap suc (vector_count inputs (u % vectors_of inputs))
-
 pub area_count : (p : Description) (u : ℕ) → length (area_of p u) ≡ length (names_of p)
-area_count p u = simp (length-append, length-map, vector_count)
+area_count p u = simp (length-append, length-map, vector_length)

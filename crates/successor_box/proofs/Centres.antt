@@ -16,8 +16,10 @@ use Rattle.interval_eval.specs.Span.{span_of}
 use Rattle.plant_record.specs.Description.{Description, axis_of, axes_of, vectors_of, vector_of}
 use Rattle.plant_record.specs.Steps.{values_at, equation_at}
 use Rattle.plant_record.specs.Soundness.{IsSound}
+use Rattle.plant_record.proofs.lemmas.VariableValues.{values_count}
 use Rattle.successor_box.specs.SuccessorBoxes.{noise_centre, area_of, radii_of, deviation_at, central_values}
 use Rattle.successor_box.specs.Deviations.{HasNoOverflow}
+use Rattle.successor_box.specs.inside.Area.{variables_of}
 use Rattle.successor_box.proofs.Below.{centres_are_near}
 use Rattle.successor_box.proofs.CellValues.{centres_are_noise, central_in}
 use Rattle.successor_box.proofs.Steps.{formed_over}
@@ -26,14 +28,19 @@ pub centre_count : (axes : List Axis) (c : ℕ) → length (centre_of axes c) �
 centre_count [] c = refl
 centre_count (a ∷ axes) c = ap suc (centre_count axes (c % cells_of axes))
 
+pub centre_enough : (p : Description) (c : ℕ) → length p.states ≤ length (centre_of (axes_of p) c)
+centre_enough p c = omega (arith, centre_count (axes_of p) c, length-map p.states axis_of)
+
+pub central_count : (p : Description) (c u : ℕ) → length (central_values p c u) ≡ variables_of p
+central_count p c u = values_count p (centre_of (axes_of p) c) (map noise_centre p.noises) u (centre_enough p c) (omega (arith, length-map p.noises noise_centre))
+
 -- what lies past the states and the noises is not looked at
 pub central_list : (p : Description) (c u : ℕ) → values_at p (point_of (centre_of (axes_of p) c)) u (point_of (map noise_centre p.noises)) ≡ central_values p c u
 central_list p c u =
-    let states : length p.states ≤ length (centre_of (axes_of p) c) = omega (arith, centre_count (axes_of p) c, length-map p.states axis_of) in
     let noises : length p.noises ≤ length (map noise_centre p.noises) = omega (arith, length-map p.noises noise_centre) in
     let xs : List ℤ = centre_of (axes_of p) c in
     let ws : List ℤ = map noise_centre p.noises in
-    ap₂ (λ (front back : List ℤ). front ++ vector_of p.inputs u ++ back) (take-append-le (length p.states) xs (replicate (6 - length xs) (pos 0)) states) (take-append-le (length p.noises) ws (replicate (6 - length ws) (pos 0)) noises)
+    ap₂ (λ (front back : List ℤ). front ++ vector_of p.inputs u ++ back) (take-append-le (length p.states) xs (replicate (6 - length xs) (pos 0)) (centre_enough p c)) (take-append-le (length p.noises) ws (replicate (6 - length ws) (pos 0)) noises)
 
 ends_between : (lo hi v : ℤ) (d : ℕ) → IsInRange (lo -ℤ pos d) → IsInRange (hi +ℤ pos d) → lo ≤ℤ v → v ≤ℤ hi → IsInRange (v -ℤ pos d) × IsInRange (v +ℤ pos d)
 ends_between lo hi v d low high below above =

@@ -6,7 +6,6 @@ pub mod NextIntervals
 pub mod Steps
 pub mod Enabled
 pub mod Padding
-pub mod Filling
 pub mod Radii
 pub mod Centres
 pub mod DeviationLanes

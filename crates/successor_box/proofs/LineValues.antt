@@ -28,9 +28,8 @@ use Rattle.successor_box.specs.inside.Lines.{HasIndexIn, AreValuesUnder}
 use Rattle.successor_box.proofs.AlikePairs.{central_state, central_middle, central_input, central_noise}
 pub use Rattle.successor_box.proofs.AlikePairs.{state_slot, among_slot}
 use Rattle.successor_box.proofs.Below.{centres_are_near}
-use Rattle.successor_box.proofs.CellOffsets.{central_count}
 use Rattle.successor_box.proofs.CellValues.{centres_are_noise}
-use Rattle.successor_box.proofs.Centres.{central_list}
+use Rattle.successor_box.proofs.Centres.{central_count, central_list}
 use Rattle.successor_box.proofs.Middles.{IsMiddle, axis_at, middle_from}
 use Rattle.successor_box.proofs.Padding.{domain_more}
 use Rattle.successor_box.proofs.Steps.{step_stays}
@@ -38,22 +37,20 @@ use Rattle.successor_box.proofs.Steps.{step_stays}
 -- ---- the central values of a pair
 
 module _ (p : Description) (c u : ℕ) where
-  pub noise_value : (k : ℕ) → length p.states + length p.inputs ≤ k → k < variables_of p → get_or (map noise_centre p.noises) (k - length p.states - length p.inputs) (pos 0) ≡ get_or (central_values p c u) k (pos 0)
-  noise_value k past lt = sym (central_noise p c u k past ∙ get_or-take (length p.noises) (map noise_centre p.noises) (k - length p.states - length p.inputs) (pos 0) (omega (arith, past, lt)))
-
   -- an index is that of a state, below its count, or that of a value
-  module _ (indices : List ℕ) (k : ℕ) (has : HasIndexIn p indices k c u) where
-    here : k < length p.states → index_along (axes_of p) k c ≡ get_or indices k 0
-    here lt = state_slot p c u k lt ∙ has.index (omega (arith, lt))
+  module _ (indices : List ℕ) (k i : ℕ) (has : HasIndexIn p indices k c u) where
+    here : k ≡ i → i < length p.states → index_along (axes_of p) i c ≡ get_or indices k 0
+    here at lt = ap (λ (j : ℕ). index_along (axes_of p) j c) (sym at) ∙ state_slot p c u k (omega (arith, at, lt)) ∙ has.index (omega (arith, at, lt))
 
-    pub index_within : IsSound p → k < length p.states → get_or indices k 0 < (get_or (axes_of p) k no_axis).count
-    index_within sound lt = omega (arith, here lt, index_along_below (axes_of p) k c sound.axes.each (omega (arith, lt, length-map p.states axis_of)))
+    pub index_within : IsSound p → k ≡ i → i < length p.states → get_or indices k 0 < (get_or (axes_of p) i no_axis).count
+    index_within sound at lt = omega (arith, here at lt, index_along_below (axes_of p) i c sound.axes.each (omega (arith, lt, length-map p.states axis_of)))
 
-    pub state_value : IsSound p → k < length p.states → middle_of (get_or (axes_of p) k no_axis) (get_or indices k 0) ≡ get_or (central_values p c u) k (pos 0)
-    state_value sound lt = ap (middle_of (get_or (axes_of p) k no_axis)) (sym (here lt)) ∙ sym (central_middle p sound c u k has.cell lt)
+    pub state_value : IsSound p → k ≡ i → i < length p.states → middle_of (get_or (axes_of p) i no_axis) (get_or indices k 0) ≡ get_or (central_values p c u) k (pos 0)
+    state_value sound at lt =
+        ap (middle_of (get_or (axes_of p) i no_axis)) (sym (here at lt)) ∙ sym (central_middle p sound c u i has.cell lt) ∙ ap (λ (j : ℕ). get_or (central_values p c u) j (pos 0)) (sym at)
 
-    pub index_of_value : length p.states ≤ k → k < length p.states + length p.inputs → value_index p.inputs (k - length p.states) u ≡ get_or indices k 0
-    index_of_value past lt = among_slot p c u k past ∙ has.index lt
+    pub index_of_value : k ≡ length p.states + i → i < length p.inputs → value_index p.inputs i u ≡ get_or indices k 0
+    index_of_value at lt = ap (λ (j : ℕ). value_index p.inputs j u) (omega (arith, at)) ∙ among_slot p c u k (omega (arith, at)) ∙ has.index (omega (arith, at, lt))
 
   -- what is no input has its value under every input
   pub same_centre : (v k : ℕ) → IsNoInput p k → get_or (central_values p c v) k (pos 0) ≡ get_or (central_values p c u) k (pos 0)

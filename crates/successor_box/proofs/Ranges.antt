@@ -4,7 +4,7 @@ use Rattle.std.specs.Prelude.{ℤ, pos, nat_abs, ◌+ℤ◌, ◌-ℤ◌, ◌≤�
 use Rattle.std.specs.Option.{option_map}
 use Rattle.std.proofs.lemmas.Int.{ints}
 use Rattle.std.proofs.lemmas.Option.{none-some, same_Some}
-use Rattle.std.proofs.lemmas.List.{length-append, length-map, get_or-map, get_or_append_left, get_or-append_right, take-append-le, take_all}
+use Rattle.std.proofs.lemmas.List.{length-append, length-map, length-take-le, get_or-map, get_or-take, take-append-le, take_all}
 use Rattle.std.proofs.lemmas.List.Elements.{All-head, All-tail}
 use Rattle.fixed_expr.specs.DivExpr.{floor_div}
 use Rattle.interval_eval.specs.declared.interval.Interval.{Interval}
@@ -16,11 +16,13 @@ use Rattle.plant_record.specs.declared.variables.NoiseVariable.{NoiseVariable}
 use Rattle.plant_record.specs.Variables.{IsNoiseVariable}
 use Rattle.plant_record.specs.Soundness.{IsSound, IsFilledByCells}
 use Rattle.plant_record.specs.Description.{Description, axis_of, axes_of, vector_of}
+use Rattle.plant_record.proofs.lemmas.ListElements.{in_first, in_second, in_third}
+use Rattle.plant_record.proofs.lemmas.VariableValues.{vector_length}
 use Rattle.successor_box.specs.SuccessorBoxes.{noise_centre, area_of, ranges_between, area_between, radii_of}
-use Rattle.successor_box.specs.inside.Area.{variables_of, no_range, noise_offset}
+use Rattle.successor_box.specs.inside.Area.{variables_of, area_from, no_range, noise_offset}
 use Rattle.successor_box.proofs.Below.{domain_has_ends}
 use Rattle.successor_box.proofs.CellAreas.{ranges_long}
-use Rattle.successor_box.proofs.CellValues.{middle, vector_count}
+use Rattle.successor_box.proofs.CellValues.{middle}
 use Rattle.successor_box.proofs.Middles.{between_literals}
 
 -- ---- the least and the greatest number of each state
@@ -71,19 +73,6 @@ radius_at [] k d lt = absurd (omega (arith, lt))
 radius_at (w ∷ noises) zero d lt = refl
 radius_at (w ∷ noises) (suc k) d lt = radius_at noises k d (omega (arith, lt))
 
--- an element of one of three lists
-module _ {X : Type 0} (xs ys zs : List X) (k : ℕ) (d : X) where
-  pub in_first : k < length xs → get_or (xs ++ ys ++ zs) k d ≡ get_or xs k d
-  in_first lt = get_or_append_left (xs ++ ys) zs d k (omega (arith, length-append xs ys, lt)) ∙ get_or_append_left xs ys d k lt
-
-  pub in_second : (n : ℕ) → length xs ≡ n → n ≤ k → k < n + length ys → get_or (xs ++ ys ++ zs) k d ≡ get_or ys (k - n) d
-  in_second n is le lt = get_or_append_left (xs ++ ys) zs d k (omega (arith, length-append xs ys, is, lt)) ∙ get_or-append_right xs ys n k d is le
-
-  pub in_third : (n m : ℕ) → length xs ≡ n → length ys ≡ m → n + m ≤ k → get_or (xs ++ ys ++ zs) k d ≡ get_or zs (k - n - m) d
-  in_third n m is are le =
-      let both : length (xs ++ ys) ≡ n + m = omega (arith, length-append xs ys, is, are) in
-      get_or-append_right (xs ++ ys) zs (n + m) k d both le ∙ ap (λ (i : ℕ). get_or zs i d) (omega (arith, le))
-
 -- the ranges of states
 states_between : (states : List StateVariable) → ranges_between (map (λ (s : StateVariable). s.low) states) (map (λ (s : StateVariable). s.high) states) ≡ map (λ (s : StateVariable). record { lo = s.low; hi = s.high }) states
 states_between [] = refl
@@ -125,7 +114,7 @@ module _ (p : Description) (u : ℕ) where
   states_count = length-map p.states _
 
   inputs_count : length inputs_in ≡ length p.inputs
-  inputs_count = length-map (vector_of p.inputs u) _ ∙ vector_count p.inputs u
+  inputs_count = length-map (vector_of p.inputs u) _ ∙ vector_length p.inputs u
 
   -- after as many ranges as there are states
   module _ (front : List Interval) (long : length front ≡ length p.states) where
@@ -133,43 +122,52 @@ module _ (p : Description) (u : ℕ) where
     after_count = omega (arith, length-append (front ++ inputs_in) noises_in, length-append front inputs_in, long, inputs_count, noises_count)
 
     -- the range of an input
-    input_after : (k : ℕ) (d : Interval) → length p.states ≤ k → k < length p.states + length p.inputs →
-        ◌≡◌ {A = Interval} (record { lo = get_or (vector_of p.inputs u) (k - length p.states) (pos 0); hi = get_or (vector_of p.inputs u) (k - length p.states) (pos 0) }) (get_or (front ++ inputs_in ++ noises_in) k d)
-    input_after k d le lt =
-        let below : k - length p.states < length (vector_of p.inputs u) = omega (arith, le, lt, vector_count p.inputs u) in
-        sym (in_second front inputs_in noises_in k d (length p.states) long le (omega (arith, lt, inputs_count))
-        ∙ get_or-map (λ v. record { lo = v; hi = v }) (vector_of p.inputs u) (k - length p.states) (pos 0) d below)
-
-    -- the range of a noise
-    noise_after : (k : ℕ) (r : ℤ × ℤ) (d : Interval) → length p.states + length p.inputs ≤ k → option_map (λ (w : NoiseVariable). (w.low, w.high)) (slice_get p.noises (k - length p.states - length p.inputs)) ≡ Some r →
-        ◌≡◌ {A = Interval} (record { lo = r.0; hi = r.1 }) (get_or (front ++ inputs_in ++ noises_in) k d)
-    noise_after k r d le is = noise_told Interval (λ (q : ℤ × ℤ). record { lo = q.0; hi = q.1 }) p.noises (k - length p.states - length p.inputs) r d is ∙ sym (in_third front inputs_in noises_in k d (length p.states) (length p.inputs) long inputs_count le)
+    input_after : (k i : ℕ) (d : Interval) → k ≡ length p.states + i → i < length p.inputs →
+        ◌≡◌ {A = Interval} (record { lo = get_or (vector_of p.inputs u) i (pos 0); hi = get_or (vector_of p.inputs u) i (pos 0) }) (get_or (front ++ inputs_in ++ noises_in) k d)
+    input_after k i d at lt =
+        sym (in_second front inputs_in noises_in k i d (length p.states) long at (omega (arith, lt, inputs_count))
+        ∙ get_or-map (λ v. record { lo = v; hi = v }) (vector_of p.inputs u) i (pos 0) d (omega (arith, lt, vector_length p.inputs u)))
 
   -- the range of an input in the domain
-  pub input_range : (k : ℕ) (d : Interval) → length p.states ≤ k → k < length p.states + length p.inputs →
-      ◌≡◌ {A = Interval} (record { lo = get_or (vector_of p.inputs u) (k - length p.states) (pos 0); hi = get_or (vector_of p.inputs u) (k - length p.states) (pos 0) }) (get_or (area_of p u) k d)
-  input_range k d le lt = input_after states_in states_count k d le lt
+  pub input_range : (k i : ℕ) (d : Interval) → k ≡ length p.states + i → i < length p.inputs →
+      ◌≡◌ {A = Interval} (record { lo = get_or (vector_of p.inputs u) i (pos 0); hi = get_or (vector_of p.inputs u) i (pos 0) }) (get_or (area_of p u) k d)
+  input_range k i d at lt = input_after states_in states_count k i d at lt
 
   -- the ranges where the states lie between two points
-  module _ (xs ys : List ℤ) (first : length xs ≡ length p.states) (second : length ys ≡ length p.states) where
-    between_long : length (ranges_between xs ys) ≡ length p.states
-    between_long = ranges_long xs ys (length p.states) first second
+  module _ (low high : List ℤ) (enough : length p.states ≤ length low) (enough' : length p.states ≤ length high) where
+    abbrev least : List ℤ
+    least = take (length p.states) low
 
-    pub between_count : length (area_between p xs ys u) ≡ variables_of p
-    between_count = after_count (ranges_between xs ys) between_long
+    abbrev greatest : List ℤ
+    greatest = take (length p.states) high
 
-    pub state_between : (k : ℕ) (d : Interval) → k < length p.states → ◌≡◌ {A = Interval} (record { lo = get_or xs k (pos 0); hi = get_or ys k (pos 0) }) (get_or (area_between p xs ys u) k d)
-    state_between k d lt =
-        between_at xs ys k d (omega (arith, lt, first)) (omega (arith, lt, second))
-        ∙ sym (in_first (ranges_between xs ys) inputs_in noises_in k d (omega (arith, lt, between_long)))
+    least_long : length least ≡ length p.states
+    least_long = length-take-le (length p.states) low enough
 
-    pub input_between : (k : ℕ) (d : Interval) → length p.states ≤ k → k < length p.states + length p.inputs →
-        ◌≡◌ {A = Interval} (record { lo = get_or (vector_of p.inputs u) (k - length p.states) (pos 0); hi = get_or (vector_of p.inputs u) (k - length p.states) (pos 0) }) (get_or (area_between p xs ys u) k d)
-    input_between k d le lt = input_after (ranges_between xs ys) between_long k d le lt
+    greatest_long : length greatest ≡ length p.states
+    greatest_long = length-take-le (length p.states) high enough'
 
-    pub noise_between : (k : ℕ) (r : ℤ × ℤ) (d : Interval) → length p.states + length p.inputs ≤ k → option_map (λ (w : NoiseVariable). (w.low, w.high)) (slice_get p.noises (k - length p.states - length p.inputs)) ≡ Some r →
-        ◌≡◌ {A = Interval} (record { lo = r.0; hi = r.1 }) (get_or (area_between p xs ys u) k d)
-    noise_between k r d le is = noise_after (ranges_between xs ys) between_long k r d le is
+    between_long : length (ranges_between least greatest) ≡ length p.states
+    between_long = ranges_long least greatest (length p.states) least_long greatest_long
+
+    pub between_count : length (area_from p low high u) ≡ variables_of p
+    between_count = after_count (ranges_between least greatest) between_long
+
+    pub state_between : (k i : ℕ) (d : Interval) → k ≡ i → i < length p.states → ◌≡◌ {A = Interval} (record { lo = get_or low i (pos 0); hi = get_or high i (pos 0) }) (get_or (area_from p low high u) k d)
+    state_between k i d at lt =
+        ap₂ (λ (x y : ℤ). record { lo = x; hi = y }) (sym (get_or-take (length p.states) low i (pos 0) lt)) (sym (get_or-take (length p.states) high i (pos 0) lt))
+        ∙ between_at least greatest i d (omega (arith, lt, least_long)) (omega (arith, lt, greatest_long))
+        ∙ sym (in_first (ranges_between least greatest) inputs_in noises_in k i d at (omega (arith, lt, between_long)))
+
+    pub input_between : (k i : ℕ) (d : Interval) → k ≡ length p.states + i → i < length p.inputs →
+        ◌≡◌ {A = Interval} (record { lo = get_or (vector_of p.inputs u) i (pos 0); hi = get_or (vector_of p.inputs u) i (pos 0) }) (get_or (area_from p low high u) k d)
+    input_between k i d at lt = input_after (ranges_between least greatest) between_long k i d at lt
+
+    pub noise_between : (k i : ℕ) (r : ℤ × ℤ) (d : Interval) → k ≡ length p.states + length p.inputs + i → option_map (λ (w : NoiseVariable). (w.low, w.high)) (slice_get p.noises i) ≡ Some r →
+        ◌≡◌ {A = Interval} (record { lo = r.0; hi = r.1 }) (get_or (area_from p low high u) k d)
+    noise_between k i r d at is =
+        noise_told Interval (λ (q : ℤ × ℤ). record { lo = q.0; hi = q.1 }) p.noises i r d is
+        ∙ sym (in_third (ranges_between least greatest) inputs_in noises_in k i d (length p.states) (length p.inputs) between_long inputs_count at)
 
   abbrev cell_radii : List ℤ
   cell_radii = map radius_of (axes_of p)
@@ -184,22 +182,21 @@ module _ (p : Description) (u : ℕ) where
   radii_count = length-map (axes_of p) radius_of ∙ length-map p.states axis_of
 
   zeros_count : length input_radii ≡ length p.inputs
-  zeros_count = length-map (vector_of p.inputs u) _ ∙ vector_count p.inputs u
+  zeros_count = length-map (vector_of p.inputs u) _ ∙ vector_length p.inputs u
 
   -- the radius of a state
-  pub state_radius : (k : ℕ) (d : ℤ) → k < length p.states → radius_of (get_or (axes_of p) k no_axis) ≡ get_or (radii_of p u) k d
-  state_radius k d lt = sym (in_first cell_radii input_radii noise_radii k d (omega (arith, lt, radii_count)) ∙ get_or-map radius_of (axes_of p) k no_axis d (omega (arith, lt, length-map p.states axis_of)))
+  pub state_radius : (k i : ℕ) (d : ℤ) → k ≡ i → i < length p.states → radius_of (get_or (axes_of p) i no_axis) ≡ get_or (radii_of p u) k d
+  state_radius k i d at lt = sym (in_first cell_radii input_radii noise_radii k i d at (omega (arith, lt, radii_count)) ∙ get_or-map radius_of (axes_of p) i no_axis d (omega (arith, lt, length-map p.states axis_of)))
 
   -- the radius of an input
   pub input_radius : (k : ℕ) (d : ℤ) → length p.states ≤ k → k < length p.states + length p.inputs → pos 0 ≡ get_or (radii_of p u) k d
   input_radius k d le lt =
-      let below : k - length p.states < length (vector_of p.inputs u) = omega (arith, le, lt, vector_count p.inputs u) in
-      sym (in_second cell_radii input_radii noise_radii k d (length p.states) radii_count le (omega (arith, lt, zeros_count))
-      ∙ get_or-map (λ _. pos 0) (vector_of p.inputs u) (k - length p.states) (pos 0) d below)
+      sym (in_second cell_radii input_radii noise_radii k (k - length p.states) d (length p.states) radii_count (omega (arith, le)) (omega (arith, le, lt, zeros_count))
+      ∙ get_or-map (λ _. pos 0) (vector_of p.inputs u) (k - length p.states) (pos 0) d (omega (arith, le, lt, vector_length p.inputs u)))
 
   -- the radius of a noise
-  pub noise_radius : (k : ℕ) (d : ℤ) → length p.states + length p.inputs ≤ k → k < variables_of p → (get_or (map noise_offset p.noises) (k - length p.states - length p.inputs) no_range).hi ≡ get_or (radii_of p u) k d
-  noise_radius k d le lt = radius_at p.noises (k - length p.states - length p.inputs) d (omega (arith, le, lt)) ∙ sym (in_third cell_radii input_radii noise_radii k d (length p.states) (length p.inputs) radii_count zeros_count le)
+  pub noise_radius : (k i : ℕ) (d : ℤ) → k ≡ length p.states + length p.inputs + i → i < length p.noises → (get_or (map noise_offset p.noises) i no_range).hi ≡ get_or (radii_of p u) k d
+  noise_radius k i d at lt = radius_at p.noises i d lt ∙ sym (in_third cell_radii input_radii noise_radii k i d (length p.states) (length p.inputs) radii_count zeros_count at)
 
   pub all_radii_count : length (radii_of p u) ≡ variables_of p
   all_radii_count = omega (arith, length-append (cell_radii ++ input_radii) noise_radii, length-append cell_radii input_radii, radii_count, zeros_count, length-map p.noises (λ (w : NoiseVariable). w.high -ℤ noise_centre w))

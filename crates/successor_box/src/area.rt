@@ -12,7 +12,7 @@ use crate::noise_centres::noise_offset;
 use base::limits::VARIABLES_LIMIT;
 use grid_quantiser::Point;
 use interval_eval::Interval;
-use plant_record::Plant;
+use plant_record::{Plant, Variable};
 
 pub(crate) const NO_RANGE: Interval = Interval { lo: 0, hi: 0 };
 
@@ -51,30 +51,30 @@ fn area_between(p: &Plant, low: &Point, high: &Point, input: u32) -> [Interval; 
 }
 
 /// Where one variable lies, the states from one point to another.
+#[tactic(auto, using(crate::proofs::Ranges::state_between, crate::proofs::Ranges::input_between))]
 fn range(p: &Plant, low: &Point, high: &Point, input: u32, k: u32) -> Interval
     requires plant { IsWithinLimits p.now }
     requires input { input < vectors_of p.now.inputs }
     requires variable { k < variables_of p.now }
     ensures { result ≡ slice_index_or (area_from p.now low.now high.now input) k no_range }
 {
-    let states = p.states();
-    let inputs = p.input_variables();
-    if k < states {
-        let i = k as usize;
-        return Interval {
-            lo: low[i],
-            hi: high[i],
-        };
+    match p.variable(k) {
+        Variable::State(i) => Interval {
+            lo: low[i as usize],
+            hi: high[i as usize],
+        },
+        Variable::Input(i) => {
+            let value = p.input_value(input, i);
+            Interval {
+                lo: value,
+                hi: value,
+            }
+        }
+        Variable::Noise(i) => {
+            let (lo, hi) = p.noise_range(i);
+            Interval { lo, hi }
+        }
     }
-    if k - states < inputs {
-        let value = p.input_value(input, k - states);
-        return Interval {
-            lo: value,
-            hi: value,
-        };
-    }
-    let (lo, hi) = p.noise_range(k - states - inputs);
-    Interval { lo, hi }
 }
 
 /// How far the ends of a variable's range over a cell lie from its value at the centre.
@@ -84,15 +84,11 @@ pub(crate) fn offset(p: &Plant, k: u32) -> Interval
     requires variable { k < variables_of p.now }
     ensures { (u : ℕ) → result ≡ slice_index_or (offsets_of p.now u) k no_range }
 {
-    let states = p.states();
-    let inputs = p.input_variables();
-    if k < states {
-        return cell_offset(p, k);
+    match p.variable(k) {
+        Variable::State(i) => cell_offset(p, i),
+        Variable::Input(_) => NO_RANGE,
+        Variable::Noise(i) => noise_offset(p, i),
     }
-    if k - states < inputs {
-        return NO_RANGE;
-    }
-    noise_offset(p, k - states - inputs)
 }
 
 /// The same of a state.
@@ -128,13 +124,9 @@ fn radius(p: &Plant, k: u32) -> i128
     requires variable { k < variables_of p.now }
     ensures { (u : ℕ) → result ≡ slice_index_or (radii_of p.now u) k (pos 0) }
 {
-    let states = p.states();
-    let inputs = p.input_variables();
-    if k < states {
-        return p.grid().radius(k);
+    match p.variable(k) {
+        Variable::State(i) => p.grid().radius(i),
+        Variable::Input(_) => 0,
+        Variable::Noise(i) => noise_offset(p, i).hi,
     }
-    if k - states < inputs {
-        return 0;
-    }
-    noise_offset(p, k - states - inputs).hi
 }

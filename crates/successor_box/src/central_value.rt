@@ -8,7 +8,7 @@ ghost use Rattle.successor_box.specs.inside.Area.{variables_of, axis_along};
 ghost use Rattle.successor_box.specs.inside.Lines.{HasIndexIn};
 
 use crate::noise_centres::noise_centre;
-use plant_record::Plant;
+use plant_record::{Plant, Variable};
 
 /// The most variables in which a pair of a cell and an input vector has indices: 6 states and 3 input variables.
 pub const INDICES_LIMIT: usize = 9;
@@ -20,16 +20,14 @@ pub(crate) fn central_value(p: &Plant, indices: &[u32; INDICES_LIMIT], k: u32) -
     requires pair { (c u : ℕ) × HasIndexIn p.now indices.now k c u }
     ensures { (c u : ℕ) → HasIndexIn p.now indices.now k c u → result ≡ slice_index_or (central_values p.now c u) k (pos 0) }
 {
-    let states = p.states();
-    let inputs = p.input_variables();
-    if k < states {
-        let (first, width) = first_middle(p, k);
-        return middle(first, width, indices[k as usize]);
+    match p.variable(k) {
+        Variable::State(i) => {
+            let (first, width) = first_middle(p, i);
+            middle(first, width, indices[k as usize])
+        }
+        Variable::Input(i) => p.value_at(i, indices[k as usize]) as i64,
+        Variable::Noise(i) => noise_centre(p, i) as i64,
     }
-    if k - states < inputs {
-        return p.value_at(k - states, indices[k as usize]) as i64;
-    }
-    noise_centre(p, k - states - inputs) as i64
 }
 
 /// The middle of the first index along the axis of a state, and how far one index is from the next.

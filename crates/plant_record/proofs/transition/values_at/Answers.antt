@@ -1,29 +1,27 @@
-use Rattle.std.proofs.Common.{◌≡◌, ◌<◌, ◌∙◌, ap, length, take, sym, arith, rules}
-use Rattle.std.specs.Prelude.{FitsSigned}
+use Rattle.std.proofs.Common.{arith, rules}
+use Rattle.std.specs.Prelude.{pos, FitsSigned}
 use Rattle.std.specs.Int.{w128}
 use Rattle.std.proofs.lemmas.Int.{to_z-of_z}
-use Rattle.std.proofs.lemmas.List.{length-set, take_all}
-use Rattle.plant_record.specs.Description.{names_of}
 use Rattle.plant_record.specs.Steps.{values_at}
-use Rattle.plant_record.proofs.lemmas.VariableValues.{AreSix, names_count, values_count, values_more}
+use Rattle.plant_record.proofs.lemmas.ListElements.{fill_more, fill_all}
+use Rattle.plant_record.proofs.lemmas.VariableValues.{values_count}
 use Rattle.plant_record.proofs.transition.values_at.Goals as goal
 
-pub loop-i-preserved : goal.loop-i-preserved
-loop-i-preserved c =
-    let six : AreSix c.args.p.now c.args.x.now c.args.noise.now = record { states = c.told-x; noises = c.told-noise; limits = c.variables-i-end.ensures.limits } in
-    let values = values_at c.args.p.now c.args.x.now c.args.input c.args.noise.now in
-    let count : length values ≡ length (names_of c.args.p.now) = values_count c.args.p.now c.args.x.now c.args.noise.now c.args.input six in
+pub loop-k-preserved : goal.loop-k-preserved
+loop-k-preserved c =
+    let p = c.args.p.now in
+    let plant = c.variables-k-end.ensures.limits.plant in
+    let count = values_count p c.args.x.now c.args.noise.now c.args.input (omega (arith, plant.states_bound)) (omega (arith, plant.noises_bound)) in
     let fits : FitsSigned w128 c.value_at.result = search rules in
-    let lt : c.loop-i.i < length values = omega (arith, count, names_count c.args.p.now, c.variables-i-end.ensures.count, c.loop-i-test.true) in
-    let lt' : c.loop-i.i < length c.loop-i.values = omega (arith, c.loop-i.invariant.0, c.variables-i-end.ensures.bound, c.loop-i-test.true) in (
-      length-set c.loop-i.values c.loop-i.i _ ∙ c.loop-i.invariant.0,
-      values_more c.loop-i.values values c.loop-i.i _ lt' lt c.loop-i.invariant.1 (to_z-of_z w128 _ fits ∙ c.value_at.ensures),
-    )
+    rw (to_z-of_z w128 c.value_at.result fits)
+    (record {
+      count = search rules;
+      filled = fill_more c.loop-k.values (values_at p c.args.x.now c.args.input c.args.noise.now) c.loop-k.k c.value_at.result (pos 0) (omega arith) (omega arith) c.loop-k.invariant.filled c.value_at.ensures;
+    })
 
 pub returns : goal.returns
 returns c =
-    let six : AreSix c.args.p.now c.args.x.now c.args.noise.now = record { states = c.told-x; noises = c.told-noise; limits = c.variables-i-end.ensures.limits } in
-    let values = values_at c.args.p.now c.args.x.now c.args.input c.args.noise.now in
-    let count : length values ≡ length (names_of c.args.p.now) = values_count c.args.p.now c.args.x.now c.args.noise.now c.args.input six in
-    let at : c.loop-i.i ≡ length (names_of c.args.p.now) = omega (arith, names_count c.args.p.now) in
-    ap (λ n. take n c.loop-i.values) (sym at) ∙ c.loop-i.invariant.1 ∙ take_all c.loop-i.i values (omega (arith, count, at))
+    let p = c.args.p.now in
+    let plant = c.variables-k-end.ensures.limits.plant in
+    let count = values_count p c.args.x.now c.args.noise.now c.args.input (omega (arith, plant.states_bound)) (omega (arith, plant.noises_bound)) in
+    fill_all c.loop-k.values (values_at p c.args.x.now c.args.input c.args.noise.now) c.loop-k.k _ (omega arith) count c.loop-k.invariant.filled

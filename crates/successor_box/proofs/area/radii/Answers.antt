@@ -2,8 +2,8 @@ use Rattle.std.proofs.Common.{rules, arith}
 use Rattle.std.specs.Prelude.{pos, FitsSigned}
 use Rattle.std.specs.Int.{w128}
 use Rattle.std.proofs.lemmas.Int.{to_z-of_z}
+use Rattle.plant_record.proofs.lemmas.ListElements.{fill_more, fill_all}
 use Rattle.successor_box.specs.SuccessorBoxes.{radii_of}
-use Rattle.successor_box.proofs.Filling.{fill_more, fill_all}
 use Rattle.successor_box.proofs.Ranges.{all_radii_count}
 use Rattle.successor_box.proofs.area.radii.Goals as goal
 

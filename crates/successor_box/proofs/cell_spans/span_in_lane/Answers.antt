@@ -3,8 +3,8 @@ use Rattle.std.proofs.lemmas.List.{length-map, length-set, get_or-map}
 use Rattle.interval_eval.specs.declared.interval.Interval.{Interval}
 use Rattle.interval_eval.specs.declared.columns.IntervalColumn.{IntervalColumn}
 use Rattle.interval_eval.specs.LaneSpans.{interval_in, area_in}
+use Rattle.plant_record.proofs.lemmas.ListElements.{fill_more}
 use Rattle.successor_box.specs.inside.Area.{no_range}
-use Rattle.successor_box.proofs.Filling.{fill_more}
 use Rattle.successor_box.proofs.cell_spans.span_in_lane.Goals as goal
 
 pub loop-k-preserved : goal.loop-k-preserved

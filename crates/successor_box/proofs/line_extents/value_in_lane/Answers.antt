@@ -7,7 +7,7 @@ use Rattle.expr_lanes.specs.declared.lane_eval.ValuesAlong.{ValuesAlong}
 use Rattle.fixed_expr.specs.Expression.{expression_of}
 use Rattle.expr_lanes.specs.LaneEval.{lane_of}
 use Rattle.fixed_expr.specs.Value.{value_of}
-use Rattle.successor_box.proofs.Filling.{fill_all}
+use Rattle.plant_record.proofs.lemmas.ListElements.{fill_all}
 use Rattle.successor_box.proofs.line_extents.value_in_lane.Goals as goal
 
 -- the values in the lane, once that from the column stands there

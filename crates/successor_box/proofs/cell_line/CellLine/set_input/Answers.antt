@@ -1,4 +1,4 @@
-use Rattle.std.proofs.Common.{set, arith}
+use Rattle.std.proofs.Common.{arith}
 use Rattle.successor_box.proofs.LineValues.{input_set}
 use Rattle.successor_box.proofs.cell_line.CellLine.set_input.Goals as goal
 

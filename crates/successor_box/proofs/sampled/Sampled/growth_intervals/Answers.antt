@@ -6,11 +6,11 @@ use Rattle.std.proofs.lemmas.List.{length-set}
 use Rattle.interval_eval.specs.declared.interval.Interval.{Interval}
 use Rattle.plant_record.specs.Steps.{equation_at}
 use Rattle.plant_record.proofs.lemmas.SoundPlants.{sound as sound_plant}
+use Rattle.plant_record.proofs.lemmas.ListElements.{index_more}
 use Rattle.successor_box.specs.SuccessorBoxes.{growth_of}
 use Rattle.successor_box.specs.inside.Area.{no_range}
 use Rattle.successor_box.specs.inside.Lines.{AreValuesUnder}
 use Rattle.successor_box.proofs.CellRanges.{equation_is, formed_at, value_in}
-use Rattle.successor_box.proofs.Filling.{index_more}
 use Rattle.successor_box.proofs.LineValues.{stays_at}
 use Rattle.successor_box.proofs.NextIntervals.{growth_is}
 use Rattle.successor_box.proofs.sampled.Sampled.growth_intervals.Goals as goal

@@ -5,10 +5,10 @@ use Rattle.std.proofs.lemmas.Int.{to_z-of_z}
 use Rattle.std.proofs.lemmas.List.{length-set}
 use Rattle.grid_quantiser.specs.declared.extents.Extent.{Extent}
 use Rattle.plant_record.specs.Steps.{equation_at}
+use Rattle.plant_record.proofs.lemmas.ListElements.{index_more}
 use Rattle.successor_box.specs.SuccessorBoxes.{deviation_at}
 use Rattle.successor_box.specs.PairExtents.{IsExtentBeforeAt}
 use Rattle.successor_box.proofs.DeviationLanes.{deviation_is}
-use Rattle.successor_box.proofs.Filling.{index_more}
 use Rattle.successor_box.proofs.ExtentEnds.{extent_of_growth, deviation_some}
 use Rattle.successor_box.proofs.sampled.Sampled.narrow_extents.Goals as goal
 

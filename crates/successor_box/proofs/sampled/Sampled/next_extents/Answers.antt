@@ -5,9 +5,9 @@ use Rattle.std.proofs.lemmas.Int.{to_z-of_z}
 use Rattle.std.proofs.lemmas.List.{length-set}
 use Rattle.interval_eval.specs.declared.interval.Interval.{Interval}
 use Rattle.grid_quantiser.specs.declared.extents.Extent.{Extent}
+use Rattle.plant_record.proofs.lemmas.ListElements.{index_more}
 use Rattle.successor_box.specs.PairExtents.{IsExtentBeforeAt}
 use Rattle.successor_box.specs.inside.Area.{no_range}
-use Rattle.successor_box.proofs.Filling.{index_more}
 use Rattle.successor_box.proofs.ExtentEnds.{extent_of_next}
 use Rattle.successor_box.proofs.sampled.Sampled.next_extents.Goals as goal
 
