@@ -33,7 +33,7 @@ use Rattle.command_outcomes.specs.Stages.{SpellPlantWith, IsReadRefusal, IsRefus
 use Rattle.command_outcomes.specs.Traces.{HasRowFor, HasNoRowFor}
 use Rattle.command_outcomes.specs.OutcomeLaws.{OneOutcomePerText}
 use Rattle.command_outcomes.proofs.Stages.{staged}
-use Rattle.command_outcomes.proofs.Below.{one_plant_per_text, one_refusal, no_plant_text_is_refused, one_table_per_text, one_table_refusal, table_or_refused}
+use Rattle.command_outcomes.proofs.Below.{one_plant_per_text, one_refusal, no_plant_text_is_refused, one_table, one_table_refusal, no_table_is_refused}
 use Rattle.table_check.proofs.Verdicts.{one_first}
 
 -- ---- what passes isn't refused, and what is refused has one reason
@@ -209,9 +209,9 @@ table_exact : (Passes : Description → List (Option Row) → Type 0) (Refuses :
 table_exact Passes Refuses exact bytes =
     exact_by
     (read_then {A = Description × List (Option Row)} (λ t. IsTable bytes t.0 t.1) (IsRefusedTable bytes) (λ t. Passes t.0 t.1) (λ t. Refuses t.0 t.1)
-    (λ t u f g. let same = one_table_per_text bytes t.0 u.0 t.1 u.1 f g in λ i. (same.0 i, same.1 i))
+    (λ t u f g. let same = one_table bytes t.0 u.0 t.1 u.1 f g in λ i. (same.0 i, same.1 i))
     (λ r s f g. let x = faulty_table bytes r f in let y = faulty_table bytes s g in x.2 ∙ ap refusal_of_table (one_table_refusal bytes x.0 y.0 x.1 y.1) ∙ sym y.2)
-    (λ t table r f. let x = faulty_table bytes r f in table_or_refused bytes t.0 t.1 x.0 table x.1)
+    (λ t table r f. let x = faulty_table bytes r f in no_table_is_refused bytes t.0 t.1 x.0 table x.1)
     (λ t table. exact t.0 t.1 table.1.limits.plant))
     (λ t. ((t.0, t.1), t.2, t.3))
     (λ r f. elim f [

@@ -32,7 +32,7 @@ use Rattle.controller_table.specs.declared.table_fault.TableFault.{TableFault}
 use Rattle.controller_table.specs.declared.table_fault.TableFault.TheVariants as tables
 use Rattle.controller_table.specs.Tables.{IsTable}
 use Rattle.controller_table.specs.TableRefusals.{IsTableRefusedFor}
-use Rattle.controller_table.proofs.OneRefusal.{no_text_is_neither}
+use Rattle.controller_table.proofs.OneRefusal.{no_table_is_neither}
 use Rattle.controller_table.proofs.TableTexts.{within_one}
 use Rattle.command_line.specs.declared.command.Command.TheVariants.{Synth, Check, Upgrade, Sim, Demo, Stay, Patrol}
 use Rattle.command_line.specs.declared.command.Command.{Command}
@@ -144,7 +144,7 @@ verdict bytes p rows table (is_solvable s) deny =
 by_table : (bytes : List ℕ) (Passes : Description → List (Option Row) → Type 0) (Refuses : Description → List (Option Row) → Refusal → Type 0)
     → ((p : Description) (rows : List (Option Row)) → IsTable bytes p rows → (IsDecided (Passes p rows) (Refuses p rows) → ⊥) → ⊥)
     → (IsDecided (AreTableWith Passes bytes) (IsTableRefusal Refuses bytes) → ⊥) → ⊥
-by_table bytes Passes Refuses decided deny = no_text_is_neither bytes by_rows by_fault
+by_table bytes Passes Refuses decided deny = no_table_is_neither bytes by_rows by_fault
   where
     by_rows : (p : Description) (rows : List (Option Row)) → IsTable bytes p rows → ⊥
     by_rows p rows h = decided p rows h (λ d. elim d [
@@ -155,7 +155,7 @@ by_table bytes Passes Refuses decided deny = no_text_is_neither bytes by_rows by
     by_fault : (f : TableFault) → IsTableRefusedFor bytes f → ⊥
     by_fault (tables.Malformed line) h = deny (inr (Malformed line, inl (inl (line, refl, h))))
     by_fault (tables.Limit what) h = deny (inr (Limit what, inl (inr (what, refl, h))))
-    by_fault tables.Memory h = h
+    by_fault tables.Memory h = h.1
 
 -- ---- a table that is written anew, or drives its plant
 

@@ -12,16 +12,16 @@ use Rattle.row_runs.specs.declared.run.TableVersion.{TableVersion}
 use Rattle.controller_table.specs.declared.text_kind.TextKind.TheVariants.{Table}
 use Rattle.controller_table.specs.Tables.{IsTable}
 use Rattle.controller_table.specs.Choice.{HasRowAt, Applies, Chooses}
-use Rattle.controller_table.specs.Laws.{OneTablePerText, OneChoice, OneRank}
+use Rattle.controller_table.specs.Laws.{OneChoice, OneRank}
 use Rattle.controller_table.proofs.HeadedLaws.{one_text}
 use Rattle.std.proofs.lemmas.Option.{same_Some}
 
 -- ---- one table
 
-pub same_version : (v w : TableVersion) → Table v ≡ Table w → v ≡ w
+same_version : (v w : TableVersion) → Table v ≡ Table w → v ≡ w
 same_version v w e = cc
 
-pub one_table : OneTablePerText
+pub one_table : (bytes : List ℕ) (p q : Description) (rows others : List (Option Row)) (table : IsTable bytes p rows) (other : IsTable bytes q others) → (p ≡ q) × (rows ≡ others) × (table.0 ≡ other.0)
 one_table bytes p q rows others h k =
     let same = one_text (Table h.0) (Table k.0) bytes p q (rows ∷ []) (others ∷ []) h.1 k.1 in
     (same.1, same_head rows others [] [] same.2, same_version h.0 k.0 same.0)

@@ -1,4 +1,4 @@
--- What holds of every table and of its text.
+-- What holds of every text of a kind, and of tables.
 use Rattle.std.specs.Prelude.{◌≡◌, ℕ, ℤ, List, Option}
 use Rattle.game_core.specs.declared.game.Row.{Row}
 use Rattle.game_core.specs.Game.{Game, IsGraph}
@@ -7,15 +7,35 @@ use Rattle.game_core.specs.Solution.{IsReachSolution}
 use Rattle.grid_quantiser.specs.Axes.{cells_of}
 use Rattle.plant_record.specs.declared.aims.GoalKind.TheVariants.{Reach, Keep}
 use Rattle.plant_record.specs.Description.{Description, axes_of, vectors_of}
-use Rattle.controller_table.specs.declared.table_fault.TableFault.{TableFault}
+use Rattle.controller_table.specs.declared.text_fault.TextFault.{TextFault}
+use Rattle.controller_table.specs.declared.text_kind.TextKind.{TextKind}
+use Rattle.controller_table.specs.KindTexts.{IsTextOf}
+use Rattle.controller_table.specs.HeadedTexts.{Kinds, Accept, IsTextRefusedFor}
 use Rattle.controller_table.specs.Tables.{RowsFit, IsTable}
 use Rattle.controller_table.specs.Choice.{IsChoice, HasRank}
-use Rattle.controller_table.specs.TableRefusals.{IsShortTable, IsTableRefusedFor}
+use Rattle.controller_table.specs.TableRefusals.{IsShortTable}
 
--- no bytes are the table of two plants, or of one plant with other rows, or in two versions
-abbrev pub OneTablePerText : Type 0
-OneTablePerText =
-    (bytes : List ℕ) (p q : Description) (rows others : List (Option Row)) (table : IsTable bytes p rows) (other : IsTable bytes q others) → (p ≡ q) × (rows ≡ others) × (table.0 ≡ other.0)
+-- no bytes are texts of two kinds, or of one kind with two plants or with other rows
+abbrev pub OneText : Type 0
+OneText =
+    (kind other : TextKind) (bytes : List ℕ) (p q : Description) (turns others : List (List (Option Row))) → IsTextOf kind bytes p turns → IsTextOf other bytes q others
+    → (kind ≡ other) × (p ≡ q) × (turns ≡ others)
+
+-- a text has at most one reason to be refused
+abbrev pub OneRefusal : Type 0
+OneRefusal = (kinds : Kinds) (bytes : List ℕ) (f g : TextFault) → IsTextRefusedFor kinds bytes f → IsTextRefusedFor kinds bytes g → f ≡ g
+
+-- no text of a kind that is accepted is refused
+abbrev pub NoTextIsRefused : Type 0
+NoTextIsRefused =
+    (kinds : Kinds) (kind : TextKind) (bytes : List ℕ) (p : Description) (turns : List (List (Option Row))) (f : TextFault) → Accept kinds kind → IsTextOf kind bytes p turns
+    → IsTextRefusedFor kinds bytes f → ⊥
+
+-- no bytes are neither a text of a kind that is accepted nor refused
+abbrev pub NoTextIsNeither : Type 0
+NoTextIsNeither =
+    (kinds : Kinds) (bytes : List ℕ) → ((kind : TextKind) (p : Description) (turns : List (List (Option Row))) → Accept kinds kind → IsTextOf kind bytes p turns → ⊥)
+    → ((f : TextFault) → IsTextRefusedFor kinds bytes f → ⊥) → ⊥
 
 -- the table that bytes are chooses at most one input at a state
 abbrev pub OneChoice : Type 0
@@ -24,18 +44,6 @@ OneChoice = (bytes : List ℕ) (x : List ℤ) (u v : ℕ) → IsChoice bytes x u
 -- a state has at most one rank in the table that bytes are
 abbrev pub OneRank : Type 0
 OneRank = (bytes : List ℕ) (x : List ℤ) (j k : ℕ) → HasRank bytes x j → HasRank bytes x k → j ≡ k
-
--- a text has at most one reason to be refused as a table
-abbrev pub OneTableRefusal : Type 0
-OneTableRefusal = (bytes : List ℕ) (f g : TableFault) → IsTableRefusedFor bytes f → IsTableRefusedFor bytes g → f ≡ g
-
--- bytes that are a table are not refused
-abbrev pub TableOrRefused : Type 0
-TableOrRefused = (bytes : List ℕ) (p : Description) (rows : List (Option Row)) (f : TableFault) → IsTable bytes p rows → IsTableRefusedFor bytes f → ⊥
-
--- no text is neither a table nor refused as one
-abbrev pub NoTextIsNeither : Type 0
-NoTextIsNeither = (bytes : List ℕ) → ((p : Description) (rows : List (Option Row)) → IsTable bytes p rows → ⊥) → ((f : TableFault) → IsTableRefusedFor bytes f → ⊥) → ⊥
 
 -- a table's text is within the limit on its bytes
 abbrev pub TablesAreShort : Type 0

@@ -1,15 +1,30 @@
-//! What holds of every table and of its text.
+//! What holds of every text of a kind, and of tables.
 
 ghost use Rattle.plant_record.specs.Limits.{IsWithinLimits};
 ghost use Rattle.controller_table.specs.Tables.{RowsFit};
-ghost use Rattle.controller_table.specs.Laws.{OneTablePerText, OneChoice, OneRank, OneTableRefusal, TableOrRefused, NoTextIsNeither, TablesAreShort, ReachSolutionsFit, KeepSolutionsFit};
+ghost use Rattle.controller_table.specs.Laws.{OneText, OneRefusal, NoTextIsRefused, NoTextIsNeither, OneChoice, OneRank, TablesAreShort, ReachSolutionsFit, KeepSolutionsFit};
 
 use crate::table::Table;
 use plant_record::laws::every_plant_is_within_limits;
 
-/// No bytes are the table of two plants, or of one plant with other rows, or in two versions.
-pub fn one_table_per_text()
-    ensures { OneTablePerText }
+/// No bytes are texts of two kinds, or of one kind with two plants or with other rows.
+pub fn one_text()
+    ensures { OneText }
+{}
+
+/// A text has at most one reason to be refused.
+pub fn one_refusal()
+    ensures { OneRefusal }
+{}
+
+/// No text of a kind that is accepted is refused.
+pub fn no_text_is_refused()
+    ensures { NoTextIsRefused }
+{}
+
+/// No bytes are neither a text of a kind that is accepted nor refused.
+pub fn no_text_is_neither()
+    ensures { NoTextIsNeither }
 {}
 
 /// A table chooses one input at a state.
@@ -22,24 +37,9 @@ pub fn one_rank()
     ensures { OneRank }
 {}
 
-/// A text has at most one reason to be refused as a table.
-pub fn one_table_refusal()
-    ensures { OneTableRefusal }
-{}
-
 /// A table's text has at most as many bytes as are read.
 pub fn tables_are_short()
     ensures { TablesAreShort }
-{}
-
-/// No table is refused.
-pub fn table_or_refused()
-    ensures { TableOrRefused }
-{}
-
-/// No text is neither a table nor refused.
-pub fn no_text_is_neither()
-    ensures { NoTextIsNeither }
 {}
 
 /// The rows of the reach solution of a game over a plant's cells and input vectors fit the plant.

@@ -1,8 +1,8 @@
-ghost use Rattle.std.specs.Prelude.{◌≢◌, IfOk, IfErr};
+ghost use Rattle.std.specs.Prelude.{◌≡◌, ◌≢◌, ◌++◌, ℕ, List, IfOk, IfErr};
 ghost use Rattle.controller_table.specs.declared.table_fault.TableFault.TheVariants.{Memory};
+ghost use Rattle.controller_table.specs.TextKinds.{first_line};
 ghost use Rattle.controller_table.specs.Tables.{IsTableIn};
 ghost use Rattle.controller_table.specs.TableRefusals.{IsTableRefusedFor};
-ghost use Rattle.controller_table.specs.inside.TextReading.{IsBegunIn};
 ghost use Rattle.row_reading.specs.Found.{Finds};
 
 use crate::table::Table;
@@ -34,7 +34,7 @@ pub fn read_table(alloc: Global, bytes: &[u8]) -> Result<Table, TableFault>
 
 /// The version whose first line the bytes begin with, and what stands after it.
 fn take_version(bytes: &[u8]) -> Option<(TableVersion, &[u8])>
-    ensures { Finds (λ r. (r.0, r.1.now)) (IsBegunIn bytes.now) result }
+    ensures { Finds (λ r. (r.0, r.1.now)) (λ (found : TableVersion × List ℕ). bytes.now ≡ first_line (TextKind.Table found.0) ++ found.1) result }
 {
     let (kind, rest) = take_kind(bytes)?;
     match kind {

@@ -36,7 +36,7 @@ impl TextFault {
 
 impl From<RowFault> for TextFault {
     ghost use Rattle.std.specs.Prelude.{◌≡◌};
-    ghost use Rattle.controller_table.specs.inside.TextReading.{fault_of_rows};
+    ghost use Rattle.controller_table.specs.HeadedTexts.{fault_of_rows};
 
     ghost from_gives = { λ fault e. e ≡ fault_of_rows fault };
 

@@ -1,7 +1,6 @@
 ghost use Rattle.std.specs.Prelude.{◌≡◌, ◌↔◌, ◌++◌, ℕ, List, IsTrue};
 ghost use Rattle.row_reading.specs.Found.{Finds};
 ghost use Rattle.controller_table.specs.TextKinds.{first_line, most_bytes, rules_of, stay_rules, patrol_rules, turn_rules, HasFewTurnsFor};
-ghost use Rattle.controller_table.specs.inside.TextReading.{IsBegun};
 
 use crate::goal_format::format_of;
 use base::limits::{TABLE_LIMIT, TURNS_LIMIT};
@@ -89,7 +88,7 @@ impl TextKind {
 
 /// The kind whose first line the bytes begin with, and what stands after it.
 pub fn take_kind(bytes: &[u8]) -> Option<(TextKind, &[u8])>
-    ensures { Finds (λ r. (r.0, r.1.now)) (IsBegun bytes.now) result }
+    ensures { Finds (λ r. (r.0, r.1.now)) (λ (found : TextKind × List ℕ). bytes.now ≡ first_line found.0 ++ found.1) result }
 {
     let second = TextKind::Table(TableVersion::Second);
     if let Some(rest) = second.take_first_line(bytes) {

@@ -5,10 +5,10 @@ ghost use Rattle.plant_record.specs.Limits.{IsWithinLimits};
 ghost use Rattle.plant_text.specs.CanonicalFronts.{IsFront};
 ghost use Rattle.row_reading.specs.Counting.{line_count};
 ghost use Rattle.controller_table.specs.declared.text_fault.TextFault.TheVariants.{Memory};
-ghost use Rattle.controller_table.specs.TextKinds.{first_line, most_bytes};
+ghost use Rattle.controller_table.specs.TextKinds.{first_line};
 ghost use Rattle.controller_table.specs.KindTexts.{IsTextOf};
-ghost use Rattle.controller_table.specs.HeadedTexts.{alone, IsTextRefusedFor};
-ghost use Rattle.controller_table.specs.inside.TextReading.{IsRefusedAfter, IsPlantRefused, fault_of_front};
+ghost use Rattle.controller_table.specs.HeadedTexts.{Only, AreLinesRefusedFor, IsTextRefusedFor};
+ghost use Rattle.controller_table.specs.inside.TextReading.{IsPlantRefused, fault_of_front};
 
 use crate::rows_text::RowsText;
 use crate::text_fault::TextFault;
@@ -22,7 +22,7 @@ use std::alloc::Global;
 pub fn read_kind(alloc: Global, kind: TextKind, bytes: &[u8]) -> Result<RowsText, TextFault>
     ensures kind { IfOk result (λ t. t.kind ≡ kind) }
     ensures read { IfOk result (λ t. IsTextOf kind bytes.now t.plant t.turns) }
-    ensures refused { IfErr result (λ fault. fault ≢ Memory → IsTextRefusedFor (alone kind) (most_bytes kind) bytes.now fault) }
+    ensures refused { IfErr result (λ fault. fault ≢ Memory → IsTextRefusedFor (Only kind) bytes.now fault) }
 {
     if bytes.len() > kind.most_bytes() {
         let what = LimitKind::TableText;
@@ -40,7 +40,7 @@ pub fn read_after(alloc: Global, kind: TextKind, rest: &[u8]) -> Result<RowsText
     requires { length rest.now < 2 ^ 30 }
     ensures kind { IfOk result (λ t. t.kind ≡ kind) }
     ensures read { IfOk result (λ t. IsTextOf kind (first_line kind ++ rest.now) t.plant t.turns) }
-    ensures refused { IfErr result (λ fault. fault ≢ Memory → IsRefusedAfter kind rest.now fault) }
+    ensures refused { IfErr result (λ fault. fault ≢ Memory → AreLinesRefusedFor (Only kind) (first_line kind ++ rest.now) fault) }
 {
     let Front { plant, length } = take_plant(alloc, rest)?;
     if !kind.has_few_turns(&plant) {

@@ -6,7 +6,7 @@ use Rattle.controller_table.specs.declared.text_kind.TextKind.TheVariants as kin
 use Rattle.controller_table.proofs.TableTexts.{as_table}
 use Rattle.text_control.specs.declared.control_fault.ControlFault.{ControlFault}
 use Rattle.text_control.specs.Texts.{TextModel, IsReadFrom, IsNoTextFor}
-use Rattle.text_control.proofs.TextRefusals.{read_texts_tell, text_or_refused}
+use Rattle.text_control.proofs.TextRefusals.{read_texts_tell, no_bytes_are_both}
 use Rattle.command_line.specs.declared.command.Command.TheVariants.{Synth, Check, Upgrade, Sim, Demo, Stay, Patrol}
 use Rattle.synth_run.specs.RunClauses.{IsAnswered}
 use Rattle.driven_loops.proofs.ReadBack.{says}
@@ -14,7 +14,7 @@ use Rattle.driven_loops.specs.Laws.{AnswersAreWritten, WrittenTextsAreRead}
 
 -- what was read isn't refused
 both : (text : List ℕ) (t : TextModel) → IsReadFrom text t → ((m : TextModel) × IsReadFrom text m) × ((f : ControlFault) → IsNoTextFor text f → ⊥)
-both text t read = ((t, read), λ f. text_or_refused text t f (read_texts_tell text t read))
+both text t read = ((t, read), λ f. no_bytes_are_both text t f (read_texts_tell text t read))
 
 pub written_texts_are_read : WrittenTextsAreRead
 written_texts_are_read bytes text (inl given) =

@@ -10,7 +10,7 @@ use Rattle.live_script.specs.declared.script_fault.ScriptFault.TheVariants as sc
 use Rattle.live_script.specs.Scripts.{IsShortScript}
 use Rattle.live_script.specs.LiveText.{IsLiveText}
 use Rattle.live_script.specs.ScriptRefusals.{IsScriptRefusedFor}
-use Rattle.live_script.proofs.ScriptLaws.{one_script_refusal, script_or_refused}
+use Rattle.live_script.proofs.ScriptLaws.{one_script_refusal, no_script_is_refused}
 use Rattle.run_devices.specs.declared.transfer.ReadFault.{ReadFault}
 use Rattle.run_devices.specs.declared.transfer.ReadFault.TheVariants as reads
 use Rattle.command_line.specs.declared.outcome.Refusal.{Refusal}
@@ -143,7 +143,7 @@ ends_written_out (Failed Memory) text source out h end = absurd end
 
 of_refusal : (script : List ℕ) (fault : ScriptFault) → IsScriptRefusedFor script fault → IsCompleteAnswer (status_of (of_script fault)) script
 of_refusal script fault refused = record {
-  answered = λ commands is. absurd (script_or_refused script commands fault is refused);
+  answered = λ commands is. absurd (no_script_is_refused script commands fault is refused);
   refused = λ other h. inl (ap (λ (f : ScriptFault). status_of (of_script f)) (one_script_refusal script fault other refused h));
 }
 
@@ -151,7 +151,7 @@ pub complete : (outcome : Outcome) (before : Option (List ℕ)) → Ends before 
 complete outcome None ends read write = tt
 complete Done (Some script) ends read write = record {
   answered = λ commands is. inl refl;
-  refused = λ fault h. absurd (let is = ends.2.1 in script_or_refused ends.0 is.commands fault is.is_script (subst (λ (all : List ℕ). IsScriptRefusedFor all fault) ends.1 h));
+  refused = λ fault h. absurd (let is = ends.2.1 in no_script_is_refused ends.0 is.commands fault is.is_script (subst (λ (all : List ℕ). IsScriptRefusedFor all fault) ends.1 h));
 }
 complete Usage (Some script) ends read write = absurd ends
 complete (Refused refusal) (Some script) ends read write =

@@ -15,7 +15,7 @@ use Rattle.live_script.specs.declared.script_fault.ScriptFault.{ScriptFault}
 use Rattle.live_script.specs.declared.script_fault.ScriptFault.TheVariants.{Malformed, Limit, ScriptTooLong, TooManyTables, Memory}
 use Rattle.live_script.specs.Scripts.{ask_line, IsPublishOf, Spell, FitsAfter, published_tables, CommandStep, IsScriptEnd, IsShortScript}
 use Rattle.live_script.specs.ScriptRefusals.{Announce, IsMalformedAfter, IsTableRefusedAfter, IsNinthTable, IsRefusedAfter, IsFirstRefusal, IsScriptRefusedFor}
-use Rattle.live_script.specs.Laws.{OneScript, OneScriptRefusal, ScriptOrRefused}
+use Rattle.live_script.specs.Laws.{OneScript, OneScriptRefusal, NoScriptIsRefused}
 use Rattle.live_script.specs.inside.Faults.{of_table}
 use Rattle.live_script.proofs.OneCommand.{announces, one_text}
 use Rattle.live_script.proofs.ScriptGrammar.{HasFewTables, none_published, scripts_are_grammar}
@@ -50,7 +50,7 @@ module _ (n number : ℕ) (bytes : List ℕ) (f : ScriptFault) (first rest : Lis
   stuck (is_malformed e m) (Ask xs) h fits = m.no_question xs rest fits h.0 (asked xs h.1)
   stuck (has_refused_table g e r) (Publish t) h fits =
       let same = one_announced bytes (length r.text) (length h.text) (r.text ++ r.rest) (h.text ++ rest) r.announced (announced t h) in
-      refusals.table_or_refused h.text t.plant t.rows g (t.version, h.is_table) (subst (λ (x : List ℕ). IsTableRefusedFor x g) (one_text r.text h.text r.rest rest same.0 same.1).0 r.refused)
+      refusals.no_table_is_refused h.text t.plant t.rows g (t.version, h.is_table) (subst (λ (x : List ℕ). IsTableRefusedFor x g) (one_text r.text h.text r.rest rest same.0 same.1).0 r.refused)
   stuck (has_refused_table g e r) (Ask xs) h fits = not_asked bytes (length r.text) (r.text ++ r.rest) r.announced xs rest (asked xs h.1)
   stuck (has_ninth_table e r) (Publish t) h fits = omega (arith, r.full, fits)
   stuck (has_ninth_table e r) (Ask xs) h fits = not_asked bytes r.size r.after r.announced xs rest (asked xs h.1)
@@ -66,7 +66,7 @@ ends_well n number f some (has_ninth_table e r) = announced_is_some [] r.size r.
 one_table_fault : (n : ℕ) (bytes : List ℕ) (f g : TableFault) → IsTableRefusedAfter n bytes f → IsTableRefusedAfter n bytes g → f ≡ g
 one_table_fault n bytes f g h k =
     let same = one_announced bytes (length h.text) (length k.text) (h.text ++ h.rest) (k.text ++ k.rest) h.announced k.announced in
-    refusals.one_refusal k.text f g (subst (λ (x : List ℕ). IsTableRefusedFor x f) (one_text h.text k.text h.rest k.rest same.0 same.1).0 h.refused) k.refused
+    refusals.one_table_refusal k.text f g (subst (λ (x : List ℕ). IsTableRefusedFor x f) (one_text h.text k.text h.rest k.rest same.0 same.1).0 h.refused) k.refused
 
 not_refused : (n : ℕ) (bytes : List ℕ) (f : TableFault) → IsMalformedAfter n bytes → IsTableRefusedAfter n bytes f → ⊥
 not_refused n bytes f m r = m.no_table (length r.text) (r.text ++ r.rest) r.announced (λ few. omega (arith, length-append r.text r.rest))
@@ -124,8 +124,8 @@ pub one_script_refusal : OneScriptRefusal
 one_script_refusal script f g h k =
     texts.one_by_length (IsShortScript script) (IsFirstRefusal script f) (IsFirstRefusal script g) ScriptTooLong f g (by_length script f h) (by_length script g k) (one_first script f g)
 
-pub script_or_refused : ScriptOrRefused
-script_or_refused script commands f h k = elim (by_length script f k) [
+pub no_script_is_refused : NoScriptIsRefused
+no_script_is_refused script commands f h k = elim (by_length script f k) [
   | inl long ↦ long.1 h.short
   | inr first ↦ texts.read_or_refused CommandStep IsScriptEnd HasFewTables scripts_are_grammar [] script commands [] (suc (length first.1.pieces)) none_published h.reading (first_refused script f first.1)
 ]

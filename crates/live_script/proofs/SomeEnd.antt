@@ -1,7 +1,7 @@
 -- No bytes are neither a script nor refused as one.
 use Rattle.std.proofs.Common.{◌≡◌, ℕ, suc, ◌<◌, ◌≤◌, List, [], ◌∷◌, ◌++◌, length, take, drop, inl, inr, refl, sym, ap, subst, ◌∙◌, arith, append_assoc, length-take, take-append-drop}
 use Rattle.std.proofs.lemmas.Bool.{cases_lt}
-use Rattle.controller_table.proofs.OneRefusal.{no_text_is_neither}
+use Rattle.controller_table.proofs.OneRefusal.{no_table_is_neither}
 use Rattle.text_pieces.specs.Steps.{joined, IsReading, IsFirstRefused}
 use Rattle.text_pieces.proofs.Laws.{met, undeniable}
 use Rattle.row_reading.specs.Counting.{line_count}
@@ -23,7 +23,7 @@ module _ (n number : ℕ) (most : n ≤ 8) (bytes : List ℕ) (unended : bytes �
   -- a table's text of the size that its line says
   whole_text : (text rest : List ℕ) → n < 8 → Announce bytes (length text) (text ++ rest) → ⊥
   whole_text text rest few told =
-      no_text_is_neither text
+      no_table_is_neither text
       (λ p rows table. no_command (Publish (record { version = table.0; plant = p; rows = rows })) (publish_line (length text) ++ text) rest
       (told.are ∙ sym (append_assoc (publish_line (length text)) text rest)) (record { text = text; is_table = table.1; are = refl }) few)
       (λ f refused. unrefused (of_table number f) (refused_after n number bytes f (record { few = few; text = text; rest = rest; announced = told; refused = refused })))

@@ -87,7 +87,7 @@ ends_too_early count size bytes few some most short = record {
 pub refused_after : (count number : ℕ) (bytes : List ℕ) (f : TableFault) → IsTableRefusedAfter count bytes f → IsRefusedAfter count number bytes (of_table number f)
 refused_after count number bytes (tables.Malformed line) r = inr (line, refl, r)
 refused_after count number bytes (tables.Limit what) r = r
-refused_after count number bytes tables.Memory r = absurd r.refused
+refused_after count number bytes tables.Memory r = absurd r.refused.1
 
 -- the fault of a table's text is the script's, after so many lines
 pub table_refused : (count number size : ℕ) (bytes text rest : List ℕ) (fault : TableFault) → count < 8 → 1 ≤ size → size ≤ 67108864 → length text ≡ size → bytes ≡ text ++ rest

@@ -14,9 +14,9 @@ OneScript = (bytes : List ℕ) (cs ds : List ScriptCommand) → IsScript bytes c
 abbrev pub OneScriptRefusal : Type 0
 OneScriptRefusal = (bytes : List ℕ) (f g : ScriptFault) → IsScriptRefusedFor bytes f → IsScriptRefusedFor bytes g → f ≡ g
 
--- bytes that are a script are not refused
-abbrev pub ScriptOrRefused : Type 0
-ScriptOrRefused = (bytes : List ℕ) (commands : List ScriptCommand) (f : ScriptFault) → IsScript bytes commands → IsScriptRefusedFor bytes f → ⊥
+-- no bytes that are a script are refused
+abbrev pub NoScriptIsRefused : Type 0
+NoScriptIsRefused = (bytes : List ℕ) (commands : List ScriptCommand) (f : ScriptFault) → IsScript bytes commands → IsScriptRefusedFor bytes f → ⊥
 
 -- no bytes are neither a script nor refused as one
 abbrev pub NoScriptIsNeither : Type 0

@@ -1,6 +1,6 @@
 //! What holds of every live script.
 
-ghost use Rattle.live_script.specs.Laws.{OneScript, OneScriptRefusal, ScriptOrRefused, NoScriptIsNeither, OneLiveText};
+ghost use Rattle.live_script.specs.Laws.{OneScript, OneScriptRefusal, NoScriptIsRefused, NoScriptIsNeither, OneLiveText};
 
 /// No bytes are a script of two lists of commands.
 pub fn one_script()
@@ -12,9 +12,9 @@ pub fn one_script_refusal()
     ensures { OneScriptRefusal }
 {}
 
-/// Bytes that are a script are not refused.
-pub fn script_or_refused()
-    ensures { ScriptOrRefused }
+/// No bytes that are a script are refused.
+pub fn no_script_is_refused()
+    ensures { NoScriptIsRefused }
 {}
 
 /// No bytes are neither a script nor refused as one, since no text is neither a table nor refused as one.

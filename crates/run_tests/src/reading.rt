@@ -2,14 +2,11 @@
 
 use crate::plants::{DOCKS_TEXT, LINE_TEXT};
 use controller_table::TableFault;
+use controller_table::laws::{no_text_is_neither, no_text_is_refused, one_refusal};
 use game_core::Row;
 use std::alloc::Global;
 use std::test::Fail;
-use temporal_texts::laws::{
-    no_patrol_text_is_neither, no_stay_text_is_neither, one_patrol_refusal, one_stay_refusal,
-    patrol_text_or_refused, patrol_trajectories_go_on, stay_text_or_refused,
-    stay_trajectories_settle,
-};
+use temporal_texts::laws::{patrol_trajectories_go_on, stay_trajectories_settle};
 use temporal_texts::{PatrolFault, read_patrol, read_stay};
 
 /// A rank as great as the number of cells.
@@ -26,9 +23,9 @@ const LONG_PATROL: &[u8] =
 
 /// Whether the stay text has its five rows, and that with a greater rank is refused at its row's line.
 fn has_stay_rows(alloc: Global) -> bool {
-    one_stay_refusal();
-    stay_text_or_refused();
-    no_stay_text_is_neither();
+    one_refusal();
+    no_text_is_refused();
+    no_text_is_neither();
     stay_trajectories_settle();
     let Ok(stay) = read_stay(alloc, LINE_TEXT) else {
         return false;
@@ -45,9 +42,6 @@ fn has_stay_rows(alloc: Global) -> bool {
 
 /// Whether the patrol text has its two turns, and the others are refused at the second turn's line and for their turns.
 fn has_patrol_rows(alloc: Global) -> bool {
-    one_patrol_refusal();
-    patrol_text_or_refused();
-    no_patrol_text_is_neither();
     patrol_trajectories_go_on();
     let Ok(patrol) = read_patrol(alloc, DOCKS_TEXT) else {
         return false;

@@ -3,13 +3,13 @@
 use crate::meeting::{MANY, Rendezvous};
 use crate::plants::{DOCKS, DOCKS_TEXT, LINE, LINE_TEXT, PLANT, TABLE};
 use crate::trial::{CLEAN, run_on};
+use controller_table::laws::one_text;
 use std::alloc::Global;
 use std::test::Fail;
 use std::thread::Threads;
 use synth_run::Open;
 use synth_run::laws::some_game_per_plant;
 use temporal_promises::laws::{patrol_solutions_patrol, stay_solutions_settle};
-use temporal_texts::laws::{one_patrol_text, one_stay_text};
 
 /// Two goals, 9 to 11 and 12 to 14, so that round 0 has two items.
 const CORRIDOR: &[u8] =
@@ -177,7 +177,7 @@ fn do_write<R: Threads + Sync>(
 
 #[test]
 fn stay_text_ends_where_the_plant_can_stay(rt: HostRuntime) -> Result<(), Fail> {
-    one_stay_text();
+    one_text();
     stay_solutions_settle();
     assert!(rt; do_write(&rt, rt.alloc(), "stay", LINE, LINE_TEXT)?);
     Ok(())
@@ -185,7 +185,7 @@ fn stay_text_ends_where_the_plant_can_stay(rt: HostRuntime) -> Result<(), Fail> 
 
 #[test]
 fn patrol_text_has_a_turn_for_each_target(rt: HostRuntime) -> Result<(), Fail> {
-    one_patrol_text();
+    one_text();
     patrol_solutions_patrol();
     assert!(rt; do_write(&rt, rt.alloc(), "patrol", DOCKS, DOCKS_TEXT)?);
     Ok(())

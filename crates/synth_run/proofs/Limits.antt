@@ -75,12 +75,12 @@ refused_table_of_longer : (bytes : List ℕ) (outcome : Refusal) → 67108865 < 
 refused_table_of_longer bytes outcome lt h = passes _ _ _ _ (λ line h. absurd (long_table_front bytes lt h.0)) limit outcome h
   where
     limit : (what : LimitKind) → IsTableRefusedFor (take 67108865 bytes) (tables.Limit what) → IsTableRefusedFor bytes (tables.Limit what)
-    limit PlantText h = h
+    limit PlantText h = absurd (long_table_front bytes lt h.0)
     limit TableText h = λ short. omega (arith, lt, short)
     limit Vectors h = absurd (long_table_front bytes lt h.0)
     limit Cells h = absurd (long_table_front bytes lt h.0)
     limit Pairs h = absurd (long_table_front bytes lt h.0)
-    limit Edges h = h
+    limit Edges h = absurd (long_table_front bytes lt h.0)
 
 -- ---- commands
 

@@ -1,5 +1,2 @@
-pub mod OneStayText
-pub mod OnePatrolText
-pub mod TextRefusals
+pub mod StayRows
 pub mod Trajectories
-pub mod TextLaws

@@ -14,7 +14,7 @@ use Rattle.temporal_texts.specs.PatrolText.{HasPatrolRow}
 use Rattle.temporal_texts.specs.TextTrajectories.{Sample, state_after, IsStayTrajectory, IsTurnFrom, IsPatrolTrajectory}
 use Rattle.temporal_texts.specs.TextTrajectories as texts
 use Rattle.turn_rows.specs.Targets.{target_at}
-use Rattle.temporal_texts.proofs.TextLaws.{stay_trajectories_settle, patrol_trajectories_go_on}
+use Rattle.temporal_texts.proofs.Trajectories.{stay_trajectories_settle, patrol_trajectories_go_on}
 use Rattle.controller_table.specs.declared.text_kind.TextKind.{TextKind}
 use Rattle.controller_table.specs.declared.text_kind.TextKind.TheVariants.{Stay, Patrol}
 use Rattle.text_control.specs.declared.visits.Visit.{Visit}

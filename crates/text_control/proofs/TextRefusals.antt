@@ -1,6 +1,5 @@
 -- One reason, never a text and refused, never neither: by the text as which bytes begin.
-use Rattle.std.proofs.Common.{◌≡◌, ℕ, List, ◌++◌, length, Option, refl, sym, ap, subst, ◌∙◌, append_assoc, ◌≤◌}
-use Rattle.base.specs.declared.limits.TheConstants.{TABLE_LIMIT}
+use Rattle.std.proofs.Common.{◌≡◌, ℕ, List, ◌++◌, Option, refl, sym, ap, subst, ◌∙◌, append_assoc}
 use Rattle.game_core.specs.declared.game.Row.{Row}
 use Rattle.plant_record.specs.Description.{Description}
 use Rattle.plant_writing.specs.CanonicalText.{text_of}
@@ -8,16 +7,13 @@ use Rattle.row_runs.specs.declared.run.TableVersion.TheVariants.{First}
 use Rattle.controller_table.specs.declared.text_fault.TextFault.{TextFault}
 use Rattle.controller_table.specs.declared.text_kind.TextKind.{TextKind}
 use Rattle.controller_table.specs.declared.text_kind.TextKind.TheVariants.{Table, Stay, Patrol}
-use Rattle.controller_table.specs.declared.text_kind.TheConstants.{PATROL_LIMIT}
-use Rattle.controller_table.specs.TextKinds.{first_line, most_bytes}
+use Rattle.controller_table.specs.TextKinds.{first_line}
 use Rattle.controller_table.specs.KindTexts.{IsTextOf}
-use Rattle.controller_table.specs.HeadedTexts.{BeginsAs, alone}
+use Rattle.controller_table.specs.HeadedTexts.{AnyTable, Only, BeginsAs}
 use Rattle.controller_table.proofs.HeadedLaws as headed
 use Rattle.controller_table.proofs.HeadedLaws.{after_plant}
-use Rattle.controller_table.proofs.OneTable.{same_version}
-use Rattle.controller_table.proofs.ShortTexts.{texts_are_short}
 use Rattle.text_control.specs.Texts.{TextModel, control_fault, IsRefusedAs}
-use Rattle.text_control.specs.Laws.{ReadTextsTell, OneTextRefusal, TextOrRefused, NoBytesAreNeither}
+use Rattle.text_control.specs.Laws.{ReadTextsTell, OneTextRefusal, NoBytesAreBoth, NoBytesAreNeither}
 use Rattle.text_control.proofs.RefusedTexts.{one_beginning}
 
 pub read_texts_tell : ReadTextsTell
@@ -26,9 +22,6 @@ read_texts_tell bytes t read = read.0
 -- a text begins with the first line of its kind
 begins : (kind : TextKind) (bytes : List ℕ) (p : Description) (turns : List (List (Option Row))) → IsTextOf kind bytes p turns → BeginsAs kind bytes
 begins kind bytes p turns t = (text_of p ++ after_plant kind p turns, t.text ∙ append_assoc (first_line kind) (text_of p) (after_plant kind p turns))
-
-one_name : (kind : TextKind) (k l : Unit {0}) → alone kind k ≡ alone kind l → k ≡ l
-one_name kind k l e = refl
 
 module _ (bytes : List ℕ) where
   -- what is refused is refused as the text that it begins as
@@ -40,27 +33,26 @@ module _ (bytes : List ℕ) where
   refused_as_begun Patrol l f begun h = subst (λ (kind : TextKind). IsRefusedAs kind bytes f) (one_beginning Patrol l bytes h.0 begun) h
 
   one_fault : (k l : TextKind) (f g : TextFault) → IsRefusedAs k bytes f → IsRefusedAs l bytes g → f ≡ g
-  one_fault (Table v) (Table w) f g h m = headed.one_refusal Table same_version TABLE_LIMIT bytes f g h.2 m.2
+  one_fault (Table v) (Table w) f g h m = headed.one_refusal AnyTable bytes f g h.2 m.2
   one_fault Stay (Table w) f g h m = absurd (m.0 h.0)
   one_fault Patrol (Table w) f g h m = absurd (m.1 h.0)
-  one_fault k Stay f g h m = headed.one_refusal (alone Stay) (one_name Stay) TABLE_LIMIT bytes f g (refused_as_begun k Stay f m.0 h).1 m.1
-  one_fault k Patrol f g h m = headed.one_refusal (alone Patrol) (one_name Patrol) PATROL_LIMIT bytes f g (refused_as_begun k Patrol f m.0 h).1 m.1
+  one_fault k Stay f g h m = headed.one_refusal (Only Stay) bytes f g (refused_as_begun k Stay f m.0 h).1 m.1
+  one_fault k Patrol f g h m = headed.one_refusal (Only Patrol) bytes f g (refused_as_begun k Patrol f m.0 h).1 m.1
 
   module _ (p : Description) (turns : List (List (Option Row))) (f : TextFault) where
-    unrefused : (kind : TextKind) → IsTextOf kind bytes p turns → length bytes ≤ most_bytes kind → IsRefusedAs kind bytes f → ⊥
-    unrefused (Table v) text short h = headed.text_or_refused Table same_version TABLE_LIMIT bytes v p turns f text short h.2
-    unrefused Stay text short h = headed.text_or_refused (alone Stay) (one_name Stay) TABLE_LIMIT bytes tt p turns f text short h.1
-    unrefused Patrol text short h = headed.text_or_refused (alone Patrol) (one_name Patrol) PATROL_LIMIT bytes tt p turns f text short h.1
+    unrefused : (kind : TextKind) → IsTextOf kind bytes p turns → IsRefusedAs kind bytes f → ⊥
+    unrefused (Table v) text h = headed.no_text_is_refused AnyTable (Table v) bytes p turns f tt text h.2
+    unrefused Stay text h = headed.no_text_is_refused (Only Stay) Stay bytes p turns f refl text h.1
+    unrefused Patrol text h = headed.no_text_is_refused (Only Patrol) Patrol bytes p turns f refl text h.1
 
 -- ---- laws
 
 pub one_text_refusal : OneTextRefusal
 one_text_refusal bytes f g h k = h.2 ∙ ap control_fault (one_fault bytes h.0 k.0 h.1 k.1 h.3 k.3) ∙ sym k.2
 
-pub text_or_refused : TextOrRefused
-text_or_refused bytes t f tells refused =
-    unrefused bytes t.plant t.turns refused.1 t.kind tells (texts_are_short t.kind bytes t.plant t.turns tells)
-    (refused_as_begun bytes refused.0 t.kind refused.1 (begins t.kind bytes t.plant t.turns tells) refused.3)
+pub no_bytes_are_both : NoBytesAreBoth
+no_bytes_are_both bytes t f tells refused =
+    unrefused bytes t.plant t.turns refused.1 t.kind tells (refused_as_begun bytes refused.0 t.kind refused.1 (begins t.kind bytes t.plant t.turns tells) refused.3)
 
 -- what a text says where its first turn is due
 abbrev told : TextKind → Description → List (List (Option Row)) → TextModel
@@ -68,6 +60,6 @@ told kind p turns = record { kind = kind; plant = p; turns = turns; turn = 0 }
 
 pub no_bytes_are_neither : NoBytesAreNeither
 no_bytes_are_neither bytes no_text no_refusal =
-    let stay : BeginsAs Stay bytes → ⊥ = λ begun. headed.no_text_is_neither (alone Stay) TABLE_LIMIT bytes (λ f refused. no_refusal (control_fault f) (Stay, f, refl, (begun, refused))) (λ k p turns. no_text (told Stay p turns)) in
-    let patrol : BeginsAs Patrol bytes → ⊥ = λ begun. headed.no_text_is_neither (alone Patrol) PATROL_LIMIT bytes (λ f refused. no_refusal (control_fault f) (Patrol, f, refl, (begun, refused))) (λ k p turns. no_text (told Patrol p turns)) in
-    headed.no_text_is_neither Table TABLE_LIMIT bytes (λ f refused. no_refusal (control_fault f) (Table First, f, refl, (stay, patrol, refused))) (λ v p turns. no_text (told (Table v) p turns))
+    let stay : BeginsAs Stay bytes → ⊥ = λ begun. headed.no_text_is_neither (Only Stay) bytes (λ k p turns is. no_text (told k p turns)) (λ f refused. no_refusal (control_fault f) (Stay, f, refl, (begun, refused))) in
+    let patrol : BeginsAs Patrol bytes → ⊥ = λ begun. headed.no_text_is_neither (Only Patrol) bytes (λ k p turns is. no_text (told k p turns)) (λ f refused. no_refusal (control_fault f) (Patrol, f, refl, (begun, refused))) in
+    headed.no_text_is_neither AnyTable bytes (λ k p turns is. no_text (told k p turns)) (λ f refused. no_refusal (control_fault f) (Table First, f, refl, (stay, patrol, refused)))

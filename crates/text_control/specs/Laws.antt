@@ -22,9 +22,9 @@ ReadTextsTell = (bytes : List ℕ) (t : TextModel) → IsReadFrom bytes t → Te
 abbrev pub OneTextRefusal : Type 0
 OneTextRefusal = (bytes : List ℕ) (f g : ControlFault) → IsNoTextFor bytes f → IsNoTextFor bytes g → f ≡ g
 
--- no bytes are refused that are one of the three texts
-abbrev pub TextOrRefused : Type 0
-TextOrRefused = (bytes : List ℕ) (t : TextModel) (f : ControlFault) → Tells bytes t → IsNoTextFor bytes f → ⊥
+-- no bytes are both one of the three texts and refused
+abbrev pub NoBytesAreBoth : Type 0
+NoBytesAreBoth = (bytes : List ℕ) (t : TextModel) (f : ControlFault) → Tells bytes t → IsNoTextFor bytes f → ⊥
 
 -- no bytes are neither one of the three texts nor refused
 abbrev pub NoBytesAreNeither : Type 0

@@ -1,13 +1,11 @@
 -- What a table, a stay text or a patrol text says, and the turn that is due.
 use Rattle.std.specs.Prelude.{◌≡◌, ℕ, List, Option}
-use Rattle.base.specs.declared.limits.TheConstants.{TABLE_LIMIT}
 use Rattle.game_core.specs.declared.game.Row.{Row}
 use Rattle.plant_record.specs.Description.{Description}
 use Rattle.controller_table.specs.declared.text_fault.TextFault.{TextFault}
 use Rattle.controller_table.specs.declared.text_fault.TextFault.TheVariants as texts
-use Rattle.controller_table.specs.TextKinds.{most_bytes}
 use Rattle.controller_table.specs.KindTexts.{IsTextOf}
-use Rattle.controller_table.specs.HeadedTexts.{BeginsAs, IsTextRefusedFor, alone}
+use Rattle.controller_table.specs.HeadedTexts.{AnyTable, Only, BeginsAs, IsTextRefusedFor}
 use Rattle.turn_rows.specs.Rows.{rows_for}
 use Rattle.controller_table.specs.declared.text_kind.TextKind.{TextKind}
 use Rattle.controller_table.specs.declared.text_kind.TextKind.TheVariants.{Table, Stay, Patrol}
@@ -43,8 +41,8 @@ control_fault texts.Memory = Memory
 
 -- the bytes aren't the text that they begin as, which is a table where they begin as no other
 abbrev pub IsRefusedAs : TextKind → List ℕ → TextFault → Type 0
-IsRefusedAs (Table version) bytes f = (BeginsAs Stay bytes → ⊥) × (BeginsAs Patrol bytes → ⊥) × IsTextRefusedFor Table TABLE_LIMIT bytes f
-IsRefusedAs kind bytes f = BeginsAs kind bytes × IsTextRefusedFor (alone kind) (most_bytes kind) bytes f
+IsRefusedAs (Table version) bytes f = (BeginsAs Stay bytes → ⊥) × (BeginsAs Patrol bytes → ⊥) × IsTextRefusedFor AnyTable bytes f
+IsRefusedAs kind bytes f = BeginsAs kind bytes × IsTextRefusedFor (Only kind) bytes f
 
 -- why bytes are none of the three texts
 abbrev pub IsNoTextFor : List ℕ → ControlFault → Type 0

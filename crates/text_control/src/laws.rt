@@ -1,6 +1,6 @@
 //! What holds of every text, and what one that keeps its promise does to a plant whose loop applies the answers.
 
-ghost use Rattle.text_control.specs.Laws.{ReadTextsTell, OneTextRefusal, TextOrRefused, NoBytesAreNeither, ReachLoopsArrive, KeepLoopsGoOn, StayLoopsSettle, PatrolLoopsGoOn};
+ghost use Rattle.text_control.specs.Laws.{ReadTextsTell, OneTextRefusal, NoBytesAreBoth, NoBytesAreNeither, ReachLoopsArrive, KeepLoopsGoOn, StayLoopsSettle, PatrolLoopsGoOn};
 
 /// Bytes say what is read from them.
 pub fn read_texts_tell()
@@ -12,9 +12,9 @@ pub fn one_text_refusal()
     ensures { OneTextRefusal }
 {}
 
-/// No bytes are refused that are one of the three texts.
-pub fn text_or_refused()
-    ensures { TextOrRefused }
+/// No bytes are both one of the three texts and refused.
+pub fn no_bytes_are_both()
+    ensures { NoBytesAreBoth }
 {}
 
 /// No bytes are neither one of the three texts nor refused.

@@ -5,7 +5,6 @@ ghost use Rattle.grid_quantiser.specs.Axes.{cells_of};
 ghost use Rattle.plant_record.specs.Description.{axes_of};
 ghost use Rattle.plant_record.specs.Limits.{IsWithinLimits};
 ghost use Rattle.turn_rows.specs.Targets.{IsInTarget};
-ghost use Rattle.controller_table.specs.declared.text_kind.TextKind.TheVariants.{Patrol};
 ghost use Rattle.text_control.specs.Visits.{with_turn, HasArrivedInTurn, BeginsAt, IsVisit, IsVisitByText};
 
 use crate::packed_text::PackedText;
@@ -47,9 +46,9 @@ fn turn_from(text: &PackedText, state: &[i64]) -> Option<u32>
     requires { length state.now ≡ length text.now.plant.states }
     ensures { MatchOption result (HasArrivedInTurn text.now state.now → ⊥) (BeginsAt text.now state.now) }
 {
-    if !is_patrol(text.kind()) {
+    let TextKind::Patrol = text.kind() else {
         return None;
-    }
+    };
     let plant = text.plant();
     let cell = plant.grid().cell_at(state)?;
     if !is_in_target(plant, text.turn(), cell) {
@@ -58,15 +57,6 @@ fn turn_from(text: &PackedText, state: &[i64]) -> Option<u32>
     let next = (text.turn() + 1) % plant.targets();
     text.row(next, cell)?;
     Some(next)
-}
-
-fn is_patrol(kind: TextKind) -> bool
-    ensures { IsTrue result ↔ (kind ≡ Patrol) }
-{
-    match kind {
-        TextKind::Patrol => true,
-        TextKind::Table(_) | TextKind::Stay => false,
-    }
 }
 
 /// Whether a cell counts for the target of a turn: all its points lie in the target, and none in an obstacle.

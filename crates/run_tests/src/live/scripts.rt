@@ -3,7 +3,7 @@
 use crate::live::tables::REACH;
 use controller_table::laws::no_text_is_neither;
 use live_script::laws::{
-    no_script_is_neither, one_live_text, one_script, one_script_refusal, script_or_refused,
+    no_script_is_neither, no_script_is_refused, one_live_text, one_script, one_script_refusal,
 };
 use live_script::{Script, ScriptCommand};
 use std::alloc::Global;
@@ -21,7 +21,7 @@ fn script_of(alloc: Global, table: &[u8]) -> Result<Vec<u8>, Fail> {
 fn has_two_commands(alloc: Global, bytes: &[u8]) -> bool {
     one_script();
     one_script_refusal();
-    script_or_refused();
+    no_script_is_refused();
     no_text_is_neither();
     no_script_is_neither();
     one_live_text();

@@ -6,15 +6,15 @@ use Rattle.base.proofs.Results.{passed_on}
 use Rattle.controller_table.specs.declared.text_fault.TextFault.TheVariants.{Memory}
 use Rattle.controller_table.specs.TextKinds.{first_line, turn_rules, HasFewTurnsFor}
 use Rattle.controller_table.specs.KindTexts.{RowsModel, IsTextOf}
-use Rattle.controller_table.specs.inside.TextReading.{IsRefusedAfter}
+use Rattle.controller_table.specs.HeadedTexts.{Only, AreLinesRefusedFor}
 use Rattle.controller_table.proofs.EachKind.{few_cells}
 use Rattle.controller_table.proofs.TextsRead.{many_turns, text_told, rows_fault, plant_fault, told_by, refused_by}
 use Rattle.controller_table.proofs.text_reader.read_after.Goals as goal
 
 pub returns-in_err-plant-clause-refused : goal.returns-in_err-plant-clause-refused
 returns-in_err-plant-clause-refused c =
-    passed_on c.from_residual.result c.in_err-plant.field-0.0 (λ fault. (fault ≡ Memory → ⊥) → IsRefusedAfter c.args.kind c.args.rest.now fault) c.from_residual.ensures.1 (λ some.
-    plant_fault c.args.kind c.args.rest.now _ c.in_err-plant.ensures.refused)
+    passed_on c.from_residual.result c.in_err-plant.field-0.0 (λ fault. (fault ≡ Memory → ⊥) → AreLinesRefusedFor (Only c.args.kind) (first_line c.args.kind ++ c.args.rest.now) fault) c.from_residual.ensures.1
+    (plant_fault c.args.kind c.args.rest.now _ c.in_err-plant.ensures.refused)
 
 pub returns-then-not-has_few_turns-clause-refused : goal.returns-then-not-has_few_turns-clause-refused
 returns-then-not-has_few_turns-clause-refused c =
@@ -60,4 +60,4 @@ returns-in-Err-clause-refused c =
     let few : HasFewTurnsFor c.args.kind p = search rules in
     let refused = refused_by _ (turn_rules c.args.kind p) _ (drop length c.args.rest.now) c.in-Err.fault c.rules.ensures (take_rest c.args.rest.now length) c.in-Err.ensures.refused in
     let told = rows_fault c.args.kind c.args.rest.now p length at.0 at.1 few c.line_count.result c.line_count.ensures.count c.in-Err.fault refused in
-    λ _. rw (c.into.ensures, c.after.ensures) told
+    rw (c.into.ensures, c.after.ensures) told

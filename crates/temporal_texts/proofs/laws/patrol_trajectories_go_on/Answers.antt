@@ -1,4 +1,4 @@
-use Rattle.temporal_texts.proofs.TextLaws as laws
+use Rattle.temporal_texts.proofs.Trajectories as laws
 use Rattle.temporal_texts.proofs.laws.patrol_trajectories_go_on.Goals as goal
 
 pub returns : goal.returns

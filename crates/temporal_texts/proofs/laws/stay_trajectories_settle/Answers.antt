@@ -1,4 +1,4 @@
-use Rattle.temporal_texts.proofs.TextLaws as laws
+use Rattle.temporal_texts.proofs.Trajectories as laws
 use Rattle.temporal_texts.proofs.laws.stay_trajectories_settle.Goals as goal
 
 pub returns : goal.returns

@@ -25,7 +25,7 @@ returns-in_err-text-clause-refused c =
     let fault = c.in_err-text.field-0.0 in
     let short = subst (λ (n : ℕ). length bytes ≤ n) c.most_bytes.ensures c.if-bytes-most_bytes.false in
     passed_on c.from_residual.result (control_fault fault) (λ f. (f ≡ Memory → ⊥) → IsNoTextFor bytes f) c.from_residual.ensures.1 (λ some.
-    refused_after bytes c.in-Some.kind c.in-Some.rest.now fault c.in-Some.ensures short (λ e. some (ap control_fault e)) (c.in_err-text.ensures.refused (λ e. some (ap control_fault e))))
+    refused_after bytes c.in-Some.kind c.in-Some.rest.now fault c.in-Some.ensures short (c.in_err-text.ensures.refused (λ e. some (ap control_fault e))))
 
 pub returns-clause-read : goal.returns-clause-read
 returns-clause-read c =

@@ -1,7 +1,7 @@
 use Rattle.std.proofs.Common.{refl, sym, subst}
 use Rattle.plant_game.specs.Abstraction.{IsGameOf}
 use Rattle.abstraction_table.specs.Table.{game_of}
-use Rattle.temporal_texts.proofs.TextLaws.{stay_held}
+use Rattle.temporal_texts.proofs.StayRows.{stay_held}
 use Rattle.temporal_promises.proofs.FittingStayRows.{stay_rows_fit}
 use Rattle.synth_run.proofs.Tables.{stay_table}
 use Rattle.base.proofs.Results.{passed_on}

@@ -1,6 +1,6 @@
 use Rattle.std.proofs.Common.{sym, ap, subst, ◌∙◌}
 use Rattle.controller_table.specs.KindTexts.{RowsModel, HoldsRows}
-use Rattle.temporal_texts.proofs.OneStayText.{rows_held}
+use Rattle.temporal_texts.proofs.StayRows.{rows_held}
 use Rattle.temporal_texts.proofs.stay_table.StayTable.of.Goals as goal
 
 pub invariant_of-result : goal.invariant_of-result

@@ -1,6 +1,5 @@
--- A stay text is the text of its kind, of one turn, and says one thing.
-use Rattle.std.proofs.Common.{◌≡◌, ℕ, List, [], ◌∷◌, Option, refl, subst}
-use Rattle.base.proofs.Lists.{same_head}
+-- A stay text is the text of its kind, of one turn.
+use Rattle.std.proofs.Common.{◌≡◌, List, [], ◌∷◌, Option, refl, subst}
 use Rattle.game_core.specs.declared.game.Row.{Row}
 use Rattle.plant_record.specs.Description.{Description}
 use Rattle.plant_record.specs.Limits.{IsWithinLimits}
@@ -9,18 +8,11 @@ use Rattle.controller_table.specs.declared.text_kind.TextKind.{TextKind}
 use Rattle.controller_table.specs.declared.text_kind.TextKind.TheVariants.{Stay}
 use Rattle.controller_table.specs.TextKinds.{stay_rules, turn_rules}
 use Rattle.controller_table.specs.KindTexts.{HoldsRows}
-use Rattle.controller_table.proofs.HeadedLaws.{one_text}
 use Rattle.controller_table.proofs.TableTexts.{one_within, within_one}
-use Rattle.temporal_texts.specs.StayText.{IsStayText}
 
 -- rows that fit a plant are those of a stay text of it
 pub stay_held : (p : Description) (rows : List (Option Row)) → IsWithinLimits p → AreRowsWithin (stay_rules p) rows → HoldsRows (record { kind = Stay; plant = p; turns = rows ∷ [] })
 stay_held p rows limits within = record { limits = limits; few = tt; within = one_within (turn_rules Stay p) rows refl within }
-
-pub one_stay_text : (bytes : List ℕ) (p q : Description) (rows others : List (Option Row)) → IsStayText bytes p rows → IsStayText bytes q others → (p ≡ q) × (rows ≡ others)
-one_stay_text bytes p q rows others h k =
-    let same = one_text Stay Stay bytes p q (rows ∷ []) (others ∷ []) h k in
-    (same.1, same_head rows others [] [] same.2)
 
 -- rows that a stay text holds fit its plant
 pub rows_held : (kind : TextKind) (p : Description) (turns : List (List (Option Row))) (rows : List (Option Row)) → kind ≡ Stay → turns ≡ rows ∷ [] → AreTurnsWithin (turn_rules kind p) turns → AreRowsWithin (stay_rules p) rows

@@ -1,0 +1,5 @@
+use Rattle.controller_table.proofs.HeadedLaws as laws
+use Rattle.controller_table.proofs.laws.one_text.Goals as goal
+
+pub returns : goal.returns
+returns c = laws.one_text

@@ -1,5 +1,0 @@
-use Rattle.temporal_texts.proofs.TextLaws as laws
-use Rattle.temporal_texts.proofs.laws.one_stay_refusal.Goals as goal
-
-pub returns : goal.returns
-returns c = laws.one_stay_refusal

@@ -1,5 +1,0 @@
-use Rattle.temporal_texts.proofs.TextLaws as laws
-use Rattle.temporal_texts.proofs.laws.patrol_text_or_refused.Goals as goal
-
-pub returns : goal.returns
-returns c = laws.patrol_text_or_refused
