@@ -1,10 +1,10 @@
 -- What a run of a live script gives.
 use Rattle.std.specs.Prelude.{◌≡◌, ◌≢◌, ◌⊎◌, ◌↔◌, ℕ, ◌+◌, List, [], ◌∷◌, drop, Option, Some, IfSome, codes}
 use Rattle.std.specs.Fmt.{decimal}
-use Rattle.run_devices.specs.Devices.{Reading, Writing, GainsWhole, GainsPart, TakesAtMost, AreUnused}
+use Rattle.run_devices.specs.Devices.{Reading, Writing, GainsWhole, GainsPart, Reports, TakesAtMost, AreUnused}
 use Rattle.base.specs.Workers.{AreWorkers}
-use Rattle.command_line.specs.Statuses.{status_of}
-use Rattle.command_line.specs.Ends.{IsShownBy, IsReported}
+use Rattle.command_line.specs.Statuses.{status_of, line_of}
+use Rattle.command_line.specs.Ends.{IsShownBy}
 use Rattle.command_line.specs.declared.outcome.Failure.TheVariants.{Read, Write, Memory}
 use Rattle.command_line.specs.declared.outcome.Outcome.{Outcome}
 use Rattle.command_line.specs.declared.outcome.Outcome.TheVariants.{Done, Usage, Refused, Failed}
@@ -55,11 +55,11 @@ pub record Gives (arguments : List (List ℕ)) (outcome : Outcome) (source : Rea
   pub unused : outcome ≡ Usage → AreUnused source out
   pub of_command : (readers : ℕ) → IsLiveCommand arguments readers → IsLiveEnd outcome source out
 
--- A run with some arguments ends with a status: that of an outcome whose line is reported.
+-- A run with some arguments ends with the status of an outcome, and reports its line: nothing where this has no bytes.
 pub record IsLiveRun (arguments : List (List ℕ)) (status : ℕ) (source : Reading) (out err : Writing) : Type 0 where
   pub outcome : Outcome
   pub status_is : status ≡ status_of outcome
-  pub said : IsReported outcome err
+  pub said : Reports err (line_of outcome)
   pub gives : Gives arguments outcome source out
 
 -- whatever a script is to be answered or refused for is told, unless there is no memory

@@ -5,10 +5,10 @@ use Rattle.command_line.specs.declared.command.Command.{Command}
 use Rattle.command_line.specs.declared.outcome.Failure.TheVariants.{Read, Write, Memory}
 use Rattle.command_line.specs.declared.outcome.Outcome.{Outcome}
 use Rattle.command_line.specs.declared.outcome.Outcome.TheVariants.{Done, Usage, Failed}
-use Rattle.run_devices.specs.Devices.{Reading, Writing, GainsWhole, GainsPart, TakesAtMost, AreUnused}
+use Rattle.run_devices.specs.Devices.{Reading, Writing, GainsWhole, GainsPart, Reports, TakesAtMost, AreUnused}
 use Rattle.command_line.specs.Command.{IsOfCommand, AreOfNoCommand}
-use Rattle.command_line.specs.Statuses.{status_of}
-use Rattle.command_line.specs.Ends.{IsShownBy, IsReported}
+use Rattle.command_line.specs.Statuses.{status_of, line_of}
+use Rattle.command_line.specs.Ends.{IsShownBy}
 use Rattle.synth_run.specs.Sources.{Reads, bytes_for, most_read}
 use Rattle.command_outcomes.specs.IsOutcomeFor.{IsOutcomeFor}
 use Rattle.synth_run.specs.Headline.{IsAnswer}
@@ -60,11 +60,11 @@ pub record Gives (arguments : List (List ℕ)) (outcome : Outcome) (source : Rea
   pub unplayed : outcome ≡ Usage → played ≡ None
   pub of_command : (command : Command) → IsOfCommand arguments command → IsRunOf command outcome source out played
 
--- A run with some arguments ends with a status: that of an outcome whose line is reported.
+-- A run with some arguments ends with the status of an outcome, and reports its line: nothing where this has no bytes.
 pub record IsRun (arguments : List (List ℕ)) (status : ℕ) (source : Reading) (out err : Writing) (played : Option (BoardModel × RootModel)) : Type 0 where
   pub outcome : Outcome
   pub status_is : status ≡ status_of outcome
-  pub said : IsReported outcome err
+  pub said : Reports err (line_of outcome)
   pub gives : Gives arguments outcome source out played
 
 -- whatever a text demands of a command is answered, unless there is no memory
