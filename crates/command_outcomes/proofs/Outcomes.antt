@@ -15,6 +15,7 @@ use Rattle.game_core.specs.declared.game.Row.{Row}
 use Rattle.game_core.specs.Game.{Game, IsGame}
 use Rattle.game_core.proofs.Right.{solutions_are_right}
 use Rattle.plant_game.specs.PlantSolution.{Solves, IsSolutionOf}
+use Rattle.table_check.specs.Verdicts.{IsRightFor}
 use Rattle.plant_game.proofs.EdgeCounts.{one_edge_count}
 use Rattle.plant_game.proofs.OneGame.{one_game}
 use Rattle.controller_table.specs.declared.table_fault.TableFault.{TableFault}
@@ -28,7 +29,7 @@ use Rattle.command_line.specs.declared.command.Command.TheVariants.{Synth, Check
 use Rattle.command_line.specs.declared.outcome.Refusal.{Refusal}
 use Rattle.command_line.specs.declared.outcome.Refusal.TheVariants.{Malformed, Overflow, Limit, TooManyTurns, Invalid, NoRow}
 use Rattle.command_line.specs.declared.outcome.Outcome.TheVariants.{Done, Usage, Refused, Failed}
-use Rattle.command_outcomes.specs.IsOutcomeFor.{IsAccepted, IsSolvable, HasEdges, IsPatrollable, IsRightFor, IsFirstWrong, IsAnswerable, IsRefusalFor}
+use Rattle.command_outcomes.specs.IsOutcomeFor.{IsAccepted, IsSolvable, HasEdges, IsPatrollable, IsFirstWrong, IsAnswerable, IsRefusalFor}
 use Rattle.command_outcomes.specs.Stages.{SpellPlantWith, IsReadRefusal, IsRefused, IsOverflow, HasManyEdges, IsPlantRefusal, IsPatrolRefusal, IsTextRefusal, AreRight, IsRowsRefusal, IsStartRefusal, AreTableWith, IsRefusedTable, IsTableRefusal, IsStagedRefusal}
 use Rattle.command_outcomes.specs.Traces.{HasRowFor, HasNoRowFor}
 use Rattle.command_outcomes.specs.OutcomeLaws.{OneOutcomePerText}

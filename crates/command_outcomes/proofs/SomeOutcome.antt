@@ -16,7 +16,7 @@ use Rattle.controller_table.specs.declared.text_kind.TextKind.TheVariants.{Patro
 use Rattle.controller_table.proofs.EachKind.{few_or_many}
 use Rattle.command_line.specs.declared.outcome.Refusal.{Refusal}
 use Rattle.command_line.specs.declared.outcome.Refusal.TheVariants.{Malformed, Overflow, Limit, TooManyTurns, Invalid, NoRow}
-use Rattle.command_outcomes.specs.IsOutcomeFor.{IsAccepted, IsSolvable, HasEdges, IsPatrollable, IsRightFor, IsAnswerable}
+use Rattle.command_outcomes.specs.IsOutcomeFor.{IsAccepted, IsSolvable, HasEdges, IsPatrollable, IsAnswerable}
 use Rattle.command_outcomes.specs.Stages.{IsRefused, IsPlantRefusal, IsPatrolRefusal, SpellPlantWith, IsOverflow, IsTextRefusal, AreRight, IsRowsRefusal, IsStartRefusal, AreTableWith, IsTableRefusal, IsStagedRefusal}
 use Rattle.command_outcomes.proofs.Undeniable.{first_without}
 use Rattle.command_outcomes.proofs.SomeGame.{some_game}
@@ -27,6 +27,7 @@ use Rattle.game_core.proofs.Right.{right_rows_are_the_solution}
 use Rattle.plant_record.specs.declared.aims.GoalKind.{GoalKind}
 use Rattle.plant_record.specs.declared.aims.GoalKind.TheVariants.{Reach, Keep}
 use Rattle.plant_game.specs.PlantSolution.{Solves}
+use Rattle.table_check.specs.Verdicts.{IsRightFor}
 use Rattle.controller_table.specs.Choice.{row_at}
 use Rattle.controller_table.specs.declared.table_fault.TableFault.{TableFault}
 use Rattle.controller_table.specs.declared.table_fault.TableFault.TheVariants as tables

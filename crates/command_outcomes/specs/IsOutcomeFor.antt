@@ -4,8 +4,6 @@ use Rattle.plant_record.specs.declared.limit_kind.LimitKind.{LimitKind}
 use Rattle.plant_record.specs.declared.limit_kind.LimitKind.TheVariants.{Edges}
 use Rattle.plant_text.specs.declared.plant_fault.PlantFault.{PlantFault}
 use Rattle.plant_text.specs.declared.plant_fault.PlantFault.TheVariants as plants
-use Rattle.plant_record.specs.declared.aims.GoalKind.{GoalKind}
-use Rattle.plant_record.specs.declared.aims.GoalKind.TheVariants.{Reach, Keep}
 use Rattle.plant_record.specs.Description.{Description}
 use Rattle.plant_record.specs.Limits.{IsWithinLimits}
 use Rattle.plant_text.specs.Grammar.{Spells}
@@ -14,11 +12,9 @@ use Rattle.successor_box.specs.Deviations.{HasNoOverflow, IsFirstOverflow}
 use Rattle.game_core.specs.declared.game.Row.{Row}
 use Rattle.game_core.specs.Game.{Game}
 use Rattle.game_core.specs.Judging.{IsFirstFailure}
-use Rattle.game_core.specs.Keep.{IsKeepRow}
-use Rattle.game_core.specs.Right.{IsRight}
-use Rattle.game_core.specs.Solution.{row_of}
 use Rattle.plant_game.specs.Abstraction.{IsGameOf, AreEdges}
 use Rattle.plant_game.specs.PlantSolution.{IsSolutionOf}
+use Rattle.table_check.specs.Verdicts.{IsRightFor}
 use Rattle.controller_table.specs.declared.table_fault.TableFault.{TableFault}
 use Rattle.controller_table.specs.declared.table_fault.TableFault.TheVariants as tables
 use Rattle.controller_table.specs.Tables.{IsTable}
@@ -53,11 +49,6 @@ pub record IsAccepted (bytes : List ℕ) (p : Description) : Type 0 where
   pub short : IsShort bytes
   pub spells : Spells bytes p
   pub limits : IsWithinLimits p
-
--- a cell's row is right for a goal: to reach a target, beside the rows of its successors; to be kept, as the cell is kept or not
-abbrev pub IsRightFor : GoalKind → Game → List (Option Row) → ℕ → Type 0
-IsRightFor Reach g rows c = IsRight g rows c
-IsRightFor Keep g rows c = IsKeepRow g c (row_of rows c)
 
 -- The cell is the least whose row isn't right in the plant's game.
 pub record IsFirstWrong (p : Description) (rows : List (Option Row)) (cell : ℕ) : Type 0 where
