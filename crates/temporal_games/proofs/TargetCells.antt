@@ -14,8 +14,7 @@ use Rattle.plant_record.specs.Plants.{IsPlant}
 use Rattle.plant_game.specs.Abstraction.{IsGameOf}
 use Rattle.grid_quantiser.proofs.CellPoints.{ends_from_inside, inside_from_ends}
 use Rattle.plant_record.proofs.lemmas.SoundPlants.{sound}
-use Rattle.plant_game.specs.Marks.{target_at}
-use Rattle.turn_rows.specs.Targets.{IsInTarget}
+use Rattle.turn_rows.specs.Targets.{target_at, IsInTarget}
 
 at_most_told : (axes : List Axis) (xs ys : List ℤ) → IsAtMost axes xs ys ⊎ (IsAtMost axes xs ys → ⊥)
 at_most_told [] xs ys = inl tt
