@@ -16,9 +16,9 @@ use Rattle.plant_record.proofs.lemmas.SoundPlants.{sound}
 use Rattle.successor_box.specs.SuccessorBoxes.{IsBoxOf, low_corner, high_corner}
 use Rattle.successor_box.proofs.BoxDomains.{by_box_in_domain}
 use Rattle.successor_box.proofs.Enabled.{corners_ordered}
-use Rattle.plant_game.specs.Abstraction.{IsGameOf}
+use Rattle.plant_game.specs.Abstraction.{IsMarkAt, IsGameOf}
 use Rattle.pair_box.specs.PlantBoxes.{AreBoxesOf, pairs_of, pair_of}
-use Rattle.plant_game.specs.Marks.{IsMarkAt, AreMarksOf, LiesInSomeTarget}
+use Rattle.plant_game.specs.Marks.{AreMarksOf, LiesInSomeTarget}
 use Rattle.plant_game.proofs.BoxGames.{is_game_of}
 use Rattle.base.proofs.Products.{part_fits}
 use Rattle.text_pieces.proofs.Undeniable.{either}

@@ -117,8 +117,7 @@ module _ (p : Description) (limits : IsWithinLimits p) where
       game = is_game marks marks_of boxes boxes_of.one_each ordered;
       cells = refl;
       inputs = refl;
-      goals = λ c lt. (marks_of.each c lt).0;
-      obstacles = λ c lt. (marks_of.each c lt).1;
+      marks = marks_of.each;
       successors = lists_are;
     }
 

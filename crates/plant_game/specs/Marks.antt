@@ -1,17 +1,13 @@
 -- The marks of the cells of a plant.
-use Rattle.std.specs.Prelude.{◌≡◌, ◌⊎◌, ℕ, ◌<◌, ◌↔◌, List, length, slice_index_or}
+use Rattle.std.specs.Prelude.{◌≡◌, ◌⊎◌, ℕ, ◌<◌, List, length, slice_index_or}
 use Rattle.std.specs.List.{Any}
 use Rattle.grid_quantiser.specs.Axes.{cells_of}
 use Rattle.grid_quantiser.specs.CellBoxes.{LiesInside}
 use Rattle.game_core.specs.declared.game.Mark.{Mark}
-use Rattle.game_core.specs.declared.game.Mark.TheVariants.{Goal, Obstacle, Plain}
+use Rattle.game_core.specs.declared.game.Mark.TheVariants.{Plain}
 use Rattle.plant_record.specs.declared.aims.StateBox.{StateBox}
 use Rattle.plant_record.specs.Description.{Description, axes_of}
-use Rattle.plant_record.specs.CellMarks.{IsGoalCell, IsObstacleCell}
-
--- the mark of a cell
-abbrev pub IsMarkAt : Description → ℕ → Mark → Type 0
-IsMarkAt p c mark = ((mark ≡ Goal) ↔ IsGoalCell p c) × ((mark ≡ Obstacle) ↔ IsObstacleCell p c)
+use Rattle.plant_game.specs.Abstraction.{IsMarkAt}
 
 -- The marks of all cells.
 pub record AreMarksOf (p : Description) (marks : List Mark) : Type 0 where
