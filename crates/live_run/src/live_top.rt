@@ -5,7 +5,7 @@ ghost use Rattle.base.specs.Workers.{AreWorkers};
 ghost use Rattle.live_run.specs.LiveRuns.{IsLiveCommand, IsLiveEnd, Gives, IsLiveRun, IsAnswered, IsCompleteAnswer};
 ghost use Rattle.live_run.specs.inside.LiveWorking.{IsWorkedOut, IsStopped, IsWrittenOut};
 
-use crate::answering::answers_to;
+use crate::answers::answers_to;
 use crate::live_arguments::parse_readers;
 use crate::live_stop::LiveStop;
 use base::limits::SCRIPT_LIMIT;
