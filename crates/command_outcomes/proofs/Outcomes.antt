@@ -30,10 +30,10 @@ use Rattle.command_line.specs.declared.outcome.Refusal.{Refusal}
 use Rattle.command_line.specs.declared.outcome.Refusal.TheVariants.{Malformed, Overflow, Limit, TooManyTurns, Invalid, NoRow}
 use Rattle.command_line.specs.declared.outcome.Outcome.TheVariants.{Done, Usage, Refused, Failed}
 use Rattle.command_outcomes.specs.IsOutcomeFor.{IsAccepted, IsSolvable, HasEdges, IsPatrollable, IsFirstWrong, IsAnswerable, IsRefusalFor}
-use Rattle.command_outcomes.specs.Stages.{SpellPlantWith, IsReadRefusal, IsRefused, IsOverflow, HasManyEdges, IsPlantRefusal, IsPatrolRefusal, IsTextRefusal, AreRight, IsRowsRefusal, IsStartRefusal, AreTableWith, IsRefusedTable, IsTableRefusal, IsStagedRefusal}
+use Rattle.command_outcomes.specs.Stages.{SpellPlantWith, IsReadRefusal, IsRefused, IsOverflow, HasManyEdges, IsPlantRefusal, IsPatrolRefusal, IsTextRefusal, IsRowsRefusal, IsStartRefusal, AreTableWith, IsRefusedTable, IsTableRefusal, IsStagedRefusal}
 use Rattle.command_outcomes.specs.Traces.{HasRowFor, HasNoRowFor}
 use Rattle.command_outcomes.specs.OutcomeLaws.{OneOutcomePerText}
-use Rattle.command_outcomes.proofs.Stages.{staged}
+use Rattle.command_outcomes.proofs.Stages.{PassCheck, staged}
 use Rattle.command_outcomes.proofs.Below.{one_plant_per_text, one_refusal, read_or_refused, one_table_per_text, one_table_refusal, table_or_refused}
 use Rattle.table_check.proofs.Verdicts.{one_first}
 
@@ -150,7 +150,7 @@ no_wrong p rows c plant solution wrong =
     let first = subst (λ (h : Game). IsFirstFailure (IsRightFor p.goal h rows) 0 h.cells (Some c)) same wrong.wrong in
     first.2 (each_right p.goal solution.game rows c solution.abstraction.game solution.solution first.1)
 
-rows_exact : (p : Description) (rows : List (Option Row)) → IsPlant p → IsExact (AreRight p rows) (IsRowsRefusal p rows)
+rows_exact : (p : Description) (rows : List (Option Row)) → IsPlant p → IsExact (PassCheck p rows) (IsRowsRefusal p rows)
 rows_exact p rows plant =
     one_more (IsSolvable p) (IsSolutionOf p rows) (IsPlantRefusal p) (λ r. (cell : ℕ) × (r ≡ Invalid cell) × IsSolvable p × IsFirstWrong p rows cell) (plant_exact p plant) (λ r f. f.2)
     (λ r s f g. f.1 ∙ ap Invalid (one_wrong p rows f.0 g.0 plant f.3 g.3) ∙ sym g.1)
@@ -224,7 +224,7 @@ table_exact Passes Refuses exact bytes =
 
 staged_exact : (command : Command) (bytes : List ℕ) → IsExact (IsAnswerable command bytes) (IsStagedRefusal command bytes)
 staged_exact (Synth workers) bytes = text_exact IsSolvable IsPlantRefusal plant_exact bytes
-staged_exact Check bytes = table_exact AreRight IsRowsRefusal rows_exact bytes
+staged_exact Check bytes = table_exact PassCheck IsRowsRefusal rows_exact bytes
 staged_exact Upgrade bytes = table_exact (λ p rows. HasNoOverflow p) (λ p rows r. IsOverflow p r) (λ p rows plant. range_exact p) bytes
 staged_exact (Sim samples seed start) bytes = table_exact (λ p rows. HasNoOverflow p × HasRowFor p rows start) (IsStartRefusal start) (λ p rows plant. start_exact p rows start) bytes
 staged_exact (Demo number workers) bytes = record { one = λ r s f g. absurd f; never_both = λ passes r f. f }
