@@ -59,12 +59,12 @@ pub record IsFirstWrong (p : Description) (rows : List (Option Row)) (cell : ℕ
 -- ---- the text of a command
 
 -- the bytes are a text of the command, and the plant is its plant: `check`, `upgrade` and `sim` read a table
-abbrev pub Hold : Command → List ℕ → Description → Type 0
-Hold Check bytes p = (rows : List (Option Row)) × IsTable bytes p rows
-Hold Upgrade bytes p = (rows : List (Option Row)) × IsTable bytes p rows
-Hold (Sim samples seed start) bytes p = (rows : List (Option Row)) × IsTable bytes p rows
-Hold (Demo number workers) bytes p = ⊥
-Hold command bytes p = IsAccepted bytes p
+abbrev pub IsTextFor : Command → List ℕ → Description → Type 0
+IsTextFor Check bytes p = (rows : List (Option Row)) × IsTable bytes p rows
+IsTextFor Upgrade bytes p = (rows : List (Option Row)) × IsTable bytes p rows
+IsTextFor (Sim samples seed start) bytes p = (rows : List (Option Row)) × IsTable bytes p rows
+IsTextFor (Demo number workers) bytes p = ⊥
+IsTextFor command bytes p = IsAccepted bytes p
 
 -- the bytes are no such text, by the fault of a plant's text or by that of a table
 abbrev pub AreUnreadable : Command → List ℕ → PlantFault → TableFault → Type 0
@@ -75,15 +75,15 @@ AreUnreadable (Demo number workers) bytes of_plant of_table = ⊥
 AreUnreadable command bytes of_plant of_table = IsRefusedFor bytes of_plant
 
 -- the command works on the plant's game
-abbrev pub Plays : Command → Type 0
-Plays Upgrade = ⊥
-Plays (Sim samples seed start) = ⊥
-Plays command = Unit {0}
+abbrev pub BuildsGame : Command → Type 0
+BuildsGame Upgrade = ⊥
+BuildsGame (Sim samples seed start) = ⊥
+BuildsGame command = Unit {0}
 
 -- the limit is that on the edges of the game, and the game has more
 abbrev pub HasTooManyEdges : Command → List ℕ → LimitKind → Type 0
 HasTooManyEdges command bytes what =
-    (what ≡ Edges) × Plays command × ((p : Description) × Hold command bytes p × ((edges : ℕ) × HasEdges p edges × (EDGES_LIMIT < edges)))
+    (what ≡ Edges) × BuildsGame command × ((p : Description) × IsTextFor command bytes p × ((edges : ℕ) × HasEdges p edges × (EDGES_LIMIT < edges)))
 
 -- the bytes are to be answered
 abbrev pub IsAnswerable : Command → List ℕ → Type 0
@@ -98,7 +98,7 @@ IsAnswerable command bytes = (p : Description) × IsAccepted bytes p × IsSolvab
 abbrev pub IsRefusalFor : Command → List ℕ → Refusal → Type 0
 IsRefusalFor command bytes (Malformed line) = AreUnreadable command bytes (plants.Malformed line) (tables.Malformed line)
 IsRefusalFor command bytes (Limit what) = AreUnreadable command bytes (plants.Limit what) (tables.Limit what) ⊎ HasTooManyEdges command bytes what
-IsRefusalFor command bytes (Overflow equation input) = (p : Description) × Hold command bytes p × IsFirstOverflow p equation input
+IsRefusalFor command bytes (Overflow equation input) = (p : Description) × IsTextFor command bytes p × IsFirstOverflow p equation input
 IsRefusalFor (Patrol workers) bytes TooManyTurns = (p : Description) × IsAccepted bytes p × IsSolvable p × (HasFewTurns p → ⊥)
 IsRefusalFor Check bytes (Invalid cell) = (p : Description) × (rows : List (Option Row)) × IsTable bytes p rows × IsSolvable p × IsFirstWrong p rows cell
 IsRefusalFor (Sim samples seed start) bytes NoRow = (p : Description) × (rows : List (Option Row)) × IsTable bytes p rows × HasNoOverflow p × HasNoRowFor p rows start

@@ -50,7 +50,7 @@ pub record IsLiveEnd (outcome : Outcome) (source : Reading) (out : Writing) : Ty
   pub shown : IsShownBy outcome source out
 
 -- What a run with some arguments gives: what their command does, or `usage` where they are of no command.
-pub record Gives (arguments : List (List ℕ)) (outcome : Outcome) (source : Reading) (out : Writing) : Type 0 where
+pub record IsLiveRunWith (arguments : List (List ℕ)) (outcome : Outcome) (source : Reading) (out : Writing) : Type 0 where
   pub usage : (outcome ≡ Usage) ↔ ((readers : ℕ) → IsLiveCommand arguments readers → ⊥)
   pub unused : outcome ≡ Usage → AreUnused source out
   pub of_command : (readers : ℕ) → IsLiveCommand arguments readers → IsLiveEnd outcome source out
@@ -60,7 +60,7 @@ pub record IsLiveRun (arguments : List (List ℕ)) (status : ℕ) (source : Read
   pub outcome : Outcome
   pub status_is : status ≡ status_of outcome
   pub said : Reports err (line_of outcome)
-  pub gives : Gives arguments outcome source out
+  pub gives : IsLiveRunWith arguments outcome source out
 
 -- whatever a script is to be answered or refused for is told, unless there is no memory
 pub record IsCompleteAnswer (status : ℕ) (script : List ℕ) : Type 0 where

@@ -35,12 +35,12 @@ pub record Writes (command : Command) (outcome : Outcome) (source : Reading) (ou
   pub cut_off : outcome ≡ Failed Write → IfSome (bytes_for command source.before) (λ bytes. IsCutOff command bytes out)
 
 -- a source that tells its bytes was read to its end, or to one byte past the limit of a command's text
-abbrev pub IsRead : Command → Reading → Type 0
-IsRead command source = IfSome source.before (λ bytes. source.after ≡ Some (drop (most_read command) bytes))
+abbrev pub IsSourceRead : Command → Reading → Type 0
+IsSourceRead command source = IfSome source.before (λ bytes. source.after ≡ Some (drop (most_read command) bytes))
 
 -- What a run of a command took of its source: all that it reads, unless it failed before, and never more.
-pub record Takes (command : Command) (outcome : Outcome) (source : Reading) : Type 0 where
-  pub read : outcome ≢ Failed Read → outcome ≢ Failed Memory → IsRead command source
+pub record TakesFor (command : Command) (outcome : Outcome) (source : Reading) : Type 0 where
+  pub read : outcome ≢ Failed Read → outcome ≢ Failed Memory → IsSourceRead command source
   pub never_past : TakesAtMost source.before source.after (most_read command)
   pub leaves_alone : (Reads command → ⊥) → source.after ≡ source.before
 
@@ -48,13 +48,13 @@ pub record Takes (command : Command) (outcome : Outcome) (source : Reading) : Ty
 pub record IsRunOf (command : Command) (outcome : Outcome) (source : Reading) (out : Writing) (played : Option (BoardModel × RootModel)) : Type 0 where
   pub ends : Ends command (bytes_for command source.before) outcome
   pub writes : Writes command outcome source out
-  pub takes : Takes command outcome source
+  pub takes : TakesFor command outcome source
   pub leaves : outcome ≡ Done → IsPlayed command source.before played
   pub leaves_nothing : outcome ≢ Done → played ≡ None
   pub shown : IsShownBy outcome source out
 
 -- What a run with some arguments gives: what their command does, or `usage` where they are of no command.
-pub record Gives (arguments : List (List ℕ)) (outcome : Outcome) (source : Reading) (out : Writing) (played : Option (BoardModel × RootModel)) : Type 0 where
+pub record IsRunWith (arguments : List (List ℕ)) (outcome : Outcome) (source : Reading) (out : Writing) (played : Option (BoardModel × RootModel)) : Type 0 where
   pub usage : (outcome ≡ Usage) ↔ AreOfNoCommand arguments
   pub unused : outcome ≡ Usage → AreUnused source out
   pub unplayed : outcome ≡ Usage → played ≡ None
@@ -65,7 +65,7 @@ pub record IsRun (arguments : List (List ℕ)) (status : ℕ) (source : Reading)
   pub outcome : Outcome
   pub status_is : status ≡ status_of outcome
   pub said : Reports err (line_of outcome)
-  pub gives : Gives arguments outcome source out played
+  pub gives : IsRunWith arguments outcome source out played
 
 -- whatever a text demands of a command is answered, unless there is no memory
 abbrev pub IsCompleteAnswer : Command → ℕ → List ℕ → Type 0
