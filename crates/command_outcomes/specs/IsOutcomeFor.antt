@@ -1,4 +1,4 @@
--- What a text demands: to be refused for the first reason that applies, or to be answered.
+-- What a text demands of a command: to be refused for the first reason that applies, or to be answered.
 use Rattle.std.specs.Prelude.{◌≡◌, ◌⊎◌, ℕ, ◌<◌, ◌≤◌, List, Option, Some}
 use Rattle.plant_record.specs.declared.limit_kind.LimitKind.{LimitKind}
 use Rattle.plant_record.specs.declared.limit_kind.LimitKind.TheVariants.{Edges}
@@ -58,7 +58,8 @@ pub record IsFirstWrong (p : Description) (rows : List (Option Row)) (cell : ℕ
 
 -- ---- the text of a command
 
--- the bytes are a text of the command, and the plant is its plant: `check`, `upgrade` and `sim` read a table
+-- the bytes are a text that the command takes, of this plant: a table for `check`, `upgrade` and `sim`, else a plant text; `demo`
+-- takes none
 abbrev pub IsTextFor : Command → List ℕ → Description → Type 0
 IsTextFor Check bytes p = (rows : List (Option Row)) × IsTable bytes p rows
 IsTextFor Upgrade bytes p = (rows : List (Option Row)) × IsTable bytes p rows
@@ -74,7 +75,7 @@ AreUnreadable (Sim samples seed start) bytes of_plant of_table = IsTableRefusedF
 AreUnreadable (Demo number workers) bytes of_plant of_table = ⊥
 AreUnreadable command bytes of_plant of_table = IsRefusedFor bytes of_plant
 
--- the command works on the plant's game
+-- the command builds the plant's game, so its edges are limited
 abbrev pub BuildsGame : Command → Type 0
 BuildsGame Upgrade = ⊥
 BuildsGame (Sim samples seed start) = ⊥
@@ -85,7 +86,8 @@ abbrev pub HasTooManyEdges : Command → List ℕ → LimitKind → Type 0
 HasTooManyEdges command bytes what =
     (what ≡ Edges) × BuildsGame command × ((p : Description) × IsTextFor command bytes p × ((edges : ℕ) × HasEdges p edges × (EDGES_LIMIT < edges)))
 
--- the bytes are to be answered
+-- the bytes are to be answered: they are a text that the command takes, with all that it asks of the plant and the rows; `demo` is
+-- answered whatever they are
 abbrev pub IsAnswerable : Command → List ℕ → Type 0
 IsAnswerable Check bytes = (p : Description) × (rows : List (Option Row)) × IsTable bytes p rows × (IsSolvable p × IsSolutionOf p rows)
 IsAnswerable Upgrade bytes = (p : Description) × (rows : List (Option Row)) × IsTable bytes p rows × HasNoOverflow p
@@ -94,7 +96,7 @@ IsAnswerable (Demo number workers) bytes = Unit {0}
 IsAnswerable (Patrol workers) bytes = (p : Description) × IsAccepted bytes p × IsPatrollable p
 IsAnswerable command bytes = (p : Description) × IsAccepted bytes p × IsSolvable p
 
--- why they are refused, a case a reason, each of which excludes the others
+-- the bytes are to be refused for this reason; each reason excludes the others
 abbrev pub IsRefusalFor : Command → List ℕ → Refusal → Type 0
 IsRefusalFor command bytes (Malformed line) = AreUnreadable command bytes (plants.Malformed line) (tables.Malformed line)
 IsRefusalFor command bytes (Limit what) = AreUnreadable command bytes (plants.Limit what) (tables.Limit what) ⊎ HasTooManyEdges command bytes what
@@ -104,7 +106,7 @@ IsRefusalFor Check bytes (Invalid cell) = (p : Description) × (rows : List (Opt
 IsRefusalFor (Sim samples seed start) bytes NoRow = (p : Description) × (rows : List (Option Row)) × IsTable bytes p rows × HasNoOverflow p × HasNoRowFor p rows start
 IsRefusalFor command bytes refusal = ⊥
 
--- what the bytes demand: to be answered, or to be refused so
+-- the outcome that the bytes demand: to be answered, or to be refused for this reason
 abbrev pub IsOutcomeFor : Command → List ℕ → Outcome → Type 0
 IsOutcomeFor command bytes Done = IsAnswerable command bytes
 IsOutcomeFor command bytes (Refused refusal) = IsRefusalFor command bytes refusal

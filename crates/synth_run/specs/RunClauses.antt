@@ -1,4 +1,4 @@
--- What a run gives, by its arguments.
+-- What a run of the program does, by its arguments.
 use Rattle.std.specs.Prelude.{◌≡◌, ◌≢◌, ◌⊎◌, ◌↔◌, ℕ, List, drop, Option, Some, None, IfSome}
 use Rattle.cell_counters.specs.BoardModels.{BoardModel, RootModel}
 use Rattle.command_line.specs.declared.command.Command.{Command}
@@ -22,8 +22,8 @@ IsAnswered command bytes out = (text : List ℕ) × IsAnswer command bytes text 
 abbrev pub IsCutOff : Command → List ℕ → Writing → Type 0
 IsCutOff command bytes out = (text : List ℕ) × IsAnswer command bytes text × GainsPart out text
 
--- how a command ends whose arguments are right: as its text demands, or some text where the source doesn't tell its bytes; by
--- a read, where it makes one; by a write; or without memory
+-- how a command may end: as the bytes that it works on demand, or as some bytes do where the source doesn't tell them; by a
+-- failed read, where it reads its source; by a failed write; or without memory
 abbrev pub Ends : Command → Option (List ℕ) → Outcome → Type 0
 Ends command told (Failed Read) = Reads command
 Ends command told (Failed failure) = Unit {0}
@@ -38,13 +38,13 @@ pub record Writes (command : Command) (outcome : Outcome) (source : Reading) (ou
 abbrev pub IsSourceRead : Command → Reading → Type 0
 IsSourceRead command source = IfSome source.before (λ bytes. source.after ≡ Some (drop (most_read command) bytes))
 
--- What a run of a command took of its source: all that it reads, unless it failed before, and never more.
+-- What a run of a command took of its source: all that the command reads, unless the run failed before, and never more.
 pub record TakesFor (command : Command) (outcome : Outcome) (source : Reading) : Type 0 where
   pub read : outcome ≢ Failed Read → outcome ≢ Failed Memory → IsSourceRead command source
   pub never_past : TakesAtMost source.before source.after (most_read command)
   pub leaves_alone : (Reads command → ⊥) → source.after ≡ source.before
 
--- What a run of a command gives, by how it ends.
+-- What a run of a command reads, writes, reports of its devices and leaves of the game that it solved, by its outcome.
 pub record IsRunOf (command : Command) (outcome : Outcome) (source : Reading) (out : Writing) (played : Option (BoardModel × RootModel)) : Type 0 where
   pub ends : Ends command (bytes_for command source.before) outcome
   pub writes : Writes command outcome source out
@@ -53,7 +53,7 @@ pub record IsRunOf (command : Command) (outcome : Outcome) (source : Reading) (o
   pub leaves_nothing : outcome ≢ Done → played ≡ None
   pub shown : IsShownBy outcome source out
 
--- What a run with some arguments gives: what their command does, or `usage` where they are of no command.
+-- A run with some arguments has this outcome: what their command does, or `usage` where they are of no command.
 pub record IsRunWith (arguments : List (List ℕ)) (outcome : Outcome) (source : Reading) (out : Writing) (played : Option (BoardModel × RootModel)) : Type 0 where
   pub usage : (outcome ≡ Usage) ↔ AreOfNoCommand arguments
   pub unused : outcome ≡ Usage → AreUnused source out
@@ -67,6 +67,6 @@ pub record IsRun (arguments : List (List ℕ)) (status : ℕ) (source : Reading)
   pub said : Reports err (line_of outcome)
   pub gives : IsRunWith arguments outcome source out played
 
--- whatever a text demands of a command is answered, unless there is no memory
+-- the status is that of the outcome which the bytes demand of the command, or 8 where there was no memory left
 abbrev pub IsCompleteAnswer : Command → ℕ → List ℕ → Type 0
 IsCompleteAnswer command status bytes = (outcome : Outcome) → IsOutcomeFor command bytes outcome → (status ≡ status_of outcome) ⊎ (status ≡ 8)
