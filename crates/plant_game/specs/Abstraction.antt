@@ -7,7 +7,7 @@ use Rattle.game_core.specs.Game.{Game, IsGame, mark_of, successors_of}
 use Rattle.plant_record.specs.Description.{Description, axes_of, vectors_of}
 use Rattle.plant_record.specs.CellMarks.{IsGoalCell, IsObstacleCell}
 use Rattle.successor_box.specs.SuccessorBoxes.{AreSuccessors}
-use Rattle.pair_box.specs.PlantBoxes.{pairs_of, pair_of}
+use Rattle.pair_box.specs.PlantBoxes.{pairs_of_plant, pair_of_plant}
 
 -- the mark that a cell of a plant has in its game
 abbrev pub IsMarkAt : Description → ℕ → Mark → Type 0
@@ -24,6 +24,6 @@ pub record IsGameOf (p : Description) (g : Game) : Type 0 where
 -- The number of a plant's edges: how many successors all pairs have, those of obstacles and of goals included.
 pub record AreEdges (p : Description) (edges : ℕ) : Type 0 where
   pub lists : List (List ℕ)
-  pub one_each : length lists ≡ pairs_of p
-  pub each : (c u : ℕ) → c < cells_of (axes_of p) → u < vectors_of p.inputs → AreSuccessors p c u (slice_index_or lists (pair_of p c u) [])
+  pub one_each : length lists ≡ pairs_of_plant p
+  pub each : (c u : ℕ) → c < cells_of (axes_of p) → u < vectors_of p.inputs → AreSuccessors p c u (slice_index_or lists (pair_of_plant p c u) [])
   pub total : edges ≡ sum_by length lists
