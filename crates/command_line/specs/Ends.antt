@@ -1,13 +1,12 @@
 -- What the devices of a run show of its end.
-use Rattle.std.specs.Prelude.{◌≡◌, ◌≢◌, [], IsTrue}
-use Rattle.run_devices.specs.Devices.{next_count, Reading, Writing, GainsWhole, Reports}
+use Rattle.std.specs.Prelude.{◌≡◌, ◌≢◌, IsTrue}
+use Rattle.run_devices.specs.Devices.{next_count, Reading, Writing}
 use Rattle.run_devices.specs.declared.transfer.ReadFault.{ReadFault}
 use Rattle.run_devices.specs.declared.transfer.ReadFault.TheVariants as reads
 use Rattle.command_line.specs.declared.outcome.Failure.{Failure}
 use Rattle.command_line.specs.declared.outcome.Failure.TheVariants.{Read, Write, Memory}
 use Rattle.command_line.specs.declared.outcome.Outcome.{Outcome}
 use Rattle.command_line.specs.declared.outcome.Outcome.TheVariants.{Done, Failed}
-use Rattle.command_line.specs.Statuses.{line_of}
 
 -- the failure of a run whose source wasn't read
 abbrev pub failure_of : ReadFault → Failure
@@ -23,8 +22,3 @@ pub record IsShownBy (outcome : Outcome) (source : Reading) (out : Writing) : Ty
   pub sound_source : IsTrue source.is_sound → outcome ≢ Failed Read
   pub write_fault : outcome ≡ Failed Write → out.faults_after ≡ next_count out.faults_before
   pub no_write_fault : outcome ≢ Failed Write → out.faults_after ≡ out.faults_before
-
--- An end is said by its line.
-pub record IsReported (outcome : Outcome) (err : Writing) : Type 0 where
-  pub reported : Reports err (line_of outcome)
-  pub silent : line_of outcome ≡ [] → GainsWhole err []

@@ -15,6 +15,7 @@ use Rattle.game_core.specs.declared.game.Row.{Row}
 use Rattle.game_core.specs.Game.{Game, IsGame}
 use Rattle.game_core.proofs.Right.{solutions_are_right}
 use Rattle.plant_game.specs.PlantSolution.{Solves, IsSolutionOf}
+use Rattle.table_check.specs.Verdicts.{IsRightFor}
 use Rattle.plant_game.proofs.EdgeCounts.{one_edge_count}
 use Rattle.plant_game.proofs.OneGame.{one_game}
 use Rattle.controller_table.specs.declared.table_fault.TableFault.{TableFault}
@@ -28,11 +29,11 @@ use Rattle.command_line.specs.declared.command.Command.TheVariants.{Synth, Check
 use Rattle.command_line.specs.declared.outcome.Refusal.{Refusal}
 use Rattle.command_line.specs.declared.outcome.Refusal.TheVariants.{Malformed, Overflow, Limit, TooManyTurns, Invalid, NoRow}
 use Rattle.command_line.specs.declared.outcome.Outcome.TheVariants.{Done, Usage, Refused, Failed}
-use Rattle.command_outcomes.specs.IsOutcomeFor.{IsAccepted, IsSolvable, HasEdges, IsPatrollable, IsRightFor, IsFirstWrong, IsAnswerable, IsRefusalFor}
-use Rattle.command_outcomes.specs.Stages.{SpellPlantWith, IsReadRefusal, IsRefused, IsOverflow, HasManyEdges, IsPlantRefusal, IsPatrolRefusal, IsTextRefusal, AreRight, IsRowsRefusal, IsStartRefusal, AreTableWith, IsRefusedTable, IsTableRefusal, IsStagedRefusal}
+use Rattle.command_outcomes.specs.IsOutcomeFor.{IsAccepted, IsSolvable, HasEdges, IsPatrollable, IsFirstWrong, IsAnswerable, IsRefusalFor}
+use Rattle.command_outcomes.specs.Stages.{SpellPlantWith, IsReadRefusal, IsRefused, IsOverflow, HasManyEdges, IsPlantRefusal, IsPatrolRefusal, IsTextRefusal, IsRowsRefusal, IsStartRefusal, AreTableWith, IsRefusedTable, IsTableRefusal, IsStagedRefusal}
 use Rattle.command_outcomes.specs.Traces.{HasRowFor, HasNoRowFor}
 use Rattle.command_outcomes.specs.OutcomeLaws.{OneOutcomePerText}
-use Rattle.command_outcomes.proofs.Stages.{staged}
+use Rattle.command_outcomes.proofs.Stages.{PassCheck, staged}
 use Rattle.command_outcomes.proofs.Below.{one_plant_per_text, one_refusal, no_plant_text_is_refused, one_table, one_table_refusal, no_table_is_refused}
 use Rattle.table_check.proofs.Verdicts.{one_first}
 
@@ -149,7 +150,7 @@ no_wrong p rows c plant solution wrong =
     let first = subst (λ (h : Game). IsFirstFailure (IsRightFor p.goal h rows) 0 h.cells (Some c)) same wrong.wrong in
     first.2 (each_right p.goal solution.game rows c solution.abstraction.game solution.solution first.1)
 
-rows_exact : (p : Description) (rows : List (Option Row)) → IsPlant p → IsExact (AreRight p rows) (IsRowsRefusal p rows)
+rows_exact : (p : Description) (rows : List (Option Row)) → IsPlant p → IsExact (PassCheck p rows) (IsRowsRefusal p rows)
 rows_exact p rows plant =
     one_more (IsSolvable p) (IsSolutionOf p rows) (IsPlantRefusal p) (λ r. (cell : ℕ) × (r ≡ Invalid cell) × IsSolvable p × IsFirstWrong p rows cell) (plant_exact p plant) (λ r f. f.2)
     (λ r s f g. f.1 ∙ ap Invalid (one_wrong p rows f.0 g.0 plant f.3 g.3) ∙ sym g.1)
@@ -223,7 +224,7 @@ table_exact Passes Refuses exact bytes =
 
 staged_exact : (command : Command) (bytes : List ℕ) → IsExact (IsAnswerable command bytes) (IsStagedRefusal command bytes)
 staged_exact (Synth workers) bytes = text_exact IsSolvable IsPlantRefusal plant_exact bytes
-staged_exact Check bytes = table_exact AreRight IsRowsRefusal rows_exact bytes
+staged_exact Check bytes = table_exact PassCheck IsRowsRefusal rows_exact bytes
 staged_exact Upgrade bytes = table_exact (λ p rows. HasNoOverflow p) (λ p rows r. IsOverflow p r) (λ p rows plant. range_exact p) bytes
 staged_exact (Sim samples seed start) bytes = table_exact (λ p rows. HasNoOverflow p × HasRowFor p rows start) (IsStartRefusal start) (λ p rows plant. start_exact p rows start) bytes
 staged_exact (Demo number workers) bytes = record { one = λ r s f g. absurd f; never_both = λ passes r f. f }

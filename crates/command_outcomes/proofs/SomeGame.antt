@@ -16,9 +16,9 @@ use Rattle.plant_record.proofs.lemmas.SoundPlants.{sound}
 use Rattle.successor_box.specs.SuccessorBoxes.{IsBoxOf, low_corner, high_corner}
 use Rattle.successor_box.proofs.BoxDomains.{by_box_in_domain}
 use Rattle.successor_box.proofs.Enabled.{corners_ordered}
-use Rattle.plant_game.specs.Abstraction.{IsGameOf}
-use Rattle.pair_box.specs.PlantBoxes.{AreBoxesOf, pairs_of, pair_of}
-use Rattle.plant_game.specs.Marks.{IsMarkAt, AreMarksOf, LiesInSomeTarget}
+use Rattle.plant_game.specs.Abstraction.{IsMarkAt, IsGameOf}
+use Rattle.pair_box.specs.PlantBoxes.{AreBoxesOf, pairs_of_plant, pair_of_plant}
+use Rattle.plant_game.specs.Marks.{AreMarksOf, LiesInSomeTarget}
 use Rattle.plant_game.proofs.BoxGames.{is_game_of}
 use Rattle.base.proofs.Products.{part_fits}
 use Rattle.text_pieces.proofs.Undeniable.{either}
@@ -41,15 +41,15 @@ box_of p s c u =
 
 some_boxes : (p : Description) → IsSound p → ((boxes : List (Option CellBox)) × AreBoxesOf p boxes → ⊥) → ⊥
 some_boxes p s deny =
-    chosen None (λ pair b. IsBoxOf p (pair / vectors_of p.inputs) (pair % vectors_of p.inputs) b) (pairs_of p)
+    chosen None (λ pair b. IsBoxOf p (pair / vectors_of p.inputs) (pair % vectors_of p.inputs) b) (pairs_of_plant p)
     (λ pair lt none. none (box_of p s (pair / vectors_of p.inputs) (pair % vectors_of p.inputs)))
-    (λ found. deny (found.0, record { one_each = found.1; each = λ c u cell input. at found.0 c u input (found.2 (pair_of p c u) (omega (arith, input, part_fits c (cells_of (axes_of p)) (vectors_of p.inputs) cell))) }))
+    (λ found. deny (found.0, record { one_each = found.1; each = λ c u cell input. at found.0 c u input (found.2 (pair_of_plant p c u) (omega (arith, input, part_fits c (cells_of (axes_of p)) (vectors_of p.inputs) cell))) }))
   where
     at : (boxes : List (Option CellBox)) (c u : ℕ) → u < vectors_of p.inputs
-        → IsBoxOf p (pair_of p c u / vectors_of p.inputs) (pair_of p c u % vectors_of p.inputs) (get_or boxes (pair_of p c u) None) → IsBoxOf p c u (get_or boxes (pair_of p c u) None)
+        → IsBoxOf p (pair_of_plant p c u / vectors_of p.inputs) (pair_of_plant p c u % vectors_of p.inputs) (get_or boxes (pair_of_plant p c u) None) → IsBoxOf p c u (get_or boxes (pair_of_plant p c u) None)
     at boxes c u input is =
         let n = vectors_of p.inputs in
-        let pair = pair_of p c u in
+        let pair = pair_of_plant p c u in
         let same = same_from_place (pair / n) (pair % n) c u n (mod_below pair n (omega (arith, input))) input (div-add-mod' pair n) in
         subst (λ (v : ℕ). IsBoxOf p c v (get_or boxes pair None)) same.1 (subst (λ (d : ℕ). IsBoxOf p d (pair % n) (get_or boxes pair None)) same.0 is)
 

@@ -16,8 +16,8 @@ use Rattle.controller_table.specs.declared.text_kind.TextKind.TheVariants.{Patro
 use Rattle.controller_table.proofs.EachKind.{few_or_many}
 use Rattle.command_line.specs.declared.outcome.Refusal.{Refusal}
 use Rattle.command_line.specs.declared.outcome.Refusal.TheVariants.{Malformed, Overflow, Limit, TooManyTurns, Invalid, NoRow}
-use Rattle.command_outcomes.specs.IsOutcomeFor.{IsAccepted, IsSolvable, HasEdges, IsPatrollable, IsRightFor, IsAnswerable}
-use Rattle.command_outcomes.specs.Stages.{IsRefused, IsPlantRefusal, IsPatrolRefusal, SpellPlantWith, IsOverflow, IsTextRefusal, AreRight, IsRowsRefusal, IsStartRefusal, AreTableWith, IsTableRefusal, IsStagedRefusal}
+use Rattle.command_outcomes.specs.IsOutcomeFor.{IsAccepted, IsSolvable, HasEdges, IsPatrollable, IsAnswerable}
+use Rattle.command_outcomes.specs.Stages.{IsRefused, IsPlantRefusal, IsPatrolRefusal, SpellPlantWith, IsOverflow, IsTextRefusal, IsRowsRefusal, IsStartRefusal, AreTableWith, IsTableRefusal, IsStagedRefusal}
 use Rattle.command_outcomes.proofs.Undeniable.{first_without}
 use Rattle.command_outcomes.proofs.SomeGame.{some_game}
 use Rattle.grid_quantiser.specs.Cells.{point_of}
@@ -27,6 +27,7 @@ use Rattle.game_core.proofs.Right.{right_rows_are_the_solution}
 use Rattle.plant_record.specs.declared.aims.GoalKind.{GoalKind}
 use Rattle.plant_record.specs.declared.aims.GoalKind.TheVariants.{Reach, Keep}
 use Rattle.plant_game.specs.PlantSolution.{Solves}
+use Rattle.table_check.specs.Verdicts.{IsRightFor}
 use Rattle.controller_table.specs.Choice.{row_at}
 use Rattle.controller_table.specs.declared.table_fault.TableFault.{TableFault}
 use Rattle.controller_table.specs.declared.table_fault.TableFault.TheVariants as tables
@@ -39,7 +40,7 @@ use Rattle.command_line.specs.declared.command.Command.{Command}
 use Rattle.command_line.specs.declared.outcome.Outcome.TheVariants.{Done, Refused}
 use Rattle.command_outcomes.specs.Traces.{HasRowFor, HasNoRowFor}
 use Rattle.command_outcomes.specs.OutcomeLaws.{SomeOutcomePerText}
-use Rattle.command_outcomes.proofs.Stages.{unstaged}
+use Rattle.command_outcomes.proofs.Stages.{PassCheck, unstaged}
 
 -- ---- a plant
 
@@ -129,7 +130,7 @@ solved : (goal : GoalKind) (g : Game) (rows : List (Option Row)) → IsGame g �
 solved Reach g rows game size each = right_rows_are_the_solution g rows game (record { one_each = size; each = each })
 solved Keep g rows game size each = record { one_each = size; each = each }
 
-verdict : (bytes : List ℕ) (p : Description) (rows : List (Option Row)) → IsTable bytes p rows → PlantEnd p → (IsDecided (AreRight p rows) (IsRowsRefusal p rows) → ⊥) → ⊥
+verdict : (bytes : List ℕ) (p : Description) (rows : List (Option Row)) → IsTable bytes p rows → PlantEnd p → (IsDecided (PassCheck p rows) (IsRowsRefusal p rows) → ⊥) → ⊥
 verdict bytes p rows table (overflows i u first) deny = deny (inr (Overflow i u, inl (inl (i, u, refl, first))))
 verdict bytes p rows table (has_many_edges many) deny = deny (inr (Limit Edges, inl (inr (refl, many))))
 verdict bytes p rows table (is_solvable s) deny =
@@ -189,7 +190,7 @@ driven p rows start deny = some_overflow p (λ found. elim found [
 
 decided : (command : Command) (bytes : List ℕ) → (IsDecided (IsAnswerable command bytes) (IsStagedRefusal command bytes) → ⊥) → ⊥
 decided (Synth workers) bytes deny = by_text bytes IsSolvable IsPlantRefusal plant_decided deny
-decided Check bytes deny = by_table bytes AreRight IsRowsRefusal (λ p rows table refute. plant_end p table.1.limits (λ end. verdict bytes p rows table end refute)) deny
+decided Check bytes deny = by_table bytes PassCheck IsRowsRefusal (λ p rows table refute. plant_end p table.1.limits (λ end. verdict bytes p rows table end refute)) deny
 decided Upgrade bytes deny = by_table bytes (λ p rows. HasNoOverflow p) (λ p rows r. IsOverflow p r) (λ p rows table refute. range p refute) deny
 decided (Sim samples seed start) bytes deny = by_table bytes (λ p rows. HasNoOverflow p × HasRowFor p rows start) (IsStartRefusal start) (λ p rows table refute. driven p rows start refute) deny
 decided (Demo number workers) bytes deny = deny (inl tt)

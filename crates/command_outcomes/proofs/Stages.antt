@@ -1,16 +1,22 @@
 -- The reasons of a refusal are the same, told case by case or in stages.
-use Rattle.std.proofs.Common.{inl, inr, ℕ, ◌<◌, List, refl, sym, ap, subst}
+use Rattle.std.proofs.Common.{inl, inr, ℕ, ◌<◌, List, Option, refl, sym, ap, subst}
 use Rattle.plant_record.specs.declared.limit_kind.LimitKind.{LimitKind}
 use Rattle.plant_record.specs.declared.limit_kind.LimitKind.TheVariants.{Edges}
 use Rattle.plant_record.specs.Description.{Description}
 use Rattle.successor_box.specs.Deviations.{IsFirstOverflow}
+use Rattle.game_core.specs.declared.game.Row.{Row}
+use Rattle.plant_game.specs.PlantSolution.{IsSolutionOf}
 use Rattle.command_line.specs.declared.command.Command.{Command}
 use Rattle.command_line.specs.declared.command.Command.TheVariants.{Synth, Check, Upgrade, Sim, Demo, Stay, Patrol}
 use Rattle.command_line.specs.declared.outcome.Refusal.{Refusal}
 use Rattle.command_line.specs.declared.outcome.Refusal.TheVariants.{Malformed, Overflow, Limit, TooManyTurns, Invalid, NoRow}
-use Rattle.command_outcomes.specs.IsOutcomeFor.{HasEdges, IsRefusalFor}
+use Rattle.command_outcomes.specs.IsOutcomeFor.{HasEdges, IsSolvable, IsRefusalFor}
 use Rattle.command_outcomes.specs.Stages.{IsOverflow, IsPlantRefusal, IsReadRefusal, IsTextRefusal, IsStagedRefusal}
 use Rattle.base.specs.declared.limits.TheConstants.{EDGES_LIMIT}
+
+-- what `check` accepts: the rows are the solution of a plant that nothing refuses
+abbrev pub PassCheck : Description → List (Option Row) → Type 0
+PassCheck p rows = IsSolvable p × IsSolutionOf p rows
 
 -- ---- from case by case to stages
 

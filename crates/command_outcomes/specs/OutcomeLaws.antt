@@ -13,7 +13,7 @@ use Rattle.command_outcomes.specs.Traces.{IsTraceFor}
 abbrev pub SomeGamePerPlant : Type 0
 SomeGamePerPlant = (p : Description) → IsWithinLimits p → ((g : Game) → IsGameOf p g → ⊥) → ⊥
 
--- a text demands at most one thing of a command
+-- a text demands at most one outcome of a command
 abbrev pub OneOutcomePerText : Type 0
 OneOutcomePerText = (command : Command) (bytes : List ℕ) (a b : Outcome) → IsOutcomeFor command bytes a → IsOutcomeFor command bytes b → a ≡ b
 

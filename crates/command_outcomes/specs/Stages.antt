@@ -8,7 +8,6 @@ use Rattle.plant_record.specs.Description.{Description}
 use Rattle.plant_text.specs.PlantRefusals.{IsRefusedFor}
 use Rattle.successor_box.specs.Deviations.{HasNoOverflow, IsFirstOverflow}
 use Rattle.game_core.specs.declared.game.Row.{Row}
-use Rattle.plant_game.specs.PlantSolution.{IsSolutionOf}
 use Rattle.controller_table.specs.declared.table_fault.TableFault.TheVariants as tables
 use Rattle.controller_table.specs.Tables.{IsTable}
 use Rattle.controller_table.specs.TableRefusals.{IsTableRefusedFor}
@@ -59,10 +58,6 @@ abbrev pub IsTextRefusal : (Description → Refusal → Type 0) → List ℕ →
 IsTextRefusal IsRefusalOf bytes refusal = IsRefused bytes refusal ⊎ SpellPlantWith (λ p. IsRefusalOf p refusal) bytes
 
 -- ---- the text of a table
-
--- the rows are the solution of a plant that nothing refuses
-abbrev pub AreRight : Description → List (Option Row) → Type 0
-AreRight p rows = IsSolvable p × IsSolutionOf p rows
 
 -- why rows are refused: for their plant, else for the first cell whose row isn't right
 abbrev pub IsRowsRefusal : Description → List (Option Row) → Refusal → Type 0

@@ -8,13 +8,13 @@ use Rattle.controller_table.specs.Tables.{IsTable}
 use Rattle.controller_table.specs.Choice.{row_at}
 use Rattle.loop_sim.specs.TraceText.{trace_text}
 
--- The numbers are as many as the plant's states, and as a state they lie in a cell with a row.
+-- The start has one number for each state of the plant, and as a state lies in a cell with a row.
 pub record HasRowFor (p : Description) (rows : List (Option Row)) (start : List ℤ) : Type 0 where
   pub one_each : length start ≡ length p.states
   pub row : Row
   pub has : row_at p rows (point_of start) ≡ Some row
 
--- they aren't as many, or as a state they lie outside the domain or in a cell without a row
+-- the start has another number of numbers, or as a state lies outside the domain or in a cell without a row
 abbrev pub HasNoRowFor : Description → List (Option Row) → List ℤ → Type 0
 HasNoRowFor p rows start = (length start ≢ length p.states) ⊎ (row_at p rows (point_of start) ≡ None)
 

@@ -7,7 +7,7 @@ use Rattle.fixed_expr.specs.Value.{value_of}
 use Rattle.grid_quantiser.specs.Axes.{cells_of}
 use Rattle.plant_record.specs.Description.{axes_of, count_of, vectors_of}
 use Rattle.successor_box.specs.SuccessorBoxes.{IsEnabledAt, AreSuccessors, central_values}
-use Rattle.pair_box.specs.PlantBoxes.{pairs_of, pair_of}
+use Rattle.pair_box.specs.PlantBoxes.{pairs_of_plant, pair_of_plant}
 use Rattle.plant_game.specs.Abstraction.{AreEdges}
 use Rattle.demo_plants.specs.Demo.{demo_plant_of, position, position_step, speed_step}
 use Rattle.demo_plants.specs.Laws.{DemoPlantsHaveFewEdges}
@@ -30,11 +30,11 @@ five : (n : ℕ) → vectors_of (demo_plant_of n).inputs ≡ 5
 unfolding demo_plant_of
 five n = refl
 
-pairs_are : (n : ℕ) → pairs_of (demo_plant_of n) ≡ cells_of (axes_of (demo_plant_of n)) * 5
+pairs_are : (n : ℕ) → pairs_of_plant (demo_plant_of n) ≡ cells_of (axes_of (demo_plant_of n)) * 5
 unfolding demo_plant_of
 pairs_are n = refl
 
-inputs_are_five : (n c u : ℕ) → pair_of (demo_plant_of n) c u ≡ c * 5 + u
+inputs_are_five : (n c u : ℕ) → pair_of_plant (demo_plant_of n) c u ≡ c * 5 + u
 unfolding demo_plant_of
 inputs_are_five n c u = refl
 
@@ -42,11 +42,11 @@ each_list : (n m : ℕ) (edges : AreEdges (demo_plant_of n) m) (i : ℕ) (d : Li
 each_list n m edges i d lt =
     let c : ℕ = i / 5 in
     let u : ℕ = i % 5 in
-    let here : pair_of (demo_plant_of n) c u ≡ i = omega (arith, inputs_are_five n c u) in
+    let here : pair_of_plant (demo_plant_of n) c u ≡ i = omega (arith, inputs_are_five n c u) in
     let cell : c < cells_of (axes_of (demo_plant_of n)) = omega (arith, edges.one_each, pairs_are n) in
     let input : u < vectors_of (demo_plant_of n).inputs = omega (arith, five n) in
-    let few = few_successors n c u (get_or edges.lists (pair_of (demo_plant_of n) c u) []) (edges.each c u cell input) in
-    let same : get_or edges.lists (pair_of (demo_plant_of n) c u) [] ≡ get_or edges.lists i d = ap (λ (k : ℕ). get_or edges.lists k []) here ∙ get_or_default edges.lists i [] d lt in
+    let few = few_successors n c u (get_or edges.lists (pair_of_plant (demo_plant_of n) c u) []) (edges.each c u cell input) in
+    let same : get_or edges.lists (pair_of_plant (demo_plant_of n) c u) [] ≡ get_or edges.lists i d = ap (λ (k : ℕ). get_or edges.lists k []) here ∙ get_or_default edges.lists i [] d lt in
     omega (arith, few, ap length same)
 
 pub few_edges : DemoPlantsHaveFewEdges

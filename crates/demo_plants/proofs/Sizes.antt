@@ -13,7 +13,7 @@ use Rattle.plant_record.specs.StateBoxes.{IsStateBox}
 use Rattle.plant_record.specs.Equations.{IsEquation, HasNoLut}
 use Rattle.plant_record.specs.Plants.{IsPlant}
 use Rattle.plant_record.specs.Limits.{IsWithinLimits}
-use Rattle.pair_box.specs.PlantBoxes.{pairs_of}
+use Rattle.pair_box.specs.PlantBoxes.{pairs_of_plant}
 use Rattle.command_line.specs.Command.{IsDemoNumber}
 use Rattle.demo_plants.specs.Demo.{demo_plant_of, position, speed, acceleration, wind, demo_target, fast_forwards, fast_backwards, position_step, speed_step}
 use Rattle.demo_plants.specs.Laws.{DemoPlantsAreWithinLimits}
@@ -51,7 +51,7 @@ module _ (n : ℕ) (size : IsDemoNumber n) where
   unfolding demo_plant_of
   cells_are = omega (arith, position_count)
 
-  pairs_are : pairs_of (demo_plant_of n) ≡ 6000 * n
+  pairs_are : pairs_of_plant (demo_plant_of n) ≡ 6000 * n
   unfolding demo_plant_of
   pairs_are = omega (arith, position_count)
 

@@ -14,7 +14,7 @@ use Rattle.plant_record.specs.Description.{Description, axes_of}
 use Rattle.game_core.specs.declared.game.Row.{Row}
 use Rattle.game_core.specs.Solution.{rank_in, greatest}
 use Rattle.plant_text.specs.Grammar.{Spells}
-use Rattle.pair_box.specs.PlantBoxes.{pairs_of}
+use Rattle.pair_box.specs.PlantBoxes.{pairs_of_plant}
 use Rattle.plant_game.specs.Abstraction.{AreEdges}
 use Rattle.plant_game.specs.PlantSolution.{IsSolutionOf}
 
@@ -98,7 +98,7 @@ abbrev pub demo_line : ℕ → Description → List (Option Row) → ℕ → Lis
 demo_line n p rows edges =
     codes "demo " ++ decimal n
     ++ codes " cells " ++ decimal (cells_of (axes_of p))
-    ++ codes " pairs " ++ decimal (pairs_of p)
+    ++ codes " pairs " ++ decimal (pairs_of_plant p)
     ++ codes " edges " ++ decimal edges
     ++ codes " won " ++ decimal (count_by is_some rows)
     ++ codes " rank " ++ decimal (greatest (map rank_in rows))

@@ -8,7 +8,7 @@ use Rattle.plant_writing.specs.CanonicalText.{text_of}
 use Rattle.plant_text.specs.Grammar.{Spells}
 use Rattle.plant_text.specs.PlantRefusals.{IsShort}
 use Rattle.successor_box.specs.Deviations.{HasNoOverflow}
-use Rattle.pair_box.specs.PlantBoxes.{pairs_of}
+use Rattle.pair_box.specs.PlantBoxes.{pairs_of_plant}
 use Rattle.plant_game.specs.Abstraction.{AreEdges}
 use Rattle.command_line.specs.Command.{IsDemoNumber}
 use Rattle.demo_plants.specs.Demo.{demo_plant_of, demo_text, IsDemoLine}
@@ -18,7 +18,7 @@ use Rattle.base.specs.declared.limits.TheConstants.{EDGES_LIMIT}
 pub record IsOfDemoSize (n : ℕ) : Type 0 where
   pub limits : IsWithinLimits (demo_plant_of n)
   pub cells : cells_of (axes_of (demo_plant_of n)) ≡ 1200 * n
-  pub pairs : pairs_of (demo_plant_of n) ≡ 6000 * n
+  pub pairs : pairs_of_plant (demo_plant_of n) ≡ 6000 * n
 
 -- each demo plant has its size, within the limits
 abbrev pub DemoPlantsAreWithinLimits : Type 0

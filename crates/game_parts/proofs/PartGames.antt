@@ -16,7 +16,7 @@ use Rattle.game_core.specs.Game.{Game, successors_at, successors_of}
 use Rattle.plant_record.specs.Description.{Description, axes_of, vectors_of}
 use Rattle.plant_record.specs.Limits.{IsWithinLimits}
 use Rattle.successor_box.specs.SuccessorBoxes.{IsBoxOf, cells_in}
-use Rattle.pair_box.specs.PlantBoxes.{pairs_of, pair_of, box_at, AreBoxesOf}
+use Rattle.pair_box.specs.PlantBoxes.{pairs_of_plant, pair_of_plant, box_at, AreBoxesOf}
 use Rattle.plant_game.specs.Marks.{AreMarksOf}
 use Rattle.plant_game.proofs.GameLaws.{pair_split}
 use Rattle.pair_boxes.specs.CellsFrom.{AreBoxesFrom}
@@ -44,13 +44,13 @@ module _ (p : Description) (c n : ℕ) (boxes : List (Option CellBox)) (long : l
   ordered_from = λ k d lt. subst (IsBox (axes_of p)) (get_or_default boxes k None d lt) (IfSome_then (get_or boxes k None) (box_from k lt).corners (λ b meets. meets.ordered))
 
 -- boxes of all cells are the plant's
-pub all_boxes : (p : Description) (boxes : List (Option CellBox)) → length boxes ≡ pairs_of p → AreBoxesFrom p 0 boxes → AreBoxesOf p boxes
+pub all_boxes : (p : Description) (boxes : List (Option CellBox)) → length boxes ≡ pairs_of_plant p → AreBoxesFrom p 0 boxes → AreBoxesOf p boxes
 all_boxes p boxes long from = record {
   one_each = long;
   each = λ c u cell input.
       let v = vectors_of p.inputs in
       let none : 0 + c ≡ c = omega arith in
-      subst (λ (i : ℕ). IsBoxOf p i u (box_at boxes (pair_of p c u))) none (from c u input (omega (arith, mul-add-lt c v u (cells_of (axes_of p)) cell input, long)));
+      subst (λ (i : ℕ). IsBoxOf p i u (box_at boxes (pair_of_plant p c u))) none (from c u input (omega (arith, mul-add-lt c v u (cells_of (axes_of p)) cell input, long)));
 }
 
 -- boxes of the cells after those of others go on from these
@@ -95,7 +95,7 @@ module _ (p : Description) (c n : ℕ) (boxes later : List (Option CellBox)) (lo
       inputs = has.inputs;
       marks_are = has.marks_are;
       successors = λ k lt.
-          let pair : pair_of p (c + n) k ≡ pair_of p c (n * v + k) = omega (arith, add-mul c n v) in
+          let pair : pair_of_plant p (c + n) k ≡ pair_of_plant p c (n * v + k) = omega (arith, add-mul c n v) in
           let slot : n * v + k - n * v ≡ k = omega arith in
           ap (successors_at g) pair
           ∙ has.successors (n * v + k) (omega (arith, lt, long, length-append boxes later))
@@ -119,7 +119,7 @@ both_same p marks from n c boxes g h long in_g in_h low high = record {
         let v = vectors_of p.inputs in
         let j = c - from in
         let cell : from + j ≡ c = omega (arith, low) in
-        let pair : c * v + u ≡ pair_of p from (j * v + u) = omega (arith, add-mul from j v, ap (λ (i : ℕ). i * v) cell) in
+        let pair : c * v + u ≡ pair_of_plant p from (j * v + u) = omega (arith, add-mul from j v, ap (λ (i : ℕ). i * v) cell) in
         let short : j < n = omega (arith, low, high) in
         ap (λ (i : ℕ). successors_at k (c * i + u)) has.inputs ∙ ap (successors_at k) pair ∙ has.successors (j * v + u) (omega (arith, mul-add-lt j v u n short input, long))
 
@@ -151,7 +151,7 @@ whole_has p marks boxes = record {
 -- ---- which are graphs
 
 module _ (p : Description) (from to : ℕ) (boxes : List (Option CellBox)) (low : from ≤ to) (high : to ≤ cells_of (axes_of p)) (long : length boxes ≡ (to - from) * vectors_of p.inputs) where
-  part_fits : from * vectors_of p.inputs + length boxes ≤ pairs_of p
+  part_fits : from * vectors_of p.inputs + length boxes ≤ pairs_of_plant p
   part_fits =
       let v = vectors_of p.inputs in
       let cells : from + (to - from) ≡ to = omega (arith, low) in
@@ -159,12 +159,12 @@ module _ (p : Description) (from to : ℕ) (boxes : List (Option CellBox)) (low 
 
   -- the game by the boxes of some cells, if they have few edges
   pub part_graph : IsWithinLimits p → (marks : List Mark) → AreMarksOf p marks → 1 ≤ vectors_of p.inputs → AreBoxesFrom p from boxes → edges_of (axes_of p) boxes ≤ EDGES_LIMIT →
-      IsBoxGraph (axes_of p) (vectors_of p.inputs) marks (padded (from * vectors_of p.inputs) boxes (pairs_of p))
+      IsBoxGraph (axes_of p) (vectors_of p.inputs) marks (padded (from * vectors_of p.inputs) boxes (pairs_of_plant p))
   part_graph limits marks marks_of some_input each few =
       let first = from * vectors_of p.inputs in
       let ordered = ordered_from p from (to - from) boxes long each in
-      is_graph p limits marks marks_of (padded first boxes (pairs_of p)) (pad.long first boxes (pairs_of p) part_fits) (pad.all first boxes (pairs_of p) (IsBox (axes_of p)) tt ordered) some_input
-      (omega (arith, pad.edges first boxes (pairs_of p) (axes_of p), few))
+      is_graph p limits marks marks_of (padded first boxes (pairs_of_plant p)) (pad.long first boxes (pairs_of_plant p) part_fits) (pad.all first boxes (pairs_of_plant p) (IsBox (axes_of p)) tt ordered) some_input
+      (omega (arith, pad.edges first boxes (pairs_of_plant p) (axes_of p), few))
 
 -- the boxes of some cells among those of all have their segments, if these have
 pub part_listed : (axes : List Axis) (first : ℕ) (boxes : List (Option CellBox)) (pairs : ℕ) (s : Shapes) → EachBoxHasSegments axes s boxes → EachBoxHasSegments axes s (padded first boxes pairs)

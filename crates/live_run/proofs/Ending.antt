@@ -25,7 +25,7 @@ use Rattle.live_run.specs.LiveRuns.{most_read, IsAnswered, IsCutOff, Ends, IsLiv
 use Rattle.live_run.specs.inside.Answering.{IsUnanswered}
 use Rattle.live_run.specs.declared.live_stop.LiveStop.{LiveStop}
 use Rattle.live_run.specs.declared.live_stop.LiveStop.TheVariants.{Unread, Unanswered}
-use Rattle.live_run.specs.inside.LiveWorking.{IsRead, IsWorkedOut, IsUnread, IsStopped, end_of, IsWrittenOut}
+use Rattle.live_run.specs.inside.LiveWorking.{IsScriptRead, IsWorkedOut, IsUnread, IsStopped, outcome_of_stop, IsWrittenOut}
 use Rattle.command_line.proofs.Shown.{shown_done, shown_cut_off, shown_refused, shown_unread, shown_without_memory}
 
 -- ---- what was read stands for the whole script
@@ -88,7 +88,7 @@ ends_unread reads.Device source out h untouched = record {
 ends_unread reads.Memory source out h untouched = ends_without_memory source out h.never_past (h.stood (λ e. cc)) untouched
 
 -- the script is refused
-ends_refused : (fault : ScriptFault) (refusal : Refusal) (source : Reading) (read : List ℕ) (out : Writing) → of_script fault ≡ Refused refusal → IsRead source read → IsScriptRefusedFor read fault → IsUntouched out → IsLiveEnd (Refused refusal) source out
+ends_refused : (fault : ScriptFault) (refusal : Refusal) (source : Reading) (read : List ℕ) (out : Writing) → of_script fault ≡ Refused refusal → IsScriptRead source read → IsScriptRefusedFor read fault → IsUntouched out → IsLiveEnd (Refused refusal) source out
 ends_refused fault refusal source read out same is h untouched = record {
   ends = of_some (λ script. (why : ScriptFault) × (Refused refusal ≡ of_script why) × IsScriptRefusedFor script why) source.before source.after read is.up_to
       (λ bytes lt g. (g.0, g.1, refuses_whole g.0 bytes lt g.2)) (fault, sym same, h);
@@ -100,18 +100,18 @@ ends_refused fault refusal source read out same is h untouched = record {
 }
 
 -- what was read has no answers
-ends_unanswered : (fault : ScriptFault) (source : Reading) (read : List ℕ) (out : Writing) → IsRead source read → IsUnanswered read fault → IsUntouched out → IsLiveEnd (of_script fault) source out
+ends_unanswered : (fault : ScriptFault) (source : Reading) (read : List ℕ) (out : Writing) → IsScriptRead source read → IsUnanswered read fault → IsUntouched out → IsLiveEnd (of_script fault) source out
 ends_unanswered (scripts.Malformed line) source read out is why untouched = ends_refused (scripts.Malformed line) (Malformed line) source read out refl is (why (λ e. cc)) untouched
 ends_unanswered (scripts.Limit what) source read out is why untouched = ends_refused (scripts.Limit what) (Limit what) source read out refl is (why (λ e. cc)) untouched
 ends_unanswered scripts.ScriptTooLong source read out is why untouched = ends_refused scripts.ScriptTooLong ScriptTooLong source read out refl is (why (λ e. cc)) untouched
 ends_unanswered scripts.TooManyTables source read out is why untouched = ends_refused scripts.TooManyTables TooManyTables source read out refl is (why (λ e. cc)) untouched
 ends_unanswered scripts.Memory source read out is why untouched = ends_without_memory source out is.never_past is.no_fault untouched
 
-pub ends_stopped : (stop : LiveStop) (source : Reading) (out : Writing) → IsStopped stop source → IsUntouched out → IsLiveEnd (end_of stop) source out
+pub ends_stopped : (stop : LiveStop) (source : Reading) (out : Writing) → IsStopped stop source → IsUntouched out → IsLiveEnd (outcome_of_stop stop) source out
 ends_stopped (Unread fault) source out h untouched = ends_unread fault source out h untouched
 ends_stopped (Unanswered fault) source out h untouched = ends_unanswered fault source h.script out h.read h.why untouched
 
-ends_done : (text : List ℕ) (source : Reading) (read : List ℕ) (out : Writing) → IsRead source read → IsLiveText read text → GainsWhole out text → IsLiveEnd Done source out
+ends_done : (text : List ℕ) (source : Reading) (read : List ℕ) (out : Writing) → IsScriptRead source read → IsLiveText read text → GainsWhole out text → IsLiveEnd Done source out
 ends_done text source read out is answers whole = record {
   ends = of_some (λ script. (answered : List ℕ) × IsLiveText script answered) source.before source.after read is.up_to (λ bytes lt h. (h.0, answers_whole h.0 bytes lt h.1)) (text, answers);
   answered = λ _. of_whole (λ script. IsAnswered script out) source.before source.after read is.up_to (λ bytes lt h. (h.0, answers_whole h.0 bytes lt h.1, h.2)) (text, answers, whole);
@@ -121,7 +121,7 @@ ends_done text source read out is answers whole = record {
   shown = shown_done source out text is.no_fault whole;
 }
 
-ends_cut_off : (text : List ℕ) (source : Reading) (read : List ℕ) (out : Writing) → IsRead source read → IsLiveText read text → GainsPart out text → IsLiveEnd (Failed Write) source out
+ends_cut_off : (text : List ℕ) (source : Reading) (read : List ℕ) (out : Writing) → IsScriptRead source read → IsLiveText read text → GainsPart out text → IsLiveEnd (Failed Write) source out
 ends_cut_off text source read out is answers part = record {
   ends = tt;
   answered = λ e. absurd (let clash : Failed Write ≡ Done = e in cc);

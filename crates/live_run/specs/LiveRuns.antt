@@ -1,10 +1,10 @@
 -- What a run of a live script gives.
 use Rattle.std.specs.Prelude.{◌≡◌, ◌≢◌, ◌⊎◌, ◌↔◌, ℕ, ◌+◌, List, [], ◌∷◌, drop, Option, Some, IfSome, codes}
 use Rattle.std.specs.Fmt.{decimal}
-use Rattle.run_devices.specs.Devices.{Reading, Writing, GainsWhole, GainsPart, TakesAtMost, AreUnused}
+use Rattle.run_devices.specs.Devices.{Reading, Writing, GainsWhole, GainsPart, Reports, TakesAtMost, AreUnused}
 use Rattle.base.specs.Workers.{AreWorkers}
-use Rattle.command_line.specs.Statuses.{status_of}
-use Rattle.command_line.specs.Ends.{IsShownBy, IsReported}
+use Rattle.command_line.specs.Statuses.{status_of, line_of}
+use Rattle.command_line.specs.Ends.{IsShownBy}
 use Rattle.command_line.specs.declared.outcome.Failure.TheVariants.{Read, Write, Memory}
 use Rattle.command_line.specs.declared.outcome.Outcome.{Outcome}
 use Rattle.command_line.specs.declared.outcome.Outcome.TheVariants.{Done, Usage, Refused, Failed}
@@ -32,8 +32,8 @@ IsAnswered script out = (text : List ℕ) × IsLiveText script text × GainsWhol
 abbrev pub IsCutOff : List ℕ → Writing → Type 0
 IsCutOff script out = (text : List ℕ) × IsLiveText script text × GainsPart out text
 
--- how the command ends: by answers to its script or a refusal of it, or of some script where the source doesn't tell its bytes, or by a
--- failure
+-- how the command may end: by answers to its script or a refusal of it, or of some script where the source doesn't tell its bytes; or
+-- by a failure
 abbrev pub Ends : Option (List ℕ) → Outcome → Type 0
 Ends told Usage = ⊥
 Ends told Done = (script : List ℕ) × IfSome told (λ all. all ≡ script) × ((text : List ℕ) × IsLiveText script text)
@@ -49,20 +49,20 @@ pub record IsLiveEnd (outcome : Outcome) (source : Reading) (out : Writing) : Ty
   pub never_past : TakesAtMost source.before source.after most_read
   pub shown : IsShownBy outcome source out
 
--- What a run with some arguments gives: what their command does, or `usage` where they are of no command.
-pub record Gives (arguments : List (List ℕ)) (outcome : Outcome) (source : Reading) (out : Writing) : Type 0 where
+-- A run with some arguments has this outcome: what their command does, or `usage` where they are of no command.
+pub record IsLiveRunWith (arguments : List (List ℕ)) (outcome : Outcome) (source : Reading) (out : Writing) : Type 0 where
   pub usage : (outcome ≡ Usage) ↔ ((readers : ℕ) → IsLiveCommand arguments readers → ⊥)
   pub unused : outcome ≡ Usage → AreUnused source out
   pub of_command : (readers : ℕ) → IsLiveCommand arguments readers → IsLiveEnd outcome source out
 
--- A run with some arguments ends with a status: that of an outcome whose line is reported.
+-- A run with some arguments ends with the status of an outcome, and reports its line: nothing where this has no bytes.
 pub record IsLiveRun (arguments : List (List ℕ)) (status : ℕ) (source : Reading) (out err : Writing) : Type 0 where
   pub outcome : Outcome
   pub status_is : status ≡ status_of outcome
-  pub said : IsReported outcome err
-  pub gives : Gives arguments outcome source out
+  pub said : Reports err (line_of outcome)
+  pub gives : IsLiveRunWith arguments outcome source out
 
--- whatever a script is to be answered or refused for is told, unless there is no memory
+-- the status is 0 for a script and that of its fault for other bytes, or 8 where there was no memory left
 pub record IsCompleteAnswer (status : ℕ) (script : List ℕ) : Type 0 where
   pub answered : (commands : List ScriptCommand) → IsScript script commands → (status ≡ 0) ⊎ (status ≡ 8)
   pub refused : (fault : ScriptFault) → IsScriptRefusedFor script fault → (status ≡ status_of (of_script fault)) ⊎ (status ≡ 8)

@@ -5,7 +5,7 @@
 //! the answers were written whole.
 #![tactic(auto)]
 
-mod answering;
+mod answers;
 mod live_arguments;
 mod live_stop;
 mod live_top;

@@ -1,7 +1,7 @@
 ghost use Rattle.std.specs.Prelude.{◌≡◌};
 ghost use Rattle.live_run.specs.declared.live_stop.LiveStop.TheVariants.{Unread, Unanswered};
 ghost use Rattle.live_run.specs.LiveCauses.{of_script};
-ghost use Rattle.live_run.specs.inside.LiveWorking.{end_of};
+ghost use Rattle.live_run.specs.inside.LiveWorking.{outcome_of_stop};
 
 use command_line::{Failure, Outcome, Refusal};
 use live_script::ScriptFault;
@@ -35,7 +35,7 @@ impl From<ScriptFault> for LiveStop {
 impl LiveStop {
     /// The end of a run that has no answers.
     pub fn outcome(self) -> Outcome
-        ensures { result ≡ end_of self }
+        ensures { result ≡ outcome_of_stop self }
     {
         match self {
             LiveStop::Unread(fault) => Outcome::Failed(fault.into()),

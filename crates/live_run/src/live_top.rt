@@ -2,10 +2,10 @@ ghost use Rattle.std.specs.Prelude.{◌≡◌, ℕ, IfSome, IfOk, IfErr};
 ghost use Rattle.run_devices.specs.Devices.{Rose, reading, writing};
 ghost use Rattle.command_line.specs.Command.{as_words};
 ghost use Rattle.base.specs.Workers.{AreWorkers};
-ghost use Rattle.live_run.specs.LiveRuns.{IsLiveCommand, IsLiveEnd, Gives, IsLiveRun, IsAnswered, IsCompleteAnswer};
+ghost use Rattle.live_run.specs.LiveRuns.{IsLiveCommand, IsLiveEnd, IsLiveRunWith, IsLiveRun, IsAnswered, IsCompleteAnswer};
 ghost use Rattle.live_run.specs.inside.LiveWorking.{IsWorkedOut, IsStopped, IsWrittenOut};
 
-use crate::answering::answers_to;
+use crate::answers::answers_to;
 use crate::live_arguments::parse_readers;
 use crate::live_stop::LiveStop;
 use base::limits::SCRIPT_LIMIT;
@@ -58,7 +58,7 @@ fn outcome_of<R: Wait, S: Source, O: Sink>(
 ) -> Outcome
     ensures { let read = reading S.left S.faults S.is_sound source.old source.new in
         let written = writing O.got O.faults O.capacity out.old out.new in
-        Gives (as_words arguments.now) result read written }
+        IsLiveRunWith (as_words arguments.now) result read written }
 {
     match parse_readers(arguments) {
         Some(readers) => carry_out(rt, alloc, readers, source, out),

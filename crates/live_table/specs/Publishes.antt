@@ -6,7 +6,7 @@ use Rattle.logbook.specs.Pages.{Book}
 use Rattle.controller_table.specs.Tables.{TableModel}
 use Rattle.controller_table.specs.Choice.{Chooses}
 
--- The tables that were published since an opening, in order: all of them for a publisher, those so far for a told.
+-- The tables that were published since an opening, in order: all of them for a publisher, those so far for a `Told`.
 pub record Published : Type 0 where
   pub opening : Book
   pub list : List TableModel

@@ -23,9 +23,9 @@ line_text p (Stopped t) = line (codes "stopped" ∷ decimal t ∷ [])
 line_text p (Lost t x) = line (codes "lost" ∷ decimal t ∷ state_words p x)
 
 -- the line that begins a trace
-abbrev pub first_line : List ℕ
-first_line = line (codes "trace" ∷ codes "1" ∷ [])
+abbrev pub trace_header : List ℕ
+trace_header = line (codes "trace" ∷ codes "1" ∷ [])
 
 -- the text of the trace from a state, with at most n samples after the first
 abbrev pub trace_text : Description → List (Option Row) → List ℤ → ℕ → ℕ → List ℕ
-trace_text p rows x seed n = first_line ++ concat (map (line_text p) (trace_lines p rows seed n 0 x))
+trace_text p rows x seed n = trace_header ++ concat (map (line_text p) (trace_lines p rows seed n 0 x))

@@ -2,7 +2,7 @@
 
 ghost use Rattle.std.specs.Prelude.{◌≡◌, ◌+◌, ◌*◌, ◌<◌, ◌≤◌, ◌∷◌, ◌++◌, [], length};
 ghost use Rattle.std.specs.Fmt.{decimal};
-ghost use Rattle.loop_sim.specs.TraceText.{line_text, first_line};
+ghost use Rattle.loop_sim.specs.TraceText.{line_text, trace_header};
 ghost use Rattle.loop_sim.specs.inside.StateText.{state_text};
 ghost use Rattle.row_runs.specs.declared.line_text.TheConstants.{LINE_CAPACITY};
 
@@ -16,7 +16,7 @@ use row_runs::LineText;
 
 /// The first line of a trace.
 pub(crate) fn write_first(text: &mut LineText)
-    ensures { text.new ≡ first_line }
+    ensures { text.new ≡ trace_header }
 {
     text.begin();
     text.prepend(b"trace 1");

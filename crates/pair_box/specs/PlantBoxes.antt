@@ -6,12 +6,12 @@ use Rattle.plant_record.specs.Description.{Description, axes_of, vectors_of}
 use Rattle.successor_box.specs.SuccessorBoxes.{IsBoxOf}
 
 -- how many pairs of a cell and an input a plant has
-abbrev pub pairs_of : Description → ℕ
-pairs_of p = cells_of (axes_of p) * vectors_of p.inputs
+abbrev pub pairs_of_plant : Description → ℕ
+pairs_of_plant p = cells_of (axes_of p) * vectors_of p.inputs
 
 -- the number of the pair of a cell and an input
-abbrev pub pair_of : Description → ℕ → ℕ → ℕ
-pair_of p c u = c * vectors_of p.inputs + u
+abbrev pub pair_of_plant : Description → ℕ → ℕ → ℕ
+pair_of_plant p c u = c * vectors_of p.inputs + u
 
 -- the box of a pair, by its number
 abbrev pub box_at : List (Option CellBox) → ℕ → Option CellBox
@@ -19,5 +19,5 @@ box_at boxes pair = slice_index_or boxes pair None
 
 -- The boxes of all pairs of a plant.
 pub record AreBoxesOf (p : Description) (boxes : List (Option CellBox)) : Type 0 where
-  pub one_each : length boxes ≡ pairs_of p
-  pub each : (c u : ℕ) → c < cells_of (axes_of p) → u < vectors_of p.inputs → IsBoxOf p c u (box_at boxes (pair_of p c u))
+  pub one_each : length boxes ≡ pairs_of_plant p
+  pub each : (c u : ℕ) → c < cells_of (axes_of p) → u < vectors_of p.inputs → IsBoxOf p c u (box_at boxes (pair_of_plant p c u))

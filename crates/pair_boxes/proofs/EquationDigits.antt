@@ -17,7 +17,7 @@ use Rattle.plant_record.specs.Soundness.{IsSound}
 use Rattle.plant_record.specs.Steps.{equation_at}
 use Rattle.successor_box.specs.PairExtents.{index_in, shifts_along, shifted_by, depends_on, IsExtentBeforeAt}
 use Rattle.successor_box.proofs.AlikePairs.{alike_extent}
-use Rattle.pair_box.specs.PlantBoxes.{pairs_of}
+use Rattle.pair_box.specs.PlantBoxes.{pairs_of_plant}
 use Rattle.pair_boxes.specs.declared.digits.Digit.{Digit}
 use Rattle.pair_boxes.specs.declared.digits.Digits.{Digits}
 use Rattle.pair_boxes.specs.inside.Digits.{count_in, slot_at, index_at, IsReadable, IsDigitOf, HasDigit, ArePacked, AreDigitsOf, IsWithDigit, IsAsBefore}
@@ -94,7 +94,7 @@ module _ (p : Description) (slots more : ℕ) where
       let here : size (drop (v - 1) (counts_of (axes_of p))) ≡ count * s = next_along p (v - 1) (omega (arith, some, within)) ∙ ap (λ (n : ℕ). count * size (drop n (counts_of (axes_of p)))) (let back : v - 1 + 1 ≡ v = omega (arith, some) in back) in
       omega (arith, by, here, mul-le slots count s count few (omega arith))
 
-  pub few_among : (j : ℕ) → j < length p.inputs → slots * size (drop j (value_counts p.inputs)) ≤ pairs_of p → more ≤ slots * count_in p (length p.states + j) → more * size (drop (j + 1) (value_counts p.inputs)) ≤ pairs_of p
+  pub few_among : (j : ℕ) → j < length p.inputs → slots * size (drop j (value_counts p.inputs)) ≤ pairs_of_plant p → more ≤ slots * count_in p (length p.states + j) → more * size (drop (j + 1) (value_counts p.inputs)) ≤ pairs_of_plant p
   few_among j within few by =
       let s : ℕ = size (drop (j + 1) (value_counts p.inputs)) in
       let back : j ≡ length p.states + j - length p.states = omega arith in
@@ -102,7 +102,7 @@ module _ (p : Description) (slots more : ℕ) where
       omega (arith, few, mul-le more s (slots * count_in p (length p.states + j)) s by (omega arith), ap (λ (n : ℕ). slots * n) (next_among p j within ∙ ap (λ (n : ℕ). n * s) count))
 
   -- they are few, since there are later inputs
-  pub few_for_each : IsPlant p → (j : ℕ) → slots * size (drop j (value_counts p.inputs)) ≤ pairs_of p → slots ≤ pairs_of p
+  pub few_for_each : IsPlant p → (j : ℕ) → slots * size (drop j (value_counts p.inputs)) ≤ pairs_of_plant p → slots ≤ pairs_of_plant p
   few_for_each plant j few = omega (arith, few, mul-le slots 1 slots (size (drop j (value_counts p.inputs))) (omega arith) (some_rest (value_counts p.inputs) j (some_vectors p.inputs plant.inputs)))
 
 pub variables : (p : Description) (i : ℕ) (digits : List Digit) → All (IsDigitOf p i) digits → All (λ (d : Digit). d.variable < length p.states + length p.inputs) digits

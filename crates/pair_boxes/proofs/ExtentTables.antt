@@ -6,7 +6,7 @@ use Rattle.plant_record.specs.Plants.{IsPlant}
 use Rattle.plant_record.specs.Soundness.{IsSound}
 use Rattle.successor_box.specs.PairExtents.{index_in, shifts_along}
 use Rattle.pair_boxes.specs.declared.extent_table.ExtentTable.{ExtentTable}
-use Rattle.pair_box.specs.PlantBoxes.{pairs_of}
+use Rattle.pair_box.specs.PlantBoxes.{pairs_of_plant}
 use Rattle.pair_boxes.specs.inside.Digits.{slot_at, HoldSlots, AreDigitsOf}
 use Rattle.pair_boxes.specs.inside.ExtentTables.{first_of, IsRelativeExtent, IsExtentTableOf, HoldExtentsFrom}
 use Rattle.pair_boxes.proofs.EquationDigits.{variables, slot_below}
@@ -14,7 +14,7 @@ use Rattle.pair_boxes.proofs.PackedDigits.{slot_sums}
 use Rattle.pair_boxes.proofs.PairDigits.{index_terms}
 
 -- what was found for each slot is a table of all extents
-module _ (p : Description) (plant : IsPlant p) (sound : IsSound p) (limit : pairs_of p ≤ 2 ^ 22) (i : ℕ) (t : ExtentTable) (slots : ℕ) (are : AreDigitsOf p i t.digits.items slots)
+module _ (p : Description) (plant : IsPlant p) (sound : IsSound p) (limit : pairs_of_plant p ≤ 2 ^ 22) (i : ℕ) (t : ExtentTable) (slots : ℕ) (are : AreDigitsOf p i t.digits.items slots)
     (inputs_long : length t.inputs.items ≡ vectors_of p.inputs) (inputs_are : HoldSlots p t.digits.items t.inputs.items)
     (shifts : t.shifts ≡ shifts_along p i) (extents_long : length t.extents ≡ slots) (extents_are : HoldExtentsFrom p i t.digits.items 0 t.extents) where
   -- a pair has the slot that its cell and its input bring

@@ -6,7 +6,7 @@ use Rattle.std.proofs.lemmas.Nat.{div-mul-add, mul-le}
 use Rattle.grid_quantiser.specs.declared.boxes.CellBox.{CellBox}
 use Rattle.plant_record.specs.Description.{Description, vectors_of}
 use Rattle.successor_box.specs.SuccessorBoxes.{IsBoxOf}
-use Rattle.pair_box.specs.PlantBoxes.{pair_of}
+use Rattle.pair_box.specs.PlantBoxes.{pair_of_plant}
 use Rattle.pair_boxes.specs.CellsFrom.{AreBoxesFrom}
 use Rattle.pair_boxes.proofs.CellLineLists.{range, cell_before}
 
@@ -19,7 +19,7 @@ first_cell start m v some multiple =
 
 -- a pair whose box lies in a chunk of boxes has it
 pub box_in_chunk : (p : Description) (m start offset c u : ℕ) (chunk : List (Option CellBox)) (b : Option CellBox) → u < vectors_of p.inputs → start % (m * vectors_of p.inputs) ≡ 0 →
-    start + offset ≡ pair_of p c u → offset < length chunk → AreBoxesFrom p (start / vectors_of p.inputs) chunk → get_or chunk offset None ≡ b → IsBoxOf p c u b
+    start + offset ≡ pair_of_plant p c u → offset < length chunk → AreBoxesFrom p (start / vectors_of p.inputs) chunk → get_or chunk offset None ≡ b → IsBoxOf p c u b
 box_in_chunk p m start offset c u chunk b input multiple there inside boxes is =
     let v : ℕ = vectors_of p.inputs in
     let first : ℕ = start / (m * v) * m in

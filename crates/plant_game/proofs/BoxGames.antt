@@ -15,7 +15,7 @@ use Rattle.plant_record.specs.Description.{Description, axes_of, vectors_of}
 use Rattle.plant_record.specs.Limits.{IsWithinLimits}
 use Rattle.successor_box.specs.SuccessorBoxes.{AreSuccessors, IsBoxOf, cells_in}
 use Rattle.plant_game.specs.Abstraction.{IsGameOf, AreEdges}
-use Rattle.pair_box.specs.PlantBoxes.{pairs_of, pair_of, box_at, AreBoxesOf}
+use Rattle.pair_box.specs.PlantBoxes.{pairs_of_plant, pair_of_plant, box_at, AreBoxesOf}
 use Rattle.plant_game.specs.BoxGame.{box_game, IsBox, IsBoxGraph, edges_of}
 use Rattle.plant_game.specs.Marks.{AreMarksOf}
 use Rattle.plant_record.proofs.lemmas.SoundPlants.{sound}
@@ -59,7 +59,7 @@ module _ (p : Description) (limits : IsWithinLimits p) where
   axes = (sound p limits.plant).axes
 
   -- marks and boxes, one for each pair, are a game if the corners of the boxes are in order
-  module _ (marks : List Mark) (marks_of : AreMarksOf p marks) (boxes : List (Option CellBox)) (long : length boxes ≡ pairs_of p) (in_order : All (IsBox (axes_of p)) boxes) where
+  module _ (marks : List Mark) (marks_of : AreMarksOf p marks) (boxes : List (Option CellBox)) (long : length boxes ≡ pairs_of_plant p) (in_order : All (IsBox (axes_of p)) boxes) where
     is_game : IsGame (box_game (axes_of p) (vectors_of p.inputs) marks boxes)
     is_game =
         let each : All (λ b. AreRisingCells (axes_of p) (cells_in (axes_of p) b)) boxes = All-weaker (IsBox (axes_of p)) (λ b. AreRisingCells (axes_of p) (cells_in (axes_of p) b)) (λ b box. box_cells (axes_of p) b axes box) boxes in_order in
@@ -98,9 +98,9 @@ module _ (p : Description) (limits : IsWithinLimits p) where
     ordered = λ k d lt.
         subst (IsBox (axes_of p)) (get_or_default boxes k None d lt) (IfSome_then (box_at boxes k) (box_of k lt).corners (λ b meets. meets.ordered))
 
-    lists_are : (c u : ℕ) → c < cells_of (axes_of p) → u < vectors_of p.inputs → AreSuccessors p c u (get_or (map (cells_in (axes_of p)) boxes) (pair_of p c u) [])
+    lists_are : (c u : ℕ) → c < cells_of (axes_of p) → u < vectors_of p.inputs → AreSuccessors p c u (get_or (map (cells_in (axes_of p)) boxes) (pair_of_plant p c u) [])
     lists_are c u cell input =
-        subst (AreSuccessors p c u) (sym (successors_are (axes_of p) (vectors_of p.inputs) [] boxes (pair_of p c u))) (box_successors p c u (box_at boxes (pair_of p c u)) (boxes_of.each c u cell input))
+        subst (AreSuccessors p c u) (sym (successors_are (axes_of p) (vectors_of p.inputs) [] boxes (pair_of_plant p c u))) (box_successors p c u (box_at boxes (pair_of_plant p c u)) (boxes_of.each c u cell input))
 
     -- the cells of all boxes are the plant's edges
     pub are_edges : (n : ℕ) → n ≡ edges_of (axes_of p) boxes → AreEdges p n
@@ -117,8 +117,7 @@ module _ (p : Description) (limits : IsWithinLimits p) where
       game = is_game marks marks_of boxes boxes_of.one_each ordered;
       cells = refl;
       inputs = refl;
-      goals = λ c lt. (marks_of.each c lt).0;
-      obstacles = λ c lt. (marks_of.each c lt).1;
+      marks = marks_of.each;
       successors = lists_are;
     }
 

@@ -12,7 +12,7 @@ use Rattle.successor_box.specs.SuccessorBoxes.{IsEnabledAt, AreSuccessors, low_c
 use Rattle.successor_box.proofs.Enabled.{enabled_exactly}
 use Rattle.plant_record.proofs.lemmas.SoundPlants as plants
 use Rattle.plant_game.specs.Abstraction.{IsGameOf}
-use Rattle.pair_box.specs.PlantBoxes.{pairs_of, pair_of}
+use Rattle.pair_box.specs.PlantBoxes.{pairs_of_plant, pair_of_plant}
 use Rattle.plant_game.specs.Laws.{OneEdgeCount, GamesCountTheirEdges}
 use Rattle.plant_game.proofs.GameLaws.{pair_split}
 
@@ -61,9 +61,9 @@ module _ (p : Description) (sound : IsSound p) where
 
 -- the lists of all pairs
 abbrev pub AreLists : Description → List (List ℕ) → Type 0
-AreLists p lists = (c u : ℕ) → c < cells_of (axes_of p) → u < vectors_of p.inputs → AreSuccessors p c u (slice_index_or lists (pair_of p c u) [])
+AreLists p lists = (c u : ℕ) → c < cells_of (axes_of p) → u < vectors_of p.inputs → AreSuccessors p c u (slice_index_or lists (pair_of_plant p c u) [])
 
-pub one_lists : (p : Description) → IsSound p → (f g : List (List ℕ)) → length f ≡ pairs_of p → length g ≡ pairs_of p → AreLists p f → AreLists p g → f ≡ g
+pub one_lists : (p : Description) → IsSound p → (f g : List (List ℕ)) → length f ≡ pairs_of_plant p → length g ≡ pairs_of_plant p → AreLists p f → AreLists p g → f ≡ g
 one_lists p sound f g long as_long lists others =
     ext_get_or [] f g (long ∙ sym as_long) (λ pair lt.
     let c : ℕ = pair / vectors_of p.inputs in
@@ -76,7 +76,7 @@ one_edge_count p m n plant f g =
     f.total ∙ ap (sum_by length) (one_lists p (plants.sound p plant) f.lists g.lists f.one_each g.one_each f.each g.each) ∙ sym g.total
 
 -- the lists of a plant's game
-pub one_list_each : (p : Description) (g : Game) → IsGameOf p g → length g.successors ≡ pairs_of p
+pub one_list_each : (p : Description) (g : Game) → IsGameOf p g → length g.successors ≡ pairs_of_plant p
 one_list_each p g h = h.game.one_list_each ∙ ap (λ (n : ℕ). n * g.inputs) h.cells ∙ ap (λ (n : ℕ). cells_of (axes_of p) * n) h.inputs
 
 pub game_lists : (p : Description) (g : Game) → IsGameOf p g → AreLists p g.successors

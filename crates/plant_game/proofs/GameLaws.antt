@@ -37,14 +37,14 @@ module _ (p : Description) (g : Game) (a : IsGameOf p g) (r : IsRefinement p g) 
     λ met.
         let c : ℕ = cell_of (axes_of p) x in
         let touched : IsObstacleCell p c = Any-weaker (λ b. IsInBox (axes_of p) b.low b.high x) (λ b. Touches (axes_of p) c b.low b.high) p.obstacles (λ b is. (x, (inside, refl), is)) met in
-        clear ((a.obstacles c lt).1 touched),
+        clear ((a.marks c lt).1.1 touched),
   )
 
   -- a state in a goal cell lies in a target
   pub in_target : (x : List ℤ) → IsInDomain (axes_of p) x → cell_of (axes_of p) x < g.cells → mark_of g (cell_of (axes_of p) x) ≡ Goal → LiesInSome p p.targets x
   in_target x inside lt m =
       let c : ℕ = cell_of (axes_of p) x in
-      let goal : IsGoalCell p c = (a.goals c lt).0 m in
+      let goal : IsGoalCell p c = (a.marks c lt).0.0 m in
       Any-weaker (λ b. LiesInside (axes_of p) c b.low b.high) (λ b. IsInBox (axes_of p) b.low b.high x) p.targets (λ b all. all x (inside, refl)) goal.1
 
   -- a step under an enabled input lands in a successor

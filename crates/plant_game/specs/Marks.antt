@@ -1,30 +1,18 @@
 -- The marks of the cells of a plant.
-use Rattle.std.specs.Prelude.{◌≡◌, ◌⊎◌, ℕ, ◌<◌, ◌↔◌, List, [], length, slice_index_or}
+use Rattle.std.specs.Prelude.{◌≡◌, ◌⊎◌, ℕ, ◌<◌, List, length, slice_index_or}
 use Rattle.std.specs.List.{Any}
 use Rattle.grid_quantiser.specs.Axes.{cells_of}
 use Rattle.grid_quantiser.specs.CellBoxes.{LiesInside}
 use Rattle.game_core.specs.declared.game.Mark.{Mark}
-use Rattle.game_core.specs.declared.game.Mark.TheVariants.{Goal, Obstacle, Plain}
+use Rattle.game_core.specs.declared.game.Mark.TheVariants.{Plain}
 use Rattle.plant_record.specs.declared.aims.StateBox.{StateBox}
 use Rattle.plant_record.specs.Description.{Description, axes_of}
-use Rattle.plant_record.specs.CellMarks.{IsGoalCell, IsObstacleCell}
-
--- the mark of a cell
-abbrev pub IsMarkAt : Description → ℕ → Mark → Type 0
-IsMarkAt p c mark = ((mark ≡ Goal) ↔ IsGoalCell p c) × ((mark ≡ Obstacle) ↔ IsObstacleCell p c)
+use Rattle.plant_game.specs.Abstraction.{IsMarkAt}
 
 -- The marks of all cells.
 pub record AreMarksOf (p : Description) (marks : List Mark) : Type 0 where
   pub one_each : length marks ≡ cells_of (axes_of p)
   pub each : (c : ℕ) → c < cells_of (axes_of p) → IsMarkAt p c (slice_index_or marks c Plain)
-
--- the target of a number, in the order of the text
-abbrev pub target_at : Description → ℕ → StateBox
-target_at p j = slice_index_or p.targets j (record { low = []; high = [] })
-
--- all points of the cell lie in the target of this number
-abbrev pub LiesInTarget : Description → ℕ → ℕ → Type 0
-LiesInTarget p j c = LiesInside (axes_of p) c (target_at p j).low (target_at p j).high
 
 -- all points of the cell lie in one of the targets
 abbrev pub LiesInSomeTarget : Description → ℕ → Type 0

@@ -7,7 +7,8 @@ ghost use Rattle.game_core.specs.declared.game.Mark.TheVariants.{Goal, Obstacle}
 ghost use Rattle.plant_record.specs.Description.{axes_of};
 ghost use Rattle.plant_record.specs.CellMarks.{IsObstacleCell};
 ghost use Rattle.successor_box.specs.SuccessorBoxes.{cells_in};
-ghost use Rattle.plant_game.specs.Marks.{LiesInTarget, LiesInSomeTarget, AreMarked, AreMarksOf};
+ghost use Rattle.turn_rows.specs.Targets.{LiesInTarget};
+ghost use Rattle.plant_game.specs.Marks.{LiesInSomeTarget, AreMarked, AreMarksOf};
 
 use game_core::Mark;
 use grid_quantiser::{CellBox, Grid, Segments};

@@ -7,9 +7,9 @@
 #![tactic(auto)]
 
 mod cells;
-mod driving;
+mod driven;
 pub mod laws;
 mod targets;
 
 pub use cells::next_cell;
-pub use driving::{Driven, drive};
+pub use driven::{Driven, drive};

@@ -18,10 +18,10 @@ abbrev pub word_for : Game → ℕ → ℕ
 word_for g c = word_at (mark_of g c)
 
 -- the numbers with which all minima begin
-abbrev pub words_of : Game → List ℕ
-words_of g = for_each_cell g (word_for g)
+abbrev pub first_words : Game → List ℕ
+first_words g = for_each_cell g (word_for g)
 
 -- a counter for each pair, which begins as the number of its successors, a minimum for each cell, and a slot in the
 -- log for each cell
 abbrev pub IsBoardOf : Game → BoardModel → Type 0
-IsBoardOf g board = IsBegunWith (fans_of g) (words_of g) g board
+IsBoardOf g board = IsBegunWith (fans_of g) (first_words g) g board

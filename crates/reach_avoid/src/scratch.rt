@@ -15,13 +15,13 @@ pub type Scratch = board_rounds::Scratch<ReachStart>;
 impl Start for ReachStart {
     ghost use Rattle.std.specs.Prelude.{refl};
     ghost use Rattle.board_rounds.specs.Boards.{fans_of};
-    ghost use Rattle.reach_avoid.specs.ReachBoards.{word_for, words_of};
+    ghost use Rattle.reach_avoid.specs.ReachBoards.{word_for, first_words};
 
     ghost number = { word_for };
 
     ghost counters = { fans_of };
 
-    ghost words = { words_of };
+    ghost words = { first_words };
 
     fn count_counters<G: Forward>(g: &G) -> u32 {
         g.cells() * g.inputs()

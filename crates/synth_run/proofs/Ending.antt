@@ -12,7 +12,7 @@ use Rattle.text_abstraction.specs.declared.stop.Stop.TheVariants as stops
 use Rattle.command_texts.specs.declared.text.Text.{Text}
 use Rattle.synth_run.specs.Headline.{IsAnswer}
 use Rattle.synth_run.specs.Played.{IsPlayed}
-use Rattle.synth_run.specs.RunClauses.{IsAnswered, IsCutOff, Writes, Takes, IsRunOf}
+use Rattle.synth_run.specs.RunClauses.{IsAnswered, IsCutOff, Writes, TakesFor, IsRunOf}
 use Rattle.synth_run.specs.Sources.{bytes_for}
 use Rattle.command_texts.specs.Texts.{bytes_of}
 use Rattle.text_abstraction.specs.Causes.{outcome_of}
@@ -25,7 +25,7 @@ nothing_written : (command : Command) (outcome : Outcome) (source : Reading) (ou
 nothing_written command outcome source out not_done not_cut = record { answered = λ e. absurd (not_done e); cut_off = λ e. absurd (not_cut e) }
 
 -- there is no memory left, and nothing is written
-ends_without_memory : (command : Command) (source : Reading) (out : Writing) → Takes command (Failed Memory) source → source.faults_after ≡ source.faults_before → IsUntouched out → IsRunOf command (Failed Memory) source out None
+ends_without_memory : (command : Command) (source : Reading) (out : Writing) → TakesFor command (Failed Memory) source → source.faults_after ≡ source.faults_before → IsUntouched out → IsRunOf command (Failed Memory) source out None
 ends_without_memory command source out takes no_fault untouched = record {
   ends = tt;
   writes = nothing_written command (Failed Memory) source out (λ e. cc) (λ e. cc);

@@ -7,9 +7,9 @@ use Rattle.plant_record.specs.declared.aims.GoalKind.{GoalKind}
 use Rattle.plant_record.specs.declared.aims.GoalKind.TheVariants.{Reach}
 use Rattle.plant_record.specs.Description.{Description, axes_of}
 use Rattle.game_parts.specs.GameParts.{IsFirstInGame}
-use Rattle.table_check.specs.Verdicts.{verdict_by}
+use Rattle.table_check.specs.Verdicts.{IsVerdictFor, verdict_by}
 use Rattle.table_check.proofs.FirstWrong.{first_wrong_verdict}
-use Rattle.synth_run.specs.inside.Judging.{IsVerdictFor, IsJudged}
+use Rattle.synth_run.specs.inside.Judging.{IsJudged}
 
 -- the first cell whose row isn't right gives the verdict
 pub judged_by_first : (p : Description) (rows : List (Option Row)) (first : Option ℕ) → p.goal ≡ Reach → length rows ≡ cells_of (axes_of p) → IsFirstInGame p (λ g. IsRight g rows) first → IsJudged p rows (verdict_by first)

@@ -2,7 +2,7 @@ ghost use Rattle.std.specs.Prelude.{◌≡◌, ℕ, List, IfSome, IfOk, IfErr};
 ghost use Rattle.run_devices.specs.Devices.{Rose, reading, writing};
 ghost use Rattle.command_line.specs.Command.{IsOfCommand, as_words};
 ghost use Rattle.synth_run.specs.Sources.{bytes_for, most_read, NoReadFailed};
-ghost use Rattle.synth_run.specs.RunClauses.{Gives, IsRun, IsRunOf, IsAnswered, IsCompleteAnswer};
+ghost use Rattle.synth_run.specs.RunClauses.{IsRunWith, IsRun, IsRunOf, IsAnswered, IsCompleteAnswer};
 ghost use Rattle.command_line.specs.declared.command.Command.{Command};
 ghost use Rattle.text_abstraction.specs.Causes.{IsStopFor};
 ghost use Rattle.synth_run.specs.inside.Making.{IsReadFor, IsMade};
@@ -80,7 +80,7 @@ fn outcome_of<R: Threads + Sync, S: Source, O: Sink, G: Gate>(
 ) -> (Outcome, Option<(Board, Root)>)
     ensures { let read = reading S.left S.faults S.is_sound source.old source.new in
         let written = writing O.got O.faults O.capacity out.old out.new in
-        Gives (as_words arguments.now) result.0 read written result.1 }
+        IsRunWith (as_words arguments.now) result.0 read written result.1 }
 {
     match parse_command(arguments) {
         Some(command) => carry_out(rt, alloc, command, source, out, gate),

@@ -3,9 +3,12 @@ use Rattle.std.specs.Prelude.{◌≡◌, ℕ, ◌↔◌, List, Option, Some, Non
 use Rattle.game_core.specs.declared.game.Row.{Row}
 use Rattle.game_core.specs.Game.{Game}
 use Rattle.game_core.specs.Judging.{IsFirstFailure}
-use Rattle.game_core.specs.Keep.{IsKeepRow, IsKeepSolution}
+use Rattle.game_core.specs.Keep.{IsKeepRow}
 use Rattle.game_core.specs.Right.{IsRight}
-use Rattle.game_core.specs.Solution.{row_of, IsReachSolution}
+use Rattle.game_core.specs.Solution.{row_of}
+use Rattle.plant_record.specs.declared.aims.GoalKind.{GoalKind}
+use Rattle.plant_record.specs.declared.aims.GoalKind.TheVariants.{Reach, Keep}
+use Rattle.plant_game.specs.PlantSolution.{Solves}
 use Rattle.table_check.specs.declared.verdict.Verdict.{Verdict}
 use Rattle.table_check.specs.declared.verdict.Verdict.TheVariants.{Valid, Invalid}
 
@@ -19,10 +22,11 @@ abbrev pub verdict_by : Option ℕ → Verdict
 verdict_by None = Valid
 verdict_by (Some c) = Invalid c
 
--- the verdict on the rows of a reach table
-abbrev pub IsReachVerdict : Game → List (Option Row) → Verdict → Type 0
-IsReachVerdict g rows verdict = IsVerdict (IsReachSolution g rows) (IsRight g rows) g.cells verdict
+-- a cell's row is right for a goal: to reach a target, beside the rows of its successors; to be kept, as the cell is kept or not
+abbrev pub IsRightFor : GoalKind → Game → List (Option Row) → ℕ → Type 0
+IsRightFor Reach g rows c = IsRight g rows c
+IsRightFor Keep g rows c = IsKeepRow g c (row_of rows c)
 
--- the verdict on the rows of a keep table
-abbrev pub IsKeepVerdict : Game → List (Option Row) → Verdict → Type 0
-IsKeepVerdict g rows verdict = IsVerdict (IsKeepSolution g rows) (λ c. IsKeepRow g c (row_of rows c)) g.cells verdict
+-- the verdict on the rows of a game for a goal
+abbrev pub IsVerdictFor : GoalKind → Game → List (Option Row) → Verdict → Type 0
+IsVerdictFor goal g rows verdict = IsVerdict (Solves goal g rows) (IsRightFor goal g rows) g.cells verdict

@@ -3,7 +3,7 @@ ghost use Rattle.game_core.specs.Solution.{row_of};
 ghost use Rattle.grid_quantiser.specs.Axes.{cells_of};
 ghost use Rattle.plant_record.specs.declared.aims.GoalKind.TheVariants.{Keep};
 ghost use Rattle.plant_record.specs.Description.{axes_of, vectors_of};
-ghost use Rattle.table_check.specs.Verdicts.{IsVerdict, IsKeepVerdict};
+ghost use Rattle.table_check.specs.Verdicts.{IsVerdict, IsVerdictFor};
 
 use crate::verdict::Verdict;
 use controller_table::Table;
@@ -15,7 +15,7 @@ pub fn check_keep<G: Graph>(alloc: Global, g: &G, t: &Table) -> Result<Verdict, 
     requires goal { t.now.plant.goal ≡ Keep }
     requires cells { (G.game g.now).cells ≡ cells_of (axes_of t.now.plant) }
     requires inputs { (G.game g.now).inputs ≡ vectors_of t.now.plant.inputs }
-    ensures { IfOk result (IsKeepVerdict (G.game g.now) t.now.rows) }
+    ensures { IfOk result (IsVerdictFor Keep (G.game g.now) t.now.rows) }
 {
     let kept = keep_plain(alloc, g)?;
     Ok(compare(t.answer(), &kept))

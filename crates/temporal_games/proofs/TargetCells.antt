@@ -14,8 +14,7 @@ use Rattle.plant_record.specs.Plants.{IsPlant}
 use Rattle.plant_game.specs.Abstraction.{IsGameOf}
 use Rattle.grid_quantiser.proofs.CellPoints.{ends_from_inside, inside_from_ends}
 use Rattle.plant_record.proofs.lemmas.SoundPlants.{sound}
-use Rattle.plant_game.specs.Marks.{target_at}
-use Rattle.turn_rows.specs.Targets.{IsInTarget}
+use Rattle.turn_rows.specs.Targets.{target_at, IsInTarget}
 
 at_most_told : (axes : List Axis) (xs ys : List ℤ) → IsAtMost axes xs ys ⊎ (IsAtMost axes xs ys → ⊥)
 at_most_told [] xs ys = inl tt
@@ -43,9 +42,9 @@ obstacle_told : (p : Description) (g : Game) → IsGameOf p g → (c : ℕ) → 
 obstacle_told p g game c lc = by_mark (mark_of g c) refl
   where
     by_mark : (m : Mark) → mark_of g c ≡ m → IsObstacleCell p c ⊎ (IsObstacleCell p c → ⊥)
-    by_mark Obstacle e = inl ((game.obstacles c lc).0 e)
-    by_mark Goal e = inr (λ o. let f = (game.obstacles c lc).1 o in cc)
-    by_mark Plain e = inr (λ o. let f = (game.obstacles c lc).1 o in cc)
+    by_mark Obstacle e = inl ((game.marks c lc).1.0 e)
+    by_mark Goal e = inr (λ o. let f = (game.marks c lc).1.1 o in cc)
+    by_mark Plain e = inr (λ o. let f = (game.marks c lc).1.1 o in cc)
 
 -- whether a cell lies in a target is decided
 pub targets_are_told : (p : Description) (g : Game) → IsPlant p → IsGameOf p g → (j c : ℕ) → j < length p.targets → c < g.cells → IsInTarget p j c ⊎ (IsInTarget p j c → ⊥)

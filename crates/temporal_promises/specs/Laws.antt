@@ -14,12 +14,12 @@ use Rattle.temporal_texts.specs.Settles.{Settles}
 use Rattle.temporal_texts.specs.PatrolText.{patrol_text, IsPatrolText}
 use Rattle.temporal_texts.specs.Patrols.{Patrols}
 
--- the text of the solution of a plant's game is a stay text, and settles the plant
+-- the text of the solution of reach and stay of a plant's game is a stay text, and settles the plant
 abbrev pub StaySolutionsSettle : Type 0
 StaySolutionsSettle =
     (p : Description) (g : Game) (rows : List (Option Row)) → IsWithinLimits p → IsGameOf p g → IsStaySolution g rows → IsStayText (stay_text p rows) p rows × Settles p (stay_text p rows)
 
--- the text of the patrol of a plant's game, where the turns are few enough, is a patrol text, and patrols the plant's targets
+-- the text of the solution of patrol of a plant's game is a patrol text if the plant has few enough turns, and patrols the plant's targets
 abbrev pub PatrolSolutionsPatrol : Type 0
 PatrolSolutionsPatrol =
-    (p : Description) (g : Game) (rows : List (List (Option Row))) → IsWithinLimits p → HasFewTurns p → IsGameOf p g → IsPatrol g (IsInTarget p) (length p.targets) rows → IsPatrolText (patrol_text p rows) p rows × Patrols p (patrol_text p rows)
+    (p : Description) (g : Game) (rows : List (List (Option Row))) → IsWithinLimits p → IsGameOf p g → IsPatrol g (IsInTarget p) (length p.targets) rows → (HasFewTurns p → IsPatrolText (patrol_text p rows) p rows) × Patrols p (patrol_text p rows)

@@ -1,2 +1,3 @@
+pub mod FewTurns
 pub mod StayRows
 pub mod Trajectories

@@ -9,9 +9,13 @@ use Rattle.plant_record.specs.CellMarks.{IsObstacleCell}
 abbrev pub target_at : Description → ℕ → StateBox
 target_at p j = slice_index_or p.targets j (record { low = []; high = [] })
 
+-- all points of the cell lie in target j
+abbrev pub LiesInTarget : Description → ℕ → ℕ → Type 0
+LiesInTarget p j c = LiesInside (axes_of p) c (target_at p j).low (target_at p j).high
+
 -- a cell that is no obstacle, all points of which lie in target j
 abbrev pub IsInTarget : Description → ℕ → ℕ → Type 0
-IsInTarget p j c = (j < length p.targets) × (IsObstacleCell p c → ⊥) × LiesInside (axes_of p) c (target_at p j).low (target_at p j).high
+IsInTarget p j c = (j < length p.targets) × (IsObstacleCell p c → ⊥) × LiesInTarget p j c
 
 -- the turn after a turn: the first follows the last
 abbrev pub next_turn : ℕ → ℕ → ℕ

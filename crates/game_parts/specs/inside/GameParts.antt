@@ -6,7 +6,7 @@ use Rattle.game_core.specs.declared.game.Mark.{Mark}
 use Rattle.game_core.specs.Game.{Game, successors_at}
 use Rattle.plant_record.specs.Description.{Description, axes_of, vectors_of}
 use Rattle.successor_box.specs.SuccessorBoxes.{cells_in}
-use Rattle.pair_box.specs.PlantBoxes.{pair_of, box_at}
+use Rattle.pair_box.specs.PlantBoxes.{pair_of_plant, box_at}
 use Rattle.pair_boxes.specs.CellsFrom.{AreBoxesFrom}
 use Rattle.pair_boxes.specs.declared.box_finder.BoxFinder.{BoxFinder}
 use Rattle.pair_boxes.specs.Finders.{plant_of}
@@ -34,7 +34,7 @@ pub record HasBoxesFrom (p : Description) (marks : List Mark) (from : ℕ) (boxe
   pub cells : g.cells ≡ cells_of (axes_of p)
   pub inputs : g.inputs ≡ vectors_of p.inputs
   pub marks_are : g.marks ≡ marks
-  pub successors : (k : ℕ) → k < length boxes → successors_at g (pair_of p from k) ≡ cells_in (axes_of p) (box_at boxes k)
+  pub successors : (k : ℕ) → k < length boxes → successors_at g (pair_of_plant p from k) ≡ cells_in (axes_of p) (box_at boxes k)
 
 -- in each game with these boxes the cell is the first, from one up to another, of which a fact doesn't hold
 abbrev pub HaveFirst : Description → List Mark → (Game → ℕ → Type 0) → ℕ → ℕ → List (Option CellBox) → Option ℕ → Type 0

@@ -3,6 +3,7 @@ use Rattle.std.specs.Prelude.{◌≡◌, ◌≢◌, ℕ, suc, ◌+◌, List, [],
 use Rattle.controller_table.specs.Tables.{TableModel}
 use Rattle.text_pieces.specs.Steps.{joined, IsRead}
 use Rattle.row_reading.specs.Counting.{line_count}
+use Rattle.live_table.specs.Publishes.{EndsWith}
 use Rattle.live_script.specs.declared.command.ScriptCommand.{ScriptCommand}
 use Rattle.live_script.specs.declared.command.ScriptCommand.TheVariants.{Publish, Ask}
 use Rattle.live_script.specs.declared.script_fault.ScriptFault.{ScriptFault}
@@ -17,7 +18,7 @@ use Rattle.live_run.specs.inside.Sessions.{Standing}
 -- the last of the tables, if there is one
 abbrev pub IsLast : List TableModel → Option TableModel → Type 0
 IsLast tables None = tables ≡ []
-IsLast tables (Some t) = (before : List TableModel) × (tables ≡ before ++ t ∷ [])
+IsLast tables (Some t) = EndsWith tables t
 
 -- The commands before what is unread are answered by this text, and leave this table in force.
 pub record IsAnsweredSoFar (script : List ℕ) (unread : Unread) (standing : Standing) (text : List ℕ) : Type 0 where

@@ -17,7 +17,7 @@ use Rattle.live_run.specs.LiveRuns.{most_read}
 use Rattle.live_run.specs.inside.Answering.{IsUnanswered}
 
 -- A source was read to its end, or to one byte past a script's limit.
-pub record IsRead (source : Reading) (read : List ℕ) : Type 0 where
+pub record IsScriptRead (source : Reading) (read : List ℕ) : Type 0 where
   pub up_to : ReadUpTo source.before source.after most_read read
   pub never_past : TakesAtMost source.before source.after most_read
   pub no_fault : source.faults_after ≡ source.faults_before
@@ -25,7 +25,7 @@ pub record IsRead (source : Reading) (read : List ℕ) : Type 0 where
 -- The text answers the script that was read.
 pub record IsWorkedOut (text : List ℕ) (source : Reading) : Type 0 where
   pub script : List ℕ
-  pub read : IsRead source script
+  pub read : IsScriptRead source script
   pub answers : IsLiveText script text
 
 -- The source wasn't read, for this reason.
@@ -38,7 +38,7 @@ pub record IsUnread (fault : ReadFault) (source : Reading) : Type 0 where
 -- The script that was read has no answers, for this reason.
 pub record HasNoAnswers (fault : ScriptFault) (source : Reading) : Type 0 where
   pub script : List ℕ
-  pub read : IsRead source script
+  pub read : IsScriptRead source script
   pub why : IsUnanswered script fault
 
 -- why there are no answers: the source was not read, or its script has none
@@ -47,9 +47,9 @@ IsStopped (Unread fault) source = IsUnread fault source
 IsStopped (Unanswered fault) source = HasNoAnswers fault source
 
 -- how a run ends that has no answers
-abbrev pub end_of : LiveStop → Outcome
-end_of (Unread fault) = Failed (failure_of fault)
-end_of (Unanswered fault) = of_script fault
+abbrev pub outcome_of_stop : LiveStop → Outcome
+outcome_of_stop (Unread fault) = Failed (failure_of fault)
+outcome_of_stop (Unanswered fault) = of_script fault
 
 -- how the writing of the answers ends
 abbrev pub IsWrittenOut : List ℕ → Outcome → Writing → Type 0

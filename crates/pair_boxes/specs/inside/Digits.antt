@@ -4,7 +4,7 @@ use Rattle.std.specs.List.{All}
 use Rattle.grid_quantiser.specs.Axes.{counts_of}
 use Rattle.plant_record.specs.Description.{Description, axes_of, vectors_of}
 use Rattle.plant_record.specs.ValueIndices.{value_count}
-use Rattle.pair_box.specs.PlantBoxes.{pairs_of}
+use Rattle.pair_box.specs.PlantBoxes.{pairs_of_plant}
 use Rattle.successor_box.specs.PairExtents.{depends_on, index_in}
 use Rattle.successor_box.specs.declared.central_value.TheConstants.{INDICES_LIMIT}
 use Rattle.pair_boxes.specs.declared.digits.Digit.{Digit}
@@ -67,7 +67,7 @@ pub record AreDigitsOf (p : Description) (i : ℕ) (digits : List Digit) (slots 
   pub each : All (IsDigitOf p i) digits
   pub all : (k : ℕ) → k < length p.states + length p.inputs → IsTrue (depends_on p i k) → HasDigit digits k
   pub packed : ArePacked 1 digits slots
-  pub few : slots ≤ pairs_of p
+  pub few : slots ≤ pairs_of_plant p
 
 -- A variable has a digit, above the others.
 pub record IsWithDigit (variable count : ℕ) (old new : Digits) : Type 0 where

@@ -2,21 +2,14 @@
 use Rattle.std.specs.Prelude.{◌≡◌, ℕ, List, Option}
 use Rattle.game_core.specs.declared.game.Row.{Row}
 use Rattle.game_core.specs.Game.{Game}
-use Rattle.plant_record.specs.declared.aims.GoalKind.{GoalKind}
 use Rattle.plant_record.specs.Description.{Description}
 use Rattle.plant_game.specs.Abstraction.{IsGameOf}
-use Rattle.plant_game.specs.PlantSolution.{Solves}
 use Rattle.table_check.specs.declared.verdict.Verdict.{Verdict}
 use Rattle.table_check.specs.declared.verdict.Verdict.TheVariants.{Invalid}
-use Rattle.table_check.specs.Verdicts.{IsVerdict}
+use Rattle.table_check.specs.Verdicts.{IsVerdictFor}
 use Rattle.command_line.specs.declared.outcome.Refusal.TheVariants as refusals
 use Rattle.text_abstraction.specs.declared.stop.Stop.{Stop}
 use Rattle.text_abstraction.specs.declared.stop.Stop.TheVariants.{Refused}
-use Rattle.command_outcomes.specs.IsOutcomeFor.{IsRightFor}
-
--- the verdict on rows for a goal: valid exactly for the solution, else the first cell that isn't right
-abbrev pub IsVerdictFor : GoalKind → Game → List (Option Row) → Verdict → Type 0
-IsVerdictFor goal g rows verdict = IsVerdict (Solves goal g rows) (IsRightFor goal g rows) g.cells verdict
 
 -- The verdict on rows for a plant, in its game.
 pub record IsJudged (p : Description) (rows : List (Option Row)) (verdict : Verdict) : Type 0 where

@@ -7,13 +7,13 @@ use Rattle.synth_run.specs.declared.work.Work.{Work}
 use Rattle.synth_run.specs.Sources.{bytes_for, most_read}
 use Rattle.synth_run.specs.Headline.{IsAnswer}
 use Rattle.synth_run.specs.Played.{IsPlayed}
-use Rattle.synth_run.specs.RunClauses.{Takes}
+use Rattle.synth_run.specs.RunClauses.{TakesFor}
 use Rattle.command_texts.specs.Texts.{bytes_of, CanBeWritten}
 
 -- A command has the bytes that it works on: what it is given, up to one byte past the limit of its text.
 pub record IsReadFor (command : Command) (bytes : List ℕ) (source : Reading) : Type 0 where
   pub front : IfSome (bytes_for command source.before) (λ told. bytes ≡ take (most_read command) told)
-  pub takes : (outcome : Outcome) → Takes command outcome source
+  pub takes : (outcome : Outcome) → TakesFor command outcome source
   pub no_fault : source.faults_after ≡ source.faults_before
 
 -- A command has made its answer of bytes, and what it is to leave.

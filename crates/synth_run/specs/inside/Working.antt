@@ -11,7 +11,7 @@ use Rattle.run_devices.specs.Devices.{next_count, Reading, Writing, GainsWhole, 
 use Rattle.run_devices.specs.Transfers.{IsUntouched}
 use Rattle.synth_run.specs.Sources.{bytes_for}
 use Rattle.synth_run.specs.Headline.{IsAnswer}
-use Rattle.synth_run.specs.RunClauses.{Ends, Takes}
+use Rattle.synth_run.specs.RunClauses.{Ends, TakesFor}
 use Rattle.command_texts.specs.declared.text.Text.{Text}
 use Rattle.synth_run.specs.declared.work.Work.{Work}
 use Rattle.text_abstraction.specs.Causes.{outcome_of}
@@ -23,7 +23,7 @@ pub record IsWorkedOut (command : Command) (text : Text) (source : Reading) : Ty
   pub can_be_written : CanBeWritten text
   pub answer : IfSome (bytes_for command source.before) (λ bytes. IsAnswer command bytes (bytes_of text))
   pub ends : Ends command (bytes_for command source.before) outcomes.Done
-  pub takes : (outcome : Outcome) → Takes command outcome source
+  pub takes : (outcome : Outcome) → TakesFor command outcome source
   pub no_fault : source.faults_after ≡ source.faults_before
 
 -- the text of a work is that of the command's answer
@@ -38,7 +38,7 @@ HasItsGame command source work = IsPlayed command source.before work.played
 pub record IsStopped (command : Command) (source : Reading) (stop : Stop) : Type 0 where
   pub ends : Ends command (bytes_for command source.before) (outcome_of stop)
   pub not_write : stop ≢ Failed Write
-  pub takes : Takes command (outcome_of stop) source
+  pub takes : TakesFor command (outcome_of stop) source
   pub fault : stop ≡ Failed Read → source.faults_after ≡ next_count source.faults_before
   pub no_fault : stop ≢ Failed Read → source.faults_after ≡ source.faults_before
   pub sound : IsTrue source.is_sound → stop ≢ Failed Read

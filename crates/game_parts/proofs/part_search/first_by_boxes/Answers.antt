@@ -2,7 +2,7 @@ use Rattle.std.proofs.Common.{◌≡◌, ◌+◌, ◌-◌, ◌*◌, ◌≤◌, a
 use Rattle.game_core.specs.Game.{Game}
 use Rattle.plant_record.specs.Description.{axes_of, vectors_of}
 use Rattle.pair_boxes.specs.Finders.{plant_of}
-use Rattle.pair_box.specs.PlantBoxes.{pairs_of}
+use Rattle.pair_box.specs.PlantBoxes.{pairs_of_plant}
 use Rattle.plant_game.specs.BoxGame.{box_game}
 use Rattle.base.specs.declared.limits.TheConstants.{EDGES_LIMIT}
 use Rattle.source_lists.specs.KnownShapes.{edges_known, shapes_known}
@@ -23,7 +23,7 @@ invariant_of-part g c =
     rw (c.grid.ensures, count, c.plant-plant.ensures, c.shapes.ensures)
     (record {
       in_memory = part_graph p c.args.from c.args.to boxes asked.ordered asked.cells asked.long finder.sampled.within c.args.marks.now asked.marks some asked.each (omega (arith, asked.edges, few));
-      listed = part_listed (axes_of p) (c.args.from * vectors_of p.inputs) boxes (pairs_of p) (shapes_known c.args.known.now) (asked.listed few);
+      listed = part_listed (axes_of p) (c.args.from * vectors_of p.inputs) boxes (pairs_of_plant p) (shapes_known c.args.known.now) (asked.listed few);
     })
 
 pub returns : goal.returns
@@ -37,8 +37,8 @@ returns g c = λ few game has.
     let local = g.met.J.CellJudge.local in
     let Right = g.J.CellJudge.is_right judge in
     let count : c.vectors-inputs.result ≡ vectors_of p.inputs = rw c.plant-plant.ensures at c.vectors-inputs.ensures.count in
-    let part : Game = box_game (axes_of p) (vectors_of p.inputs) marks (padded (from * vectors_of p.inputs) boxes (pairs_of p)) in
-    let in_part = padded_has p marks from boxes (pairs_of p) in
+    let part : Game = box_game (axes_of p) (vectors_of p.inputs) marks (padded (from * vectors_of p.inputs) boxes (pairs_of_plant p)) in
+    let in_part = padded_has p marks from boxes (pairs_of_plant p) in
     let cells : from + (to - from) ≡ to = omega (arith, c.requires.ordered) in
     let found = rw (c.grid.ensures, count, c.plant-plant.ensures) at c.first_wrong.ensures in
     first_same (Right part) (Right game) from to c.first_wrong.result

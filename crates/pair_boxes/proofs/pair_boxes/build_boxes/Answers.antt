@@ -4,7 +4,7 @@ use Rattle.std.proofs.lemmas.Nat.{row_fits}
 use Rattle.grid_quantiser.specs.Axes.{cells_of}
 use Rattle.grid_quantiser.specs.ExtentBoxes.{one_cell}
 use Rattle.plant_record.specs.Description.{axes_of, vectors_of}
-use Rattle.pair_box.specs.PlantBoxes.{pairs_of, pair_of}
+use Rattle.pair_box.specs.PlantBoxes.{pairs_of_plant, pair_of_plant}
 use Rattle.pair_boxes.specs.CellsFrom.{AreBoxesFrom}
 use Rattle.pair_boxes.proofs.IfOks.{IfOk-both}
 use Rattle.pair_boxes.proofs.PairBoxes.{box_in_chunk, chunk_cells}
@@ -35,12 +35,12 @@ returns g c =
     let m : ℕ = c.cells_in_chunk.result in
     let v : inputs ≡ vectors_of p.inputs = c.vectors.ensures.count in
     let long = length-replicate (c.cells-cells.result * inputs) one_cell in
-    let pairs : c.cells-cells.result * inputs ≡ pairs_of p = ap (λ (n : ℕ). n * inputs) (c.cells-cells.ensures.count ∙ ap cells_of c.grid.ensures) ∙ ap (λ (n : ℕ). cells_of (axes_of p) * n) v in
+    let pairs : c.cells-cells.result * inputs ≡ pairs_of_plant p = ap (λ (n : ℕ). n * inputs) (c.cells-cells.ensures.count ∙ ap cells_of c.grid.ensures) ∙ ap (λ (n : ℕ). cells_of (axes_of p) * n) v in
     IfOk-both c.by_chunks.result _ _ _ c.by_chunks.ensures.len c.by_chunks.ensures.by_index (λ boxes len by_index.
     record {
       one_each = len ∙ pairs;
       each = λ cell u within input.
-          let found = (by_index (pair_of p cell u) None (omega (arith, row_fits cell (vectors_of p.inputs) (cells_of (axes_of p)) (vectors_of p.inputs) within (omega arith), input, pairs, long))).1 in
+          let found = (by_index (pair_of_plant p cell u) None (omega (arith, row_fits cell (vectors_of p.inputs) (cells_of (axes_of p)) (vectors_of p.inputs) within (omega arith), input, pairs, long))).1 in
           let multiple : found.start % (m * vectors_of p.inputs) ≡ 0 = subst (λ (n : ℕ). found.start % (m * n) ≡ 0) v found.argument_is.start_is_multiple in
           box_in_chunk p m found.start found.offset cell u found.after_call.now _ input multiple found.start_plus_offset (omega (arith, found.offset_in_chunk, found.call.0))
           (subst (λ (n : ℕ). AreBoxesFrom p (found.start / n) found.after_call.now) v found.call.1) found.new_element;

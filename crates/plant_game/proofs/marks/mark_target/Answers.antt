@@ -8,7 +8,8 @@ use Rattle.game_core.specs.declared.game.Mark.TheVariants.{Goal}
 use Rattle.plant_record.specs.declared.aims.StateBox.{StateBox}
 use Rattle.plant_record.specs.Description.{axes_of}
 use Rattle.successor_box.specs.SuccessorBoxes.{cells_in}
-use Rattle.plant_game.specs.Marks.{target_at, AreMarked}
+use Rattle.turn_rows.specs.Targets.{target_at}
+use Rattle.plant_game.specs.Marks.{AreMarked}
 use Rattle.plant_game.proofs.Marking.{marked_likewise, box_marked}
 use Rattle.plant_game.proofs.PlantMarks.{no_box}
 use Rattle.plant_game.proofs.marks.mark_target.Goals as goal

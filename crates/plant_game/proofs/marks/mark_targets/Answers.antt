@@ -2,7 +2,7 @@ use Rattle.std.proofs.Common.{◌≡◌, arith, refl, length}
 use Rattle.grid_quantiser.specs.CellBoxes.{LiesInside}
 use Rattle.game_core.specs.declared.game.Mark.TheVariants.{Goal}
 use Rattle.plant_record.specs.Description.{axes_of}
-use Rattle.plant_game.specs.Marks.{target_at}
+use Rattle.turn_rows.specs.Targets.{target_at}
 use Rattle.plant_game.proofs.PlantMarks.{one_more, any_marked}
 use Rattle.plant_game.proofs.marks.mark_targets.Goals as goal
 

@@ -4,7 +4,7 @@ use Rattle.plant_record.specs.Description.{Description}
 use Rattle.plant_game.specs.Abstraction.{IsGameOf}
 use Rattle.abstraction_table.specs.Table.{game_of}
 use Rattle.command_outcomes.specs.IsOutcomeFor.{IsSolvable}
-use Rattle.synth_run.specs.inside.Judging.{IsVerdictFor}
+use Rattle.table_check.specs.Verdicts.{IsVerdictFor}
 use Rattle.synth_run.proofs.commands.check.keep_verdict.Goals as goal
 
 pub returns-clause-solvable : goal.returns-clause-solvable

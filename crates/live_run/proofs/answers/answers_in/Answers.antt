@@ -3,7 +3,7 @@ use Rattle.std.specs.Prelude.{IfSome}
 use Rattle.live_script.specs.declared.command.ScriptCommand.{ScriptCommand}
 use Rattle.live_script.specs.ScriptReading.{IsTaken}
 use Rattle.live_run.proofs.Commands.{executed}
-use Rattle.live_run.proofs.answering.answers_in.Goals as goal
+use Rattle.live_run.proofs.answers.answers_in.Goals as goal
 
 pub loop-text-preserved : goal.loop-text-preserved
 loop-text-preserved g c =

@@ -1,7 +1,7 @@
 use Rattle.plant_refine.proofs.Choosing.{chooses_input}
 use Rattle.plant_refine.proofs.Down.{LeadsLower, chosen_leads}
-use Rattle.plant_refine.proofs.driving.next_state.Goals as goal
-use Rattle.plant_refine.proofs.driving.next_state.Goals.{In-Some}
+use Rattle.plant_refine.proofs.driven.next_state.Goals as goal
+use Rattle.plant_refine.proofs.driven.next_state.Goals.{In-Some}
 
 pub unreachable-requires : goal.unreachable-requires
 unreachable-requires c =

@@ -7,8 +7,8 @@ use Rattle.controller_table.proofs.OneRow.{rank_below_cells}
 use Rattle.plant_refine.proofs.InBoxes.{gets}
 use Rattle.plant_refine.proofs.Arriving.{begins, goes_on, comes_in, some_rank}
 use Rattle.plant_refine.proofs.Down.{lead_down}
-use Rattle.plant_refine.proofs.driving.drive.Goals as goal
-use Rattle.plant_refine.proofs.driving.drive.Goals.{After-every_table_fits}
+use Rattle.plant_refine.proofs.driven.drive.Goals as goal
+use Rattle.plant_refine.proofs.driven.drive.Goals.{After-every_table_fits}
 
 down : (c : After-every_table_fits) → LeadDown c.args.p.now c.args.t.now.rows
 down c = lead_down c.args.p.now c.args.t.now.rows (subst IsPlant c.requires.plant c.every_table_fits.ensures.limits.plant) c.requires.right
