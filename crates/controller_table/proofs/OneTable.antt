@@ -2,16 +2,14 @@
 use Rattle.std.proofs.Common.{◌≡◌, ℕ, List, [], ◌∷◌, Option, sym, ap, ◌∙◌}
 use Rattle.std.specs.Prelude.{ℤ}
 use Rattle.game_core.specs.declared.game.Row.{Row}
-use Rattle.game_core.specs.Solution.{row_of}
-use Rattle.grid_quantiser.specs.Cells.{cell_of}
 use Rattle.plant_record.specs.declared.aims.GoalKind.{GoalKind}
 use Rattle.plant_record.specs.declared.aims.GoalKind.TheVariants.{Reach, Keep}
-use Rattle.plant_record.specs.Description.{Description, axes_of}
+use Rattle.plant_record.specs.Description.{Description}
 use Rattle.base.proofs.Lists.{same_head}
 use Rattle.row_runs.specs.declared.run.TableVersion.{TableVersion}
 use Rattle.controller_table.specs.declared.text_kind.TextKind.TheVariants.{Table}
 use Rattle.controller_table.specs.Tables.{IsTable}
-use Rattle.controller_table.specs.Choice.{HasRowAt, Applies, Chooses}
+use Rattle.controller_table.specs.Choice.{row_at, HasRowAt, Applies, Chooses}
 use Rattle.controller_table.specs.Laws.{OneTablePerText, OneChoice, OneRank}
 use Rattle.controller_table.proofs.HeadedLaws.{one_text}
 use Rattle.std.proofs.lemmas.Option.{same_Some}
@@ -31,9 +29,8 @@ one_table bytes p q rows others h k =
 one_row : (bytes : List ℕ) (p q : Description) (rows others : List (Option Row)) (x : List ℤ) (a b : Row) → IsTable bytes p rows → IsTable bytes q others → HasRowAt p rows x a → HasRowAt q others x b → (p ≡ q) × (a ≡ b)
 one_row bytes p q rows others x a b h k r s =
     let same = one_table bytes p q rows others h k in
-    let at : row_of rows (cell_of (axes_of p) x) ≡ row_of others (cell_of (axes_of q) x) =
-    ap (λ (r : List (Option Row)). row_of r (cell_of (axes_of p) x)) same.1 ∙ ap (λ (d : Description). row_of others (cell_of (axes_of d) x)) same.0 in
-    (same.0, same_Some a b (sym r.is ∙ at ∙ s.is))
+    let at : row_at p rows x ≡ row_at q others x = ap (λ (r : List (Option Row)). row_at p r x) same.1 ∙ ap (λ (d : Description). row_at d others x) same.0 in
+    (same.0, same_Some a b (sym r ∙ at ∙ s))
 
 applied : (goal : GoalKind) (row : Row) (u : ℕ) → Applies goal row u → row.input ≡ u
 applied Reach row u h = h.1
@@ -42,7 +39,7 @@ applied Keep row u h = h
 -- rows choose one input at a state
 pub one_choice_at : (p : Description) (rows : List (Option Row)) (x : List ℤ) (u v : ℕ) → Chooses p rows x u → Chooses p rows x v → u ≡ v
 one_choice_at p rows x u v h k =
-    let same = same_Some h.0 k.0 (sym h.1.is ∙ k.1.is) in
+    let same = same_Some h.0 k.0 (sym h.1 ∙ k.1) in
     sym (applied p.goal h.0 u h.2) ∙ ap (λ (r : Row). r.input) same ∙ applied p.goal k.0 v k.2
 
 pub one_choice : OneChoice

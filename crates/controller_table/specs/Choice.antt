@@ -5,16 +5,11 @@ use Rattle.game_core.specs.declared.game.Row.{Row}
 use Rattle.game_core.specs.Solution.{row_of}
 use Rattle.grid_quantiser.specs.declared.axis.Axis.{Axis}
 use Rattle.grid_quantiser.specs.Axes.{end_of}
-use Rattle.grid_quantiser.specs.Cells.{IsInDomain, cell_of}
+use Rattle.grid_quantiser.specs.Cells.{cell_of}
 use Rattle.plant_record.specs.declared.aims.GoalKind.{GoalKind}
 use Rattle.plant_record.specs.declared.aims.GoalKind.TheVariants.{Reach, Keep}
 use Rattle.plant_record.specs.Description.{Description, axes_of}
 use Rattle.controller_table.specs.Tables.{IsTable}
-
--- The state lies in a cell with this row.
-pub record HasRowAt (p : Description) (rows : List (Option Row)) (x : List ℤ) (row : Row) : Type 0 where
-  pub inside : IsInDomain (axes_of p) x
-  pub is : row_of rows (cell_of (axes_of p) x) ≡ Some row
 
 -- whether a state lies in the domain
 abbrev pub is_in_domain : List Axis → List ℤ → Bool
@@ -25,6 +20,10 @@ is_in_domain (a ∷ axes) (x ∷ xs) = int_le a.lo x && int_lt x (end_of a) && i
 -- the row of the cell in which a state lies
 abbrev pub row_at : Description → List (Option Row) → List ℤ → Option Row
 row_at p rows x = if is_in_domain (axes_of p) x then row_of rows (cell_of (axes_of p) x) else None
+
+-- the state lies in a cell with this row
+abbrev pub HasRowAt : Description → List (Option Row) → List ℤ → Row → Type 0
+HasRowAt p rows x row = row_at p rows x ≡ Some row
 
 -- at rank 0 a plant that is to be brought to its targets is there
 abbrev pub has_arrived : GoalKind → Row → Bool

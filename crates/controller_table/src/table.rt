@@ -109,7 +109,6 @@ impl Table {
     }
 
     /// The input to apply at a state.
-    #[tactic(auto, using(crate::proofs::RowsAtStates::has_row, crate::proofs::RowsAtStates::no_row))]
     pub fn choice(&self, x: &Point) -> Option<u32>
         ensures chosen { IfSome result (λ u. Chooses self.now.plant self.now.rows x.now u) }
         ensures none { IfNone result ((u : ℕ) → Chooses self.now.plant self.now.rows x.now u → ⊥) }

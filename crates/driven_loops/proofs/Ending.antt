@@ -3,6 +3,7 @@
 use Rattle.std.proofs.Common.{◌≡◌, ◌≢◌, ℕ, zero, suc, ◌+◌, ◌<◌, ◌≤◌, List, Some, None, refl, sym, ap, subst, ◌∙◌, arith}
 use Rattle.std.specs.Prelude.{ℤ, pos}
 use Rattle.std.proofs.lemmas.List.Elements.{All-contains}
+use Rattle.std.proofs.lemmas.Option.{none-some, same_Some}
 use Rattle.std.specs.List.{All}
 use Rattle.game_core.specs.declared.game.Row.{Row}
 use Rattle.game_core.specs.declared.game.Mark.TheVariants.{Goal, Obstacle}
@@ -16,7 +17,7 @@ use Rattle.plant_record.specs.Description.{Description}
 use Rattle.controller_table.specs.Choice.{Applies, HasRowAt}
 use Rattle.controller_table.specs.TableText.{written_version}
 use Rattle.controller_table.specs.declared.text_kind.TextKind.TheVariants.{Table}
-use Rattle.plant_refine.proofs.Choosing.{one_row}
+use Rattle.controller_table.proofs.RowsAtStates.{in_cell}
 use Rattle.text_control.specs.declared.reply.Reply.{Reply}
 use Rattle.text_control.specs.declared.reply.Reply.TheVariants.{Apply, Arrived, NoRow, WrongSizes}
 use Rattle.text_control.specs.Texts.{TextModel, due_rows}
@@ -72,10 +73,10 @@ module _ (p : Description) (t : TextModel) (goal : p.goal ≡ Reach) (h : HoldsT
   arrived y before after row has none sized Apply is =
       let c = is.1 in
       let some = above_zero c.row c.input c.applies in
-      let same = ap (λ (r : Row). r.rank) (one_row p (due_rows m) y c.row row c.has has) in
+      let same = ap (λ (r : Row). r.rank) (same_Some c.row row (sym c.has ∙ has)) in
       absurd (omega (arith, some, same, none))
   arrived y before after row has none sized Arrived is = refl
-  arrived y before after row has none sized NoRow is = absurd (is.1 row has)
+  arrived y before after row has none sized NoRow is = absurd (none-some row (sym is.1 ∙ has))
   arrived y before after row has none sized WrongSizes is = absurd (is.0 sized)
 
   goal_at : (c : ℕ) (row : Row) → row_of (due_rows m) c ≡ Some row → row.rank ≡ 0 → mark_of h.game c ≡ Goal
@@ -95,7 +96,7 @@ module _ (p : Description) (t : TextModel) (goal : p.goal ≡ Reach) (h : HoldsT
             end.after,
             λ some. row_answers m y last end.has (applies last some),
             λ none. (
-              in_target falling_rows y last end.has (goal_at _ last end.has.is none),
+              in_target falling_rows y last end.has (goal_at _ last (in_cell p (due_rows m) y last end.has).1 none),
               λ before after number sized encodes. encodes.1 ∙ arrived y before after last end.has none sized encodes.0 encodes.2,
             ),
           ),

@@ -1,20 +1,15 @@
 -- What the rows of a table choose at a state, one input at most.
-use Rattle.std.proofs.Common.{◌≡◌, ℕ, ◌<◌, List, Option, Some, refl, sym, subst, ap, ◌∙◌}
+use Rattle.std.proofs.Common.{◌≡◌, ℕ, ◌<◌, List, Option, refl, sym, subst, ap, ◌∙◌}
 use Rattle.std.specs.Prelude.{ℤ}
+use Rattle.std.proofs.lemmas.Option.{same_Some}
 use Rattle.game_core.specs.declared.game.Row.{Row}
-use Rattle.game_core.specs.Solution.{row_of}
-use Rattle.grid_quantiser.specs.Cells.{cell_of, point_of}
+use Rattle.grid_quantiser.specs.Cells.{point_of}
 use Rattle.plant_record.specs.declared.aims.GoalKind.{GoalKind}
 use Rattle.plant_record.specs.declared.aims.GoalKind.TheVariants.{Reach}
-use Rattle.plant_record.specs.Description.{Description, axes_of}
+use Rattle.plant_record.specs.Description.{Description}
 use Rattle.plant_record.specs.Steps.{step_of, IsNoise}
 use Rattle.controller_table.specs.Choice.{Applies, Chooses, HasRowAt}
 use Rattle.plant_refine.specs.inside.Descents.{HasLowerRow, LeadDown}
-
-pub one_row : (p : Description) (rows : List (Option Row)) (x : List ℤ) (row other : Row) → HasRowAt p rows x row → HasRowAt p rows x other → row ≡ other
-one_row p rows x row other h k =
-    let is : row_of rows (cell_of (axes_of p) x) ≡ Some row = h.is in
-    let also : row_of rows (cell_of (axes_of p) x) ≡ Some other = k.is in cc
 
 -- a row above rank 0 chooses its input, where the plant is to reach its targets
 pub chooses_input : (p q : Description) (rows : List (Option Row)) (x : List ℤ) (row : Row) → q ≡ p → p.goal ≡ Reach → HasRowAt p rows x row → 0 < row.rank → Chooses q rows x row.input
@@ -37,7 +32,7 @@ input_of p q rows x u same goal chosen =
 -- the chosen input leads to a lower row
 pub leads_lower : (p : Description) (rows : List (Option Row)) (x w y : List ℤ) (u : ℕ) (row : Row) → LeadDown p rows → IsInputOf p rows x u → IsNoise p.noises w → y ≡ point_of (step_of p x u w) → HasRowAt p rows x row → HasLowerRow p rows row.rank y
 leads_lower p rows x w y u row down input noise is has =
-    let same : input.row ≡ row = one_row p rows x input.row row input.has has in
+    let same : input.row ≡ row = same_Some input.row row (sym input.has ∙ has) in
     let lower : HasLowerRow p rows input.row.rank (point_of (step_of p x input.row.input w)) = down.lower x w input.row input.has input.some noise in
     let there : point_of (step_of p x input.row.input w) ≡ y = ap (λ (v : ℕ). point_of (step_of p x v w)) input.is ∙ sym is in
     subst (λ (r : Row). HasLowerRow p rows r.rank y) same (subst (HasLowerRow p rows input.row.rank) there lower)
