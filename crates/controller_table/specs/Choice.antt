@@ -1,6 +1,6 @@
 -- What a table says to do at a state: the static quantiser with one input for each cell (Reissig, Weber and
 -- Rungger, 2017, section VI).
-use Rattle.std.specs.Prelude.{◌≡◌, ℕ, ◌<◌, ◌==◌, ◌&&◌, Bool, true, false, ℤ, int_le, int_lt, List, [], ◌∷◌, Option, Some, None, if◌then◌else◌}
+use Rattle.std.specs.Prelude.{◌≡◌, ℕ, ◌==◌, ◌&&◌, Bool, true, false, ℤ, int_le, int_lt, List, [], ◌∷◌, Option, Some, None, option_and_then, if◌then◌else◌}
 use Rattle.game_core.specs.declared.game.Row.{Row}
 use Rattle.game_core.specs.Solution.{row_of}
 use Rattle.grid_quantiser.specs.declared.axis.Axis.{Axis}
@@ -30,14 +30,17 @@ abbrev pub has_arrived : GoalKind → Row → Bool
 has_arrived Reach row = row.rank == 0
 has_arrived Keep row = false
 
--- a row applies an input: at rank 0 a plant has reached its targets, and nothing is applied
-abbrev pub Applies : GoalKind → Row → ℕ → Type 0
-Applies Reach row u = (0 < row.rank) × (row.input ≡ u)
-Applies Keep row u = row.input ≡ u
+-- what a row applies: its input, or nothing where the plant has arrived
+abbrev pub applied : GoalKind → Row → Option ℕ
+applied goal row = if has_arrived goal row then None else Some row.input
+
+-- what the row of a state's cell applies
+abbrev pub choice_at : Description → List (Option Row) → List ℤ → Option ℕ
+choice_at p rows x = option_and_then (applied p.goal) (row_at p rows x)
 
 -- the state lies in a cell whose row applies the input
 abbrev pub Chooses : Description → List (Option Row) → List ℤ → ℕ → Type 0
-Chooses p rows x u = (row : Row) × HasRowAt p rows x row × Applies p.goal row u
+Chooses p rows x u = choice_at p rows x ≡ Some u
 
 -- The bytes are a table that chooses the input at the state.
 pub record IsChoice (bytes : List ℕ) (x : List ℤ) (u : ℕ) : Type 0 where

@@ -9,7 +9,6 @@ use Rattle.game_core.specs.Solution.{row_of}
 use Rattle.grid_quantiser.specs.Cells.{cell_of}
 use Rattle.grid_quantiser.proofs.Domain.{cell_below}
 use Rattle.plant_record.specs.declared.aims.GoalKind.{GoalKind}
-use Rattle.plant_record.specs.declared.aims.GoalKind.TheVariants.{Reach, Keep}
 use Rattle.plant_record.specs.Description.{Description, axes_of, vector_of, vectors_of}
 use Rattle.plant_record.specs.Plants.{IsPlant}
 use Rattle.plant_record.specs.States.{LiesInSome, IsClear}
@@ -20,9 +19,10 @@ use Rattle.plant_game.proofs.GameLaws as games
 use Rattle.controller_table.specs.Choice.{HasRowAt}
 use Rattle.controller_table.specs.declared.text_kind.TextKind.{TextKind}
 use Rattle.controller_table.specs.declared.text_kind.TextKind.TheVariants.{Table, Stay, Patrol}
+use Rattle.controller_table.proofs.Applied.{own_input}
 use Rattle.controller_table.proofs.RowsAtStates.{in_cell, row_stands}
 use Rattle.text_control.specs.Texts.{TextModel, due_rows}
-use Rattle.text_control.specs.Control.{AppliesAs, IsRank}
+use Rattle.text_control.specs.Control.{applied_as, IsRank}
 use Rattle.text_control.specs.Loops.{Answers}
 use Rattle.text_control.specs.Followed.{FollowedSample, IsInItsBox}
 use Rattle.text_control.proofs.Answering.{chosen}
@@ -30,15 +30,14 @@ use Rattle.driven_loops.specs.Followed.{IsFollowedLoop}
 use Rattle.driven_loops.proofs.ItsBox.{enabled_in, in_successor}
 
 -- a row applies no input but its own
-applied_input : (kind : TextKind) (goal : GoalKind) (row : Row) (u : ℕ) → AppliesAs kind goal row u → row.input ≡ u
-applied_input (Table version) Reach row u applies = applies.1
-applied_input (Table version) Keep row u applies = applies
-applied_input Stay goal row u applies = applies
-applied_input Patrol goal row u applies = applies
+applied_input : (kind : TextKind) (goal : GoalKind) (row : Row) (u : ℕ) → applied_as kind goal row ≡ Some u → row.input ≡ u
+applied_input (Table version) goal row u applies = own_input goal row u applies
+applied_input Stay goal row u applies = same_Some row.input u applies
+applied_input Patrol goal row u applies = same_Some row.input u applies
 
 -- each input that a row applies at a state is one of the vectors, and has its box within the domain
 abbrev pub AppliesEnabled : TextModel → Type 0
-AppliesEnabled t = (x : List ℤ) (row : Row) (u : ℕ) → HasRowAt t.plant (due_rows t) x row → AppliesAs t.kind t.plant.goal row u → (u < vectors_of t.plant.inputs) × IsEnabledAt t.plant (cell_of (axes_of t.plant) x) u
+AppliesEnabled t = (x : List ℤ) (row : Row) (u : ℕ) → HasRowAt t.plant (due_rows t) x row → applied_as t.kind t.plant.goal row ≡ Some u → (u < vectors_of t.plant.inputs) × IsEnabledAt t.plant (cell_of (axes_of t.plant) x) u
 
 -- What the rows of a text keep in the game of its plant, where to each rank of a row there are cells that may come next.
 pub record LeadOn (t : TextModel) (Next : ℕ → ℕ → Type 0) : Type 0 where
@@ -47,8 +46,8 @@ pub record LeadOn (t : TextModel) (Next : ℕ → ℕ → Type 0) : Type 0 where
   pub abstraction : IsGameOf t.plant game
   pub below : (c : ℕ) (row : Row) → row_of (due_rows t) c ≡ Some row → c < game.cells
   pub clear : (c : ℕ) (row : Row) → row_of (due_rows t) c ≡ Some row → mark_of game c ≢ Obstacle
-  pub enabled : (c : ℕ) (row : Row) → row_of (due_rows t) c ≡ Some row → AppliesAs t.kind t.plant.goal row row.input → IsEnabled game c row.input
-  pub leads : (c : ℕ) (row : Row) → row_of (due_rows t) c ≡ Some row → AppliesAs t.kind t.plant.goal row row.input → (d : ℕ) → d < game.cells → Contains (successors_of game c row.input) d → Next row.rank d
+  pub enabled : (c : ℕ) (row : Row) → row_of (due_rows t) c ≡ Some row → applied_as t.kind t.plant.goal row ≡ Some row.input → IsEnabled game c row.input
+  pub leads : (c : ℕ) (row : Row) → row_of (due_rows t) c ≡ Some row → applied_as t.kind t.plant.goal row ≡ Some row.input → (d : ℕ) → d < game.cells → Contains (successors_of game c row.input) d → Next row.rank d
 
 -- ---- one sample
 
@@ -70,8 +69,8 @@ module _ {t : TextModel} {Next : ℕ → ℕ → Type 0} (h : LeadOn t Next) whe
       let at = in_cell p (due_rows t) x row has in
       games.in_target p h.game h.abstraction (games.refines p h.game h.plant h.abstraction) x at.0 (h.below (cell_of (axes_of p) x) row at.1)
 
-  own : (row : Row) (u : ℕ) → AppliesAs t.kind p.goal row u → AppliesAs t.kind p.goal row row.input
-  own row u applies = subst (AppliesAs t.kind p.goal row) (sym (applied_input t.kind p.goal row u applies)) applies
+  own : (row : Row) (u : ℕ) → applied_as t.kind p.goal row ≡ Some u → applied_as t.kind p.goal row ≡ Some row.input
+  own row u applies = applies ∙ ap Some (sym (applied_input t.kind p.goal row u applies))
 
   pub applies_enabled : AppliesEnabled t
   applies_enabled x row u has applies =

@@ -16,7 +16,6 @@ use Rattle.controller_table.specs.Choice.{Chooses, HasRowAt}
 use Rattle.plant_record.specs.States.{state_point, LiesInSome, IsClear}
 use Rattle.plant_refine.specs.Trajectories.{StepsTo, IsStateAt, ArrivesFirst}
 use Rattle.plant_refine.specs.inside.Descents.{HasLowerRow, LeadDown}
-use Rattle.controller_table.proofs.OneTable.{one_choice_at}
 use Rattle.controller_table.proofs.RowsAtStates.{in_cell, row_stands}
 
 -- what stands past the states is not looked at
@@ -59,7 +58,7 @@ module _ {p : Description} {rows : List (Option Row)} (down : LeadDown p rows) (
   one_state (suc t) y z h k =
       let state : h.0 ≡ k.0 = one_state t h.0 k.0 h.2 k.2 in
       let noise : h.1 ≡ k.1 = same_Some h.1 k.1 (sym h.3 ∙ k.3) in
-      let input : h.4.0 ≡ k.4.0 = one_choice_at p rows k.0 h.4.0 k.4.0 (subst (λ (s : List ℤ). Chooses p rows s h.4.0) state h.4.1) k.4.1 in
+      let input : h.4.0 ≡ k.4.0 = same_Some h.4.0 k.4.0 (sym (subst (λ (s : List ℤ). Chooses p rows s h.4.0) state h.4.1) ∙ k.4.1) in
       h.4.2
       ∙ ap (λ (s : List ℤ). point_of (step_of p s h.4.0 h.1)) state
       ∙ ap (λ (u : ℕ). point_of (step_of p k.0 u h.1)) input

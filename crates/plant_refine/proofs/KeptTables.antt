@@ -1,5 +1,5 @@
 -- A table of the keep solution keeps its plant: by induction on the noises.
-use Rattle.std.proofs.Common.{◌≡◌, ℕ, List, [], ◌∷◌, Option, refl, sym, subst}
+use Rattle.std.proofs.Common.{◌≡◌, ℕ, List, [], ◌∷◌, Option, Some, option_and_then, refl, ap, ◌∙◌}
 use Rattle.std.specs.Prelude.{ℤ}
 use Rattle.std.specs.List.{AllByRecursion}
 use Rattle.std.proofs.lemmas.List.Elements.{recursion_from_All}
@@ -12,7 +12,7 @@ use Rattle.plant_record.specs.declared.aims.GoalKind.TheVariants.{Keep}
 use Rattle.plant_record.specs.Description.{Description, axes_of}
 use Rattle.plant_record.specs.States.{IsClear}
 use Rattle.plant_record.specs.Steps.{step_of, IsNoise}
-use Rattle.controller_table.specs.Choice.{Applies, HasRowAt}
+use Rattle.controller_table.specs.Choice.{applied, HasRowAt}
 use Rattle.controller_table.specs.Tables.{IsTable}
 use Rattle.controller_table.proofs.RowsAtStates.{in_cell, row_stands}
 use Rattle.plant_game.specs.Abstraction.{IsGameOf}
@@ -35,8 +35,8 @@ module _ {bytes : List ℕ} {p : Description} {g : Game} {rows : List (Option Ro
   some_row : (x : List ℤ) (row : Row) → HasRowAt p rows x row → HasSomeRow bytes x
   some_row x row has = (row.rank, record { plant = p; rows = rows; table = k.table; row = row; has = has; ranked = refl })
 
-  applies : (row : Row) → Applies p.goal row row.input
-  applies row = subst (λ (goal : GoalKind). Applies goal row row.input) (sym k.goal) refl
+  applies : (row : Row) → applied p.goal row ≡ Some row.input
+  applies row = ap (λ (goal : GoalKind). applied goal row) k.goal
 
   here : (x : List ℤ) (row : Row) → HasRowAt p rows x row → IsClear p x × HasSomeRow bytes x
   here x row has =
@@ -55,7 +55,7 @@ module _ {bytes : List ℕ} {p : Description} {g : Game} {rows : List (Option Ro
       let now = here x row has in (
         now.0,
         now.1,
-        (row.input, record { plant = p; rows = rows; table = k.table; chosen = (row, has, applies row) }, remains ws y there.0 (row_stands p rows y there.0 next.0 there.1) noises.1),
+        (row.input, record { plant = p; rows = rows; table = k.table; chosen = ap (option_and_then (applied p.goal)) has ∙ applies row }, remains ws y there.0 (row_stands p rows y there.0 next.0 there.1) noises.1),
       )
 
   pub table_keeps : Stays p bytes

@@ -1,8 +1,9 @@
 -- Loops of the answers of stay texts that settle their plants, and of patrol texts that patrol.
-use Rattle.std.proofs.Common.{◌≡◌, ℕ, zero, suc, ◌<◌, ◌≤◌, List, [], ◌∷◌, length, take, refl, sym, ap, subst, ◌∙◌, arith}
+use Rattle.std.proofs.Common.{◌≡◌, ℕ, zero, suc, ◌<◌, ◌≤◌, List, [], ◌∷◌, Some, length, take, refl, sym, ap, subst, ◌∙◌, arith}
 use Rattle.std.specs.Prelude.{ℤ, slice_index_or}
 use Rattle.std.specs.List.{Any}
 use Rattle.std.proofs.lemmas.List.{length-map}
+use Rattle.std.proofs.lemmas.Option.{same_Some}
 use Rattle.game_core.specs.declared.game.Row.{Row}
 use Rattle.grid_quantiser.specs.CellBoxes.{IsInBox}
 use Rattle.plant_record.specs.Description.{Description, axes_of, vector_of}
@@ -20,7 +21,7 @@ use Rattle.controller_table.specs.declared.text_kind.TextKind.TheVariants.{Stay,
 use Rattle.text_control.specs.declared.visits.Visit.{Visit}
 use Rattle.text_control.specs.declared.visits.Visit.TheVariants.{Next, Same, WrongSize}
 use Rattle.text_control.specs.Texts.{TextModel, due_rows, Tells}
-use Rattle.text_control.specs.Control.{AppliesAs, AreTextValues}
+use Rattle.text_control.specs.Control.{applied_as, AreTextValues}
 use Rattle.text_control.specs.Visits.{HasArrivedInTurn, with_turn, IsVisit, IsVisitByText}
 use Rattle.text_control.specs.Loops.{LoopSample, moved_by, Answers, AlwaysAnswers, IsLoop, IsPatrolLoop}
 use Rattle.text_control.specs.Laws.{EndsTurn, StayLoopsSettle, PatrolLoopsGoOn}
@@ -57,7 +58,7 @@ module _ (bytes : List ℕ) (t : TextModel) (tells : Tells bytes t) (kind : t.ki
   answered_row : (x values : List ℤ) → Answers t x values → (row : Row) × HasStayRow bytes x row × (values ≡ vector_of p.inputs row.input)
   answered_row x values answers =
       let c = chosen t x values answers in
-      let applies : c.row.input ≡ c.input = subst (λ (k : TextKind). AppliesAs k p.goal c.row c.input) kind c.applies in
+      let applies = same_Some c.row.input c.input (subst (λ (k : TextKind). applied_as k p.goal c.row ≡ Some c.input) kind c.applies) in
       (c.row, stay_row x c.row c.has, c.are ∙ ap (vector_of p.inputs) (sym applies))
 
   as_trajectory : (samples : List LoopSample) (x y : List ℤ) → IsLoop t x samples y → (rows : List Sample) × IsStayTrajectory p bytes x rows y × AreAlike p rows samples
@@ -91,7 +92,7 @@ module _ (bytes : List ℕ) (t : TextModel) (tells : Tells bytes t) (kind : t.ki
   turn_row : (j : ℕ) (x values : List ℤ) → Answers (with_turn t j) x values → (row : Row) × HasPatrolRow bytes j x row × (values ≡ vector_of t.plant.inputs row.input)
   turn_row j x values answers =
       let c = chosen (with_turn t j) x values answers in
-      let applies : c.row.input ≡ c.input = subst (λ (k : TextKind). AppliesAs k t.plant.goal c.row c.input) kind c.applies in
+      let applies = same_Some c.row.input c.input (subst (λ (k : TextKind). applied_as k t.plant.goal c.row ≡ Some c.input) kind c.applies) in
       (c.row, patrol_row j x c.row c.has, c.are ∙ ap (vector_of t.plant.inputs) (sym applies))
 
   one_number_each : (s : LoopSample) → length (moved_by t.plant s) ≡ length t.plant.states

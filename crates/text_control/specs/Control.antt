@@ -3,12 +3,12 @@ use Rattle.std.specs.Prelude.{◌≡◌, ℕ, ℤ, pos, negsuc, List, length, Op
 use Rattle.game_core.specs.declared.game.Row.{Row}
 use Rattle.plant_record.specs.declared.aims.GoalKind.{GoalKind}
 use Rattle.plant_record.specs.Description.{vector_of}
-use Rattle.controller_table.specs.Choice.{row_at, Applies}
+use Rattle.controller_table.specs.Choice.{row_at, applied}
 use Rattle.controller_table.specs.TextRows.{HasTextRow}
 use Rattle.text_control.specs.declared.reply.Reply.{Reply}
 use Rattle.text_control.specs.declared.reply.Reply.TheVariants as replies
 use Rattle.controller_table.specs.declared.text_kind.TextKind.{TextKind}
-use Rattle.controller_table.specs.declared.text_kind.TextKind.TheVariants.{Table, Stay, Patrol}
+use Rattle.controller_table.specs.declared.text_kind.TextKind.TheVariants.{Table}
 use Rattle.text_control.specs.Texts.{TextModel, due_rows, Tells}
 
 -- One number for each state, and room for one for each input variable.
@@ -16,11 +16,10 @@ pub record AreSized (t : TextModel) (x before : List ℤ) : Type 0 where
   pub states : length x ≡ length t.plant.states
   pub inputs : length before ≡ length t.plant.inputs
 
--- a row of a text applies an input: that of a table does by the goal, any other always
-abbrev pub AppliesAs : TextKind → GoalKind → Row → ℕ → Type 0
-AppliesAs (Table version) goal row u = Applies goal row u
-AppliesAs Stay goal row u = row.input ≡ u
-AppliesAs Patrol goal row u = row.input ≡ u
+-- what a row of a text applies: that of a table by the goal, and any other its input
+abbrev pub applied_as : TextKind → GoalKind → Row → Option ℕ
+applied_as (Table version) goal row = applied goal row
+applied_as kind goal row = Some row.input
 
 -- the row of the state's cell for the turn that is due
 abbrev pub due_row : TextModel → List ℤ → Option Row
@@ -31,14 +30,14 @@ pub record AreChosen (t : TextModel) (x values : List ℤ) : Type 0 where
   pub row : Row
   pub has : due_row t x ≡ Some row
   pub input : ℕ
-  pub applies : AppliesAs t.kind t.plant.goal row input
+  pub applies : applied_as t.kind t.plant.goal row ≡ Some input
   pub are : values ≡ vector_of t.plant.inputs input
 
 -- The state lies in a cell of rank 0 of a table that brings a plant to its targets: nothing is applied there.
 pub record HasArrived (t : TextModel) (x : List ℤ) : Type 0 where
   pub row : Row
   pub has : due_row t x ≡ Some row
-  pub none : (u : ℕ) → AppliesAs t.kind t.plant.goal row u → ⊥
+  pub none : applied_as t.kind t.plant.goal row ≡ None
   pub rank : row.rank ≡ 0
 
 -- a reply, by the numbers in the inputs before and after it
@@ -62,7 +61,7 @@ HasTextRank kind j bytes x k = (row : Row) × HasTextRow kind bytes j x row × (
 -- these are the values of the input that the text applies at the state, for a turn
 abbrev pub AreTextValues : TextKind → ℕ → List ℕ → List ℤ → List ℤ → Type 0
 AreTextValues kind j bytes x values =
-    (row : Row) × (has : HasTextRow kind bytes j x row) × (u : ℕ) × AppliesAs kind has.plant.goal row u × (values ≡ vector_of has.plant.inputs u)
+    (row : Row) × (has : HasTextRow kind bytes j x row) × (u : ℕ) × (applied_as kind has.plant.goal row ≡ Some u) × (values ≡ vector_of has.plant.inputs u)
 
 -- the text has no row at the state
 abbrev pub HasNoTextRank : TextKind → ℕ → List ℕ → List ℤ → Type 0
