@@ -19,7 +19,7 @@ use Rattle.temporal_texts.proofs.TextLaws.{stay_trajectories_settle, patrol_traj
 use Rattle.controller_table.specs.declared.text_kind.TextKind.{TextKind}
 use Rattle.controller_table.specs.declared.text_kind.TextKind.TheVariants.{Stay, Patrol}
 use Rattle.text_control.specs.declared.visits.Visit.{Visit}
-use Rattle.text_control.specs.declared.visits.Visit.TheVariants.{Next, Same, WrongSize}
+use Rattle.text_control.specs.declared.visits.Visit.TheVariants.{WrongSize}
 use Rattle.text_control.specs.Texts.{TextModel, due_rows, Tells}
 use Rattle.text_control.specs.Control.{applied_as, AreTextValues}
 use Rattle.text_control.specs.Visits.{HasArrivedInTurn, with_turn, IsVisit, IsVisitByText}
@@ -101,9 +101,8 @@ module _ (bytes : List ℕ) (t : TextModel) (tells : Tells bytes t) (kind : t.ki
   -- what is held after a visit is the same text, and its turn is the text's
   visited : (j : ℕ) (y : List ℤ) (m : TextModel) (visit : Visit) → length y ≡ length t.plant.states → IsVisit (with_turn t j) y m visit → IsVisitByText (with_turn t j) y m visit
       → (m ≡ with_turn t m.turn) × IsTurnFrom t.plant bytes j y m.turn
-  visited j y m Next sized is by = (is.2 ∙ ap (with_turn t) (sym (ap (λ (n : TextModel). n.turn) is.2)), by bytes tells kind)
-  visited j y m Same sized is by = (is.2 ∙ ap (with_turn t) (sym (ap (λ (n : TextModel). n.turn) is.2)), by bytes tells kind)
   visited j y m WrongSize sized is by = absurd (is.0 sized)
+  visited j y m visit sized is by = (is.2 ∙ ap (with_turn t) (sym (ap (λ (n : TextModel). n.turn) is.2)), by bytes tells kind)
 
   as_patrol : (samples : List LoopSample) (j : ℕ) (x y : List ℤ) (u : TextModel) → IsPatrolLoop (with_turn t j) x samples u y
       → (rows : List Sample) × IsPatrolTrajectory t.plant bytes j x rows u.turn y × AreAlike t.plant rows samples × (u ≡ with_turn t u.turn)
