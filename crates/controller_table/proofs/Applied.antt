@@ -1,5 +1,5 @@
 -- What rows apply at a state.
-use Rattle.std.proofs.Common.{◌≡◌, ◌≢◌, ℕ, ◌<◌, ◌==◌, Bool, true, false, List, Option, Some, None, option_and_then, refl, sym, ap, ◌∙◌, eq-eqb, arith, inl, inr}
+use Rattle.std.proofs.Common.{◌≡◌, ◌≢◌, ℕ, ◌<◌, Bool, true, false, List, Option, Some, None, option_and_then, refl, sym, ap, ◌∙◌, eq-eqb, arith, inl, inr}
 use Rattle.std.specs.Prelude.{ℤ, if◌then◌else◌}
 use Rattle.std.proofs.lemmas.Bool.{cases_lt, ne_eqb}
 use Rattle.std.proofs.lemmas.Option.{none-some, same_Some, option_and_then_some}
@@ -26,7 +26,7 @@ pub above_zero : (row : Row) (u : ℕ) → applied Reach row ≡ Some u → 0 < 
 above_zero row u e = elim (cases_lt 0 row.rank) [
   | inl some ↦ some
   | inr none ↦
-      let arrived : row.rank == 0 ≡ true = eq-eqb row.rank 0 (omega (arith, none)) in
+      let arrived : has_arrived Reach row ≡ true = eq-eqb row.rank 0 (omega (arith, none)) in
       absurd (none-some u (sym (ap (λ (b : Bool). if b then None else Some row.input) arrived) ∙ e))
 ]
 

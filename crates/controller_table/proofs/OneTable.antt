@@ -23,7 +23,7 @@ one_table bytes p q rows others h k =
 
 -- ---- one row and one choice at a state
 
--- what is said of a table's plant and rows
+-- tables of the same bytes say the same
 same_of : {A : Type 0} (said : Description → List (Option Row) → A) (bytes : List ℕ) (p q : Description) (rows others : List (Option Row)) → IsTable bytes p rows → IsTable bytes q others → said p rows ≡ said q others
 same_of said bytes p q rows others h k =
     let same = one_table bytes p q rows others h k in

@@ -18,7 +18,7 @@ use Rattle.plant_game.specs.Abstraction.{IsGameOf}
 use Rattle.plant_game.proofs.GameLaws as games
 use Rattle.controller_table.specs.Choice.{HasRowAt}
 use Rattle.controller_table.specs.declared.text_kind.TextKind.{TextKind}
-use Rattle.controller_table.specs.declared.text_kind.TextKind.TheVariants.{Table, Stay, Patrol}
+use Rattle.controller_table.specs.declared.text_kind.TextKind.TheVariants.{Table}
 use Rattle.controller_table.proofs.Applied.{own_input}
 use Rattle.controller_table.proofs.RowsAtStates.{in_cell, row_stands}
 use Rattle.text_control.specs.Texts.{TextModel, due_rows}
@@ -32,8 +32,7 @@ use Rattle.driven_loops.proofs.ItsBox.{enabled_in, in_successor}
 -- a row applies no input but its own
 applied_input : (kind : TextKind) (goal : GoalKind) (row : Row) (u : ℕ) → applied_as kind goal row ≡ Some u → row.input ≡ u
 applied_input (Table version) goal row u applies = own_input goal row u applies
-applied_input Stay goal row u applies = same_Some row.input u applies
-applied_input Patrol goal row u applies = same_Some row.input u applies
+applied_input kind goal row u applies = same_Some row.input u applies
 
 -- each input that a row applies at a state is one of the vectors, and has its box within the domain
 abbrev pub AppliesEnabled : TextModel → Type 0
