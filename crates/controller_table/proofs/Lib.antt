@@ -1,6 +1,7 @@
 pub mod Fitting
 pub mod OneRow
 pub mod RowsAtStates
+pub mod Applied
 pub mod RefusedPlant
 pub mod SolutionsFit
 pub mod EachKind

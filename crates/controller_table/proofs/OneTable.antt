@@ -1,19 +1,15 @@
 -- Bytes are the table of one plant and of one list of rows.
 use Rattle.std.proofs.Common.{◌≡◌, ℕ, List, [], ◌∷◌, Option, sym, ap, ◌∙◌}
-use Rattle.std.specs.Prelude.{ℤ}
 use Rattle.game_core.specs.declared.game.Row.{Row}
-use Rattle.game_core.specs.Solution.{row_of}
-use Rattle.grid_quantiser.specs.Cells.{cell_of}
-use Rattle.plant_record.specs.declared.aims.GoalKind.{GoalKind}
-use Rattle.plant_record.specs.declared.aims.GoalKind.TheVariants.{Reach, Keep}
-use Rattle.plant_record.specs.Description.{Description, axes_of}
+use Rattle.plant_record.specs.Description.{Description}
 use Rattle.base.proofs.Lists.{same_head}
 use Rattle.row_runs.specs.declared.run.TableVersion.{TableVersion}
 use Rattle.controller_table.specs.declared.text_kind.TextKind.TheVariants.{Table}
 use Rattle.controller_table.specs.Tables.{IsTable}
-use Rattle.controller_table.specs.Choice.{HasRowAt, Applies, Chooses}
+use Rattle.controller_table.specs.Choice.{choice_at}
 use Rattle.controller_table.specs.Laws.{OneChoice, OneRank}
 use Rattle.controller_table.proofs.HeadedLaws.{one_text}
+use Rattle.controller_table.proofs.TextRows.{one_text_row}
 use Rattle.std.proofs.lemmas.Option.{same_Some}
 
 -- ---- one table
@@ -26,31 +22,12 @@ one_table bytes p q rows others h k =
     let same = one_text (Table h.0) (Table k.0) bytes p q (rows ∷ []) (others ∷ []) h.1 k.1 in
     (same.1, same_head rows others [] [] same.2, same_version h.0 k.0 same.0)
 
--- ---- one row at a state
-
-one_row : (bytes : List ℕ) (p q : Description) (rows others : List (Option Row)) (x : List ℤ) (a b : Row) → IsTable bytes p rows → IsTable bytes q others → HasRowAt p rows x a → HasRowAt q others x b → (p ≡ q) × (a ≡ b)
-one_row bytes p q rows others x a b h k r s =
-    let same = one_table bytes p q rows others h k in
-    let at : row_of rows (cell_of (axes_of p) x) ≡ row_of others (cell_of (axes_of q) x) =
-    ap (λ (r : List (Option Row)). row_of r (cell_of (axes_of p) x)) same.1 ∙ ap (λ (d : Description). row_of others (cell_of (axes_of d) x)) same.0 in
-    (same.0, same_Some a b (sym r.is ∙ at ∙ s.is))
-
-applied : (goal : GoalKind) (row : Row) (u : ℕ) → Applies goal row u → row.input ≡ u
-applied Reach row u h = h.1
-applied Keep row u h = h
-
--- rows choose one input at a state
-pub one_choice_at : (p : Description) (rows : List (Option Row)) (x : List ℤ) (u v : ℕ) → Chooses p rows x u → Chooses p rows x v → u ≡ v
-one_choice_at p rows x u v h k =
-    let same = same_Some h.0 k.0 (sym h.1.is ∙ k.1.is) in
-    sym (applied p.goal h.0 u h.2) ∙ ap (λ (r : Row). r.input) same ∙ applied p.goal k.0 v k.2
+-- ---- one row and one choice at a state
 
 pub one_choice : OneChoice
 one_choice bytes x u v a b =
-    let rows = one_row bytes a.plant b.plant a.rows b.rows x a.chosen.0 b.chosen.0 a.table b.table a.chosen.1 b.chosen.1 in
-    sym (applied a.plant.goal a.chosen.0 u a.chosen.2) ∙ ap (λ (r : Row). r.input) rows.1 ∙ applied b.plant.goal b.chosen.0 v b.chosen.2
+    let same = one_table bytes a.plant b.plant a.rows b.rows a.table b.table in
+    same_Some u v (sym a.chosen ∙ ap (λ (r : List (Option Row)). choice_at a.plant r x) same.1 ∙ ap (λ (p : Description). choice_at p b.rows x) same.0 ∙ b.chosen)
 
 pub one_rank : OneRank
-one_rank bytes x j k a b =
-    let rows = one_row bytes a.plant b.plant a.rows b.rows x a.row b.row a.table b.table a.has b.has in
-    sym a.ranked ∙ ap (λ (r : Row). r.rank) rows.1 ∙ b.ranked
+one_rank bytes x j k a b = sym a.1.2 ∙ ap (λ (r : Row). r.rank) (one_text_row (Table b.0) bytes 0 x a.1.0 b.1.0 a.1.1 b.1.1) ∙ b.1.2

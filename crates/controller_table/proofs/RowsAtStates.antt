@@ -18,7 +18,7 @@ not_below lo x e = grind (arith, ints)
 below_test : (lo x : ℤ) → lo ≤ℤ x → int_le lo x ≡ true
 below_test lo x h = grind (arith, ints)
 
-pub inside : (axes : List Axis) (xs : List ℤ) → is_in_domain axes xs ≡ true → IsInDomain axes xs
+inside : (axes : List Axis) (xs : List ℤ) → is_in_domain axes xs ≡ true → IsInDomain axes xs
 inside [] xs e = tt
 inside (a ∷ axes) [] e = cc
 inside (a ∷ axes) (x ∷ xs) e =
@@ -29,7 +29,7 @@ inside (a ∷ axes) (x ∷ xs) e =
 both : (a b c : Bool) → a ≡ true → b ≡ true → c ≡ true → (a && b && c) ≡ true
 both a b c e f g = rw (e, f, g) refl
 
-pub inside_test : (axes : List Axis) (xs : List ℤ) → IsInDomain axes xs → is_in_domain axes xs ≡ true
+inside_test : (axes : List Axis) (xs : List ℤ) → IsInDomain axes xs → is_in_domain axes xs ≡ true
 inside_test [] xs h = refl
 inside_test (a ∷ axes) [] h = absurd h
 inside_test (a ∷ axes) (x ∷ xs) h =
@@ -50,13 +50,12 @@ row_inside p rows x h = ap (λ (b : Bool). if b then row_of rows (cell_of (axes_
 pub no_row_outside : (p : Description) (rows : List (Option Row)) (x : List ℤ) → (IsInDomain (axes_of p) x → ⊥) → row_at p rows x ≡ None
 no_row_outside p rows x out = none_if (is_in_domain (axes_of p) x) (row_of rows (cell_of (axes_of p) x)) (λ e. out (inside (axes_of p) x e))
 
-pub has_row : (p : Description) (rows : List (Option Row)) (x : List ℤ) (row : Row) → row_at p rows x ≡ Some row → HasRowAt p rows x row
-has_row p rows x row e =
-    let parts = some_if (is_in_domain (axes_of p) x) (row_of rows (cell_of (axes_of p) x)) row e in
-    record { inside = inside (axes_of p) x parts.0; is = parts.1 }
+-- a state with a row lies in the domain, in a cell with this row
+pub in_cell : (p : Description) (rows : List (Option Row)) (x : List ℤ) (row : Row) → HasRowAt p rows x row → IsInDomain (axes_of p) x × (row_of rows (cell_of (axes_of p) x) ≡ Some row)
+in_cell p rows x row has =
+    let parts = some_if (is_in_domain (axes_of p) x) (row_of rows (cell_of (axes_of p) x)) row has in
+    (inside (axes_of p) x parts.0, parts.1)
 
-pub row_stands : (p : Description) (rows : List (Option Row)) (x : List ℤ) (row : Row) → HasRowAt p rows x row → row_at p rows x ≡ Some row
-row_stands p rows x row h = row_inside p rows x h.inside ∙ h.is
-
-pub no_row : (p : Description) (rows : List (Option Row)) (x : List ℤ) → row_at p rows x ≡ None → (row : Row) × HasRowAt p rows x row → ⊥
-no_row p rows x e (row, h) = let same : None ≡ Some row = sym e ∙ row_stands p rows x row h in cc
+-- and a state in such a cell has the row
+pub row_stands : (p : Description) (rows : List (Option Row)) (x : List ℤ) (row : Row) → IsInDomain (axes_of p) x → row_of rows (cell_of (axes_of p) x) ≡ Some row → HasRowAt p rows x row
+row_stands p rows x row within is = row_inside p rows x within ∙ is

@@ -1,5 +1,5 @@
-ghost use Rattle.std.specs.Prelude.{◌≡◌, ◌<◌, ℕ, [], ◌∷◌, count_by, IfSome, IfOk};
-ghost use Rattle.std.specs.Option.{IfNone, is_some};
+ghost use Rattle.std.specs.Prelude.{◌≡◌, ◌<◌, [], ◌∷◌, count_by, IfOk};
+ghost use Rattle.std.specs.Option.{is_some};
 ghost use Rattle.grid_quantiser.specs.Axes.{cells_of};
 ghost use Rattle.game_core.specs.Solution.{row_of};
 ghost use Rattle.plant_record.specs.Description.{axes_of};
@@ -7,7 +7,7 @@ ghost use Rattle.plant_record.specs.Limits.{IsWithinLimits};
 ghost use Rattle.controller_table.specs.TableText.{version_number, written_version};
 ghost use Rattle.controller_table.specs.KindTexts.{table_text, bytes_of_rows, IsOfWrittenVersion};
 ghost use Rattle.controller_table.specs.Tables.{RowsFit};
-ghost use Rattle.controller_table.specs.Choice.{row_at, Chooses};
+ghost use Rattle.controller_table.specs.Choice.{row_at, choice_at};
 
 use crate::goal_format::has_arrived;
 use crate::rows_text::RowsText;
@@ -109,10 +109,8 @@ impl Table {
     }
 
     /// The input to apply at a state.
-    #[tactic(auto, using(crate::proofs::RowsAtStates::has_row, crate::proofs::RowsAtStates::no_row))]
     pub fn choice(&self, x: &Point) -> Option<u32>
-        ensures chosen { IfSome result (λ u. Chooses self.now.plant self.now.rows x.now u) }
-        ensures none { IfNone result ((u : ℕ) → Chooses self.now.plant self.now.rows x.now u → ⊥) }
+        ensures { result ≡ choice_at self.now.plant self.now.rows x.now }
     {
         let row = self.row_at(x)?;
         if has_arrived(self.plant.goal(), row) {

@@ -10,12 +10,13 @@ use Rattle.plant_record.specs.Plants.{IsPlant}
 use Rattle.plant_record.specs.Steps.{IsNoise}
 use Rattle.plant_record.proofs.lemmas.VariableValues.{vector_length}
 use Rattle.successor_box.specs.Deviations.{HasNoOverflow}
+use Rattle.controller_table.proofs.RowsAtStates.{in_cell}
 use Rattle.text_control.specs.declared.reply.Reply.{Reply}
 use Rattle.text_control.specs.declared.reply.Reply.TheVariants.{Apply, Arrived, NoRow}
 use Rattle.text_control.specs.declared.reply.Reply.TheVariants as replies
 use Rattle.text_control.specs.declared.follow.Follow.{Follow}
 use Rattle.text_control.specs.declared.follow.Follow.TheVariants.{Inside, Outside, NoInput, WrongSizes, Overflow}
-use Rattle.text_control.specs.Texts.{TextModel}
+use Rattle.text_control.specs.Texts.{TextModel, due_rows}
 use Rattle.text_control.specs.Control.{AreSized, IsReply, reply_number}
 use Rattle.text_control.specs.Visits.{with_turn}
 use Rattle.text_control.specs.Loops.{LoopSample, moved_by, Answers, IsLoop, IsPatrolLoop}
@@ -51,7 +52,7 @@ sample_follows t plant on fits s x at answer noise number told =
       inputs = ap (λ (z : List ℤ). length z) c.are ∙ vector_length p.inputs c.input;
       next_states = length-map p.equations _ ∙ plant.one_each;
     } in
-    let step : IsStep p (followed_of p s) = (subst (λ (z : List ℤ). IsInDomain (axes_of p) z) state c.has.inside, (c.input, e.0, c.are)) in
+    let step : IsStep p (followed_of p s) = (subst (λ (z : List ℤ). IsInDomain (axes_of p) z) state (in_cell p (due_rows t) x c.row c.has).0, (c.input, e.0, c.are)) in
     told.1 ∙ only_inside p (followed_of p s) told.0 sized step fits (sample_in_box t plant on s x at answer noise) told.2
 
 follows : (t : TextModel) → IsPlant t.plant → AppliesEnabled t → HasNoOverflow t.plant → (samples : List LoopSample) (x y : List ℤ) → IsLoop t x samples y → All (AlwaysFollows t) samples

@@ -3,6 +3,7 @@
 use Rattle.std.proofs.Common.{◌≡◌, ◌≢◌, ℕ, zero, suc, ◌+◌, ◌<◌, ◌≤◌, List, Some, None, refl, sym, ap, subst, ◌∙◌, arith}
 use Rattle.std.specs.Prelude.{ℤ, pos}
 use Rattle.std.proofs.lemmas.List.Elements.{All-contains}
+use Rattle.std.proofs.lemmas.Option.{none-some, same_Some}
 use Rattle.std.specs.List.{All}
 use Rattle.game_core.specs.declared.game.Row.{Row}
 use Rattle.game_core.specs.declared.game.Mark.TheVariants.{Goal, Obstacle}
@@ -13,10 +14,11 @@ use Rattle.game_core.proofs.Rows.{below_cells}
 use Rattle.plant_record.specs.declared.aims.GoalKind.{GoalKind}
 use Rattle.plant_record.specs.declared.aims.GoalKind.TheVariants.{Reach, Keep}
 use Rattle.plant_record.specs.Description.{Description}
-use Rattle.controller_table.specs.Choice.{Applies, HasRowAt}
+use Rattle.controller_table.specs.Choice.{applied, HasRowAt}
 use Rattle.controller_table.specs.TableText.{written_version}
 use Rattle.controller_table.specs.declared.text_kind.TextKind.TheVariants.{Table}
-use Rattle.plant_refine.proofs.Choosing.{one_row}
+use Rattle.controller_table.proofs.Applied.{applies_above_zero, above_zero}
+use Rattle.controller_table.proofs.RowsAtStates.{in_cell}
 use Rattle.text_control.specs.declared.reply.Reply.{Reply}
 use Rattle.text_control.specs.declared.reply.Reply.TheVariants.{Apply, Arrived, NoRow, WrongSizes}
 use Rattle.text_control.specs.Texts.{TextModel, due_rows}
@@ -40,8 +42,8 @@ module _ (p : Description) (t : TextModel) (goal : p.goal ≡ Reach) (h : HoldsT
   promised : LeadsToGoals h.game (due_rows m)
   promised = leads_to_goals h.game (due_rows m) h.abstraction.game h.solution
 
-  above_zero : (row : Row) (u : ℕ) → Applies p.goal row u → 0 < row.rank
-  above_zero row u applies = (subst (λ (g : GoalKind). Applies g row u) goal applies).0
+  applies_above : (row : Row) (u : ℕ) → applied p.goal row ≡ Some u → 0 < row.rank
+  applies_above row u applies = above_zero row u (subst (λ (g : GoalKind). applied g row ≡ Some u) goal applies)
 
   descends : (c rank u : ℕ) → row_of (due_rows m) c ≡ Some (record { rank = rank; input = u }) → 0 < rank → IsEnabled h.game c u × All (HasRowBelow (due_rows m) rank) (successors_of h.game c u)
   descends c zero u is some = absurd (omega (arith, some))
@@ -57,25 +59,25 @@ module _ (p : Description) (t : TextModel) (goal : p.goal ≡ Reach) (h : HoldsT
     abstraction = h.abstraction;
     below = λ c row is. below_cells (due_rows m) h.game.cells c row h.solution.one_each is;
     clear = no_obstacle;
-    enabled = λ c row is applies. (descends c row.rank row.input is (above_zero row row.input applies)).0;
+    enabled = λ c row is applies. (descends c row.rank row.input is (applies_above row row.input applies)).0;
     leads = λ c row is applies d lt among.
-        let down = descends c row.rank row.input is (above_zero row row.input applies) in
+        let down = descends c row.rank row.input is (applies_above row row.input applies) in
         let lower = All-contains (HasRowBelow (due_rows m) row.rank) (successors_of h.game c row.input) d down.1 among in
         let less = lower.below in
         (lower.row, lower.is, omega (arith, less));
   }
 
-  applies : (row : Row) → 0 < row.rank → Applies p.goal row row.input
-  applies row some = subst (λ (g : GoalKind). Applies g row row.input) (sym goal) (some, refl)
+  applies : (row : Row) → 0 < row.rank → applied p.goal row ≡ Some row.input
+  applies row some = ap (λ (g : GoalKind). applied g row) goal ∙ applies_above_zero row some
 
   arrived : (y before after : List ℤ) (row : Row) → HasRowAt p (due_rows m) y row → row.rank ≡ 0 → AreSized m y before → (reply : Reply) → IsReply m y before after reply → reply_number reply ≡ pos 0
   arrived y before after row has none sized Apply is =
       let c = is.1 in
-      let some = above_zero c.row c.input c.applies in
-      let same = ap (λ (r : Row). r.rank) (one_row p (due_rows m) y c.row row c.has has) in
+      let some = applies_above c.row c.input c.applies in
+      let same = ap (λ (r : Row). r.rank) (same_Some c.row row (sym c.has ∙ has)) in
       absurd (omega (arith, some, same, none))
   arrived y before after row has none sized Arrived is = refl
-  arrived y before after row has none sized NoRow is = absurd (is.1 row has)
+  arrived y before after row has none sized NoRow is = absurd (none-some row (sym is.1 ∙ has))
   arrived y before after row has none sized WrongSizes is = absurd (is.0 sized)
 
   goal_at : (c : ℕ) (row : Row) → row_of (due_rows m) c ≡ Some row → row.rank ≡ 0 → mark_of h.game c ≡ Goal
@@ -95,7 +97,7 @@ module _ (p : Description) (t : TextModel) (goal : p.goal ≡ Reach) (h : HoldsT
             end.after,
             λ some. row_answers m y last end.has (applies last some),
             λ none. (
-              in_target falling_rows y last end.has (goal_at _ last end.has.is none),
+              in_target falling_rows y last end.has (goal_at _ last (in_cell p (due_rows m) y last end.has).1 none),
               λ before after number sized encodes. encodes.1 ∙ arrived y before after last end.has none sized encodes.0 encodes.2,
             ),
           ),
@@ -131,7 +133,7 @@ module _ (p : Description) (t : TextModel) (goal : p.goal ≡ Keep) (h : HoldsTa
     refl,
     λ x y k samples rank loop.
         let end = led {After = AnyRank} kept_rows (λ r. tt) (λ n r i j one rest. tt) x y k samples rank loop in
-        let applies : Applies p.goal end.row end.row.input = subst (λ (g : GoalKind). Applies g end.row end.row.input) (sym goal) refl in
+        let applies = ap (λ (g : GoalKind). applied g end.row) goal in
         (clear_at kept_rows y end.row end.has, row_answers kept y end.row end.has applies, (end.row.rank, has_rank kept y end.row end.has)),
   )
 

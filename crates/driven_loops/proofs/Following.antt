@@ -21,6 +21,7 @@ use Rattle.successor_box.specs.SuccessorBoxes.{low_corner, high_corner, IsEnable
 use Rattle.successor_box.proofs.Enabled.{box_successors, corners_ordered}
 use Rattle.successor_box.proofs.Steps.{step_among}
 use Rattle.controller_table.specs.Choice.{HasRowAt}
+use Rattle.controller_table.proofs.RowsAtStates.{in_cell}
 use Rattle.controller_table.specs.declared.text_kind.TextKind.{TextKind}
 use Rattle.text_control.specs.Texts.{TextModel, due_rows, IsReadFrom}
 use Rattle.text_control.specs.Loops.{LoopSample, moved_by, Answers, IsLoop, IsPatrolLoop}
@@ -64,7 +65,7 @@ sample_in_box t plant on s x at answer noise =
     let c = chosen t x s.values answer in
     let has : HasRowAt t.plant (due_rows t) s.state c.row = subst (λ (z : List ℤ). HasRowAt t.plant (due_rows t) z c.row) (sym at) c.has in
     let enabled = on s.state c.row c.input has c.applies in
-    in_its_box t.plant s c.input plant has.inside enabled.0 enabled.1 c.are noise
+    in_its_box t.plant s c.input plant (in_cell t.plant (due_rows t) s.state c.row has).0 enabled.0 enabled.1 c.are noise
 
 followed : (t : TextModel) → IsPlant t.plant → AppliesEnabled t → (samples : List LoopSample) (x y : List ℤ) → IsLoop t x samples y → IsFollowedLoop t x (map (followed_of t.plant) samples) y
 followed t plant on [] x y loop = loop

@@ -18,6 +18,7 @@ use Rattle.text_control.specs.Control.{IsRank}
 use Rattle.text_control.specs.Loops.{Answers, AlwaysAnswers}
 use Rattle.text_control.specs.Visits.{with_turn, IsVisit}
 use Rattle.text_control.specs.Followed.{FollowedSample, IsInItsBox}
+use Rattle.controller_table.proofs.RowsAtStates.{in_cell, row_stands}
 use Rattle.controller_table.proofs.TextRows.{turn_known}
 use Rattle.driven_loops.specs.Followed.{IsFollowedPatrolLoop, FollowedEndsTurn}
 use Rattle.driven_loops.specs.LoopPromises.{LoopsPatrol}
@@ -43,6 +44,10 @@ module _ (p : Description) (t : TextModel) (h : HoldsPatrol p t) where
   turn_is : (j c : ℕ) (row : Row) → row_of (rows_for h.turns j) c ≡ Some row → j < turns
   turn_is j c row is = omega (arith, turn_known h.turns j c row is, h.solution.one_list_each)
 
+  -- a row for a turn has a rank of at least 1
+  above_zero : (j : ℕ) (x : List ℤ) (row : Row) → HasRow j x row → 1 ≤ row.rank
+  above_zero j x row has = let is = (in_cell p (rows_for h.turns j) x row has).1 in some_rank h.solution j (turn_is j _ row is) _ row is
+
   pub patrol_rows : (j : ℕ) → LeadOn (with_turn m j) (GoesOnAt j)
   patrol_rows j = record {
     plant = h.plant;
@@ -58,11 +63,11 @@ module _ (p : Description) (t : TextModel) (h : HoldsPatrol p t) where
   lands : (j : ℕ) (s : FollowedSample) (x : List ℤ) (row : Row) → HasRow j x row → s.state ≡ x → Answers (with_turn m j) x s.values → IsInItsBox p s → length s.next ≡ length p.states
       → (n : TextModel) (visit : Visit) → IsVisit (with_turn m j) s.next n visit
       → ((n ≡ with_turn m (next_turn turns j)) × FollowedEndsTurn (with_turn m j) s) ⊎ ((n ≡ with_turn m j) × ((next : Row) × HasRow j s.next next × (next.rank < row.rank)))
-  lands j s x row has at answer b sized n Next is = inl (is.2, (is.1, is.1.target.2 s.next (is.1.next.inside, refl)))
+  lands j s x row has at answer b sized n Next is = inl (is.2, (is.1, is.1.target.2 s.next ((in_cell p (rows_for h.turns (next_turn turns j)) s.next is.1.row is.1.next).0, refl)))
   lands j s x row has at answer b sized n Same is =
       elim (next_cell (patrol_rows j) s x row has at answer b) [
-        | inl lower ↦ inr (is.2, (lower.row, record { inside = b.inside; is = lower.is }, lower.below))
-        | inr there ↦ absurd (is.1 (record { patrol = refl; target = there.0; row = there.1.0; next = record { inside = b.inside; is = there.1.1 } }))
+        | inl lower ↦ inr (is.2, (lower.row, row_stands p (rows_for h.turns j) s.next lower.row b.inside lower.is, lower.below))
+        | inr there ↦ absurd (is.1 (record { patrol = refl; target = there.0; row = there.1.0; next = row_stands p (rows_for h.turns (next_turn turns j)) s.next there.1.0 b.inside there.1.1 }))
       ]
   lands j s x row has at answer b sized n WrongSize is = absurd (is.0 sized)
 
@@ -86,8 +91,8 @@ module _ (p : Description) (t : TextModel) (h : HoldsPatrol p t) where
   -- within as many samples as the rank the turn ends
   turn_ends : (samples : List FollowedSample) (j : ℕ) (x y : List ℤ) (u : TextModel) (row : Row) (n : ℕ) → HasRow j x row → row.rank ≤ n → n ≤ length samples → IsFollowedPatrolLoop (with_turn m j) x samples u y
       → Any (FollowedEndsTurn (with_turn m j)) (take n samples)
-  turn_ends [] j x y u row n has le few loop = absurd (omega (arith, le, few, some_rank h.solution j (turn_is j _ row has.is) _ row has.is))
-  turn_ends (s ∷ samples) j x y u row zero has le few loop = absurd (omega (arith, le, some_rank h.solution j (turn_is j _ row has.is) _ row has.is))
+  turn_ends [] j x y u row n has le few loop = absurd (omega (arith, le, few, above_zero j x row has))
+  turn_ends (s ∷ samples) j x y u row zero has le few loop = absurd (omega (arith, le, above_zero j x row has))
   turn_ends (s ∷ samples) j x y u row (suc n) has le few loop =
       let visit = loop.4.2 in
       elim (lands j s x row has loop.0 loop.1 loop.2 loop.3 loop.4.0 visit.0 visit.2) [

@@ -2,6 +2,7 @@
 use Rattle.std.proofs.Common.{ℕ, ◌-◌, ◌≤◌, refl, sym, subst, arith}
 use Rattle.plant_record.specs.Description.{Description}
 use Rattle.temporal_promises.proofs.Settling.{cell_below, stayed, clear_of, goal_of, leads_lower}
+use Rattle.controller_table.proofs.RowsAtStates.{in_cell}
 use Rattle.controller_table.specs.declared.text_kind.TextKind.TheVariants.{Stay}
 use Rattle.text_control.specs.Texts.{TextModel, due_rows}
 use Rattle.driven_loops.specs.Followed.{IsFollowedLoop}
@@ -39,7 +40,7 @@ module _ (p : Description) (t : TextModel) (h : HoldsStay p t) where
         let low = end.after in (
           clear_at settling_rows y end.row end.has,
           row_answers m y end.row end.has refl,
-          λ le. in_target settling_rows y end.row end.has (goal_of h.solution _ end.row end.has.is (omega (arith, le, low))),
+          λ le. in_target settling_rows y end.row end.has (goal_of h.solution _ end.row (in_cell p (due_rows m) y end.row end.has).1 (omega (arith, le, low))),
           (end.row.rank, has_rank m y end.row end.has, low),
         ),
   )

@@ -9,7 +9,7 @@ use Rattle.live_script.specs.declared.command.ScriptCommand.{ScriptCommand}
 use Rattle.live_script.specs.declared.command.ScriptCommand.TheVariants.{Publish, Ask}
 use Rattle.live_script.specs.declared.script_fault.ScriptFault.{ScriptFault}
 use Rattle.live_script.specs.declared.script_fault.ScriptFault.TheVariants.{Malformed, Limit, ScriptTooLong, TooManyTables, Memory}
-use Rattle.live_script.specs.Questions.{IsAnswerOf}
+use Rattle.live_script.specs.Questions.{answer_of}
 use Rattle.live_script.specs.Scripts.{FitsAfter, published_tables, CommandStep, IsShortScript}
 use Rattle.live_script.specs.LiveText.{IsAnswerLine, AreAnswers, answer_line}
 use Rattle.live_script.specs.ScriptReading.{Unread, IsTaken}
@@ -66,7 +66,7 @@ some_last tables None none some = absurd (omega (arith, ap length none, some))
 some_last tables (Some t) h some = (t, refl, h)
 
 question_answered : (script : List ℕ) (before after : Unread) (standing new : Standing) (text : List ℕ) (numbers : List ℤ) (answer : Option ℕ) → IsAnsweredSoFar script before standing text → IsTaken before (Ask numbers) after
-    → IfSome standing.table (λ t. IsAnswerOf t numbers answer) → new ≡ standing → IsAnsweredSoFar script after new (text ++ answer_line standing.count answer)
+    → IfSome standing.table (λ t. answer ≡ answer_of t numbers) → new ≡ standing → IsAnsweredSoFar script after new (text ++ answer_line standing.count answer)
 question_answered script before after standing new text numbers answer so_far taken answers now = rw now (record {
   pieces = so_far.pieces ++ taken.first ∷ [];
   commands = so_far.commands ++ Ask numbers ∷ [];
@@ -77,9 +77,9 @@ question_answered script before after standing new text numbers answer so_far ta
     before = last.2.0;
     table = last.0;
     last = last.2.1;
-    answer = answer;
-    answers = subst (λ (o : Option TableModel). IfSome o (λ t. IsAnswerOf t numbers answer)) last.1 answers;
-    is = ap (λ (n : ℕ). answer_line n answer) so_far.count;
+    is =
+        ap (λ (n : ℕ). answer_line n answer) so_far.count
+        ∙ ap (answer_line (length (published_tables so_far.commands))) (subst (λ (o : Option TableModel). IfSome o (λ t. answer ≡ answer_of t numbers)) last.1 answers);
   });
   count = so_far.count ∙ ap length (sym (published_question so_far.commands numbers));
   last = subst (λ (tables : List TableModel). IsLast tables standing.table) (sym (published_question so_far.commands numbers)) so_far.last;

@@ -1,13 +1,14 @@
 -- Readers go on with a table more, and answer by the last one.
-use Rattle.std.proofs.Common.{◌≡◌, ℕ, ◌+◌, ◌^◌, ◌<◌, ◌≤◌, List, [], ◌∷◌, length, refl, ap, sym, ◌∙◌, subst, arith, length-append, get_or, get_or-set_other, set, Option, Some, None, ◌≢◌, inl, inr}
-use Rattle.std.specs.Prelude.{ℤ, IfSome}
-use Rattle.std.proofs.lemmas.Bool.{lt-ltb, cases_lt}
+use Rattle.std.proofs.Common.{◌≡◌, ℕ, ◌+◌, ◌^◌, ◌<◌, ◌≤◌, List, [], ◌∷◌, length, refl, ap, sym, ◌∙◌, subst, arith, length-append, get_or, get_or-set_other, set, Option, Some, None, Bool, eq-eqb, ◌≢◌, inl, inr}
+use Rattle.std.specs.Prelude.{ℤ, IfSome, if◌then◌else◌}
+use Rattle.std.proofs.lemmas.Bool.{lt-ltb, cases_lt, ne_eqb}
 use Rattle.std.proofs.lemmas.Grind.{get_or-set_at}
 use Rattle.std.proofs.Math.ListN.{length-set}
 use Rattle.grid_quantiser.specs.Cells.{point_of}
 use Rattle.controller_table.specs.Tables.{TableModel}
-use Rattle.live_table.specs.Publishes.{Published, Listener, longer_list, EndsWith, IsChoiceOf, LastChooses}
-use Rattle.live_script.specs.Questions.{IsAnswerOf}
+use Rattle.controller_table.specs.Choice.{choice_at}
+use Rattle.live_table.specs.Publishes.{Published, Listener, longer_list, EndsWith, LastChooses}
+use Rattle.live_script.specs.Questions.{answer_of}
 use Rattle.live_run.specs.inside.Sessions.{InStep, Fits, GoOnWith}
 use Rattle.base.proofs.Lists.{same_last}
 
@@ -31,15 +32,14 @@ fits_more (Some p) (Some q) opened count (Some u) t fits first on =
 pub one_last : (list : List TableModel) (t u : TableModel) → EndsWith list t → EndsWith list u → t ≡ u
 one_last list t u h k = same_last h.0 k.0 t u (sym h.1 ∙ k.1)
 
--- a choice at the state of as many numbers as there are states
-pub chosen_is_answer : (t : TableModel) (numbers : List ℤ) (choice : Option ℕ) → length numbers ≡ length t.plant.states → IsChoiceOf t (point_of numbers) choice → IsAnswerOf t numbers choice
-chosen_is_answer t numbers None size h = record { chosen = tt; none = λ u _. h.none u }
-chosen_is_answer t numbers (Some u) size h = record { chosen = (size, h.chosen); none = tt }
+-- at the state of as many numbers as there are states a table answers what it chooses
+pub answers_choice : (t : TableModel) (numbers point : List ℤ) → length numbers ≡ length t.plant.states → point ≡ point_of numbers → choice_at t.plant t.rows point ≡ answer_of t numbers
+answers_choice t numbers point size at =
+    ap (choice_at t.plant t.rows) at ∙ ap (λ (b : Bool). if b then choice_at t.plant t.rows (point_of numbers) else None) (sym (eq-eqb (length numbers) (length t.plant.states) size))
 
--- what readers answer, who have so many tables
-pub readers_answer : (p : Published) (count : ℕ) (t : TableModel) (numbers : List ℤ) (choice : Option ℕ) → Fits (Some p) count (Some t) → length numbers ≡ length t.plant.states → LastChooses p.list (point_of numbers) choice → IsAnswerOf t numbers choice
-readers_answer p count t numbers choice fits size h =
-    chosen_is_answer t numbers choice size (subst (λ (u : TableModel). IsChoiceOf u (point_of numbers) choice) (one_last p.list h.0 t h.1 fits.1) h.2)
+-- and elsewhere nothing
+pub answers_nothing : (t : TableModel) (numbers : List ℤ) → length numbers ≢ length t.plant.states → None ≡ answer_of t numbers
+answers_nothing t numbers other = ap (λ (b : Bool). if b then choice_at t.plant t.rows (point_of numbers) else None) (sym (ne_eqb (length numbers) (length t.plant.states) other))
 
 -- ---- readers in step
 
@@ -63,11 +63,8 @@ others_stay P readers i v left k d above within =
 -- ---- what a session answers
 
 pub by_readers : (p : Published) (held : Option Published) (count : ℕ) (table : Option TableModel) (t : TableModel) (numbers point : List ℤ) (answered : Option (Option ℕ)) (choice : Option ℕ) → Fits held count table → held ≡ Some p → Some t ≡ table
-    → length numbers ≡ length t.plant.states → point ≡ point_of numbers → IfSome answered (λ c. LastChooses p.list point c) → answered ≡ Some choice → IsAnswerOf t numbers choice
+    → length numbers ≡ length t.plant.states → point ≡ point_of numbers → IfSome answered (λ c. LastChooses p.list point c) → answered ≡ Some choice → choice ≡ answer_of t numbers
 by_readers p held count table t numbers point answered choice fits is table_is size at last some =
     let mine : Fits (Some p) count (Some t) = subst (λ (z : Option Published × Option TableModel). Fits z.0 count z.1) (λ i. (is i, sym table_is i)) fits in
     let chosen : LastChooses p.list point choice = subst (λ (a : Option (Option ℕ)). IfSome a (λ c. LastChooses p.list point c)) some last in
-    readers_answer p count t numbers choice mine size (subst (λ (x : List ℤ). LastChooses p.list x choice) at chosen)
-
-pub by_table : (t : TableModel) (numbers point : List ℤ) (choice : Option ℕ) → length numbers ≡ length t.plant.states → point ≡ point_of numbers → IsChoiceOf t point choice → IsAnswerOf t numbers choice
-by_table t numbers point choice size at h = chosen_is_answer t numbers choice size (subst (λ (x : List ℤ). IsChoiceOf t x choice) at h)
+    chosen.2 ∙ ap (λ (u : TableModel). choice_at u.plant u.rows point) (one_last p.list chosen.0 t chosen.1 mine.1) ∙ answers_choice t numbers point size at

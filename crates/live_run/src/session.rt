@@ -1,6 +1,6 @@
 ghost use Rattle.std.specs.Prelude.{◌≡◌, ◌+◌, ◌^◌, ◌<◌, ◌≤◌, length, Some, None, OnOk, OnErr, IfSome, IfNone};
 ghost use Rattle.base.specs.Workers.{AreWorkers};
-ghost use Rattle.live_script.specs.Questions.{IsAnswerOf};
+ghost use Rattle.live_script.specs.Questions.{answer_of};
 ghost use Rattle.live_run.specs.inside.Sessions.{GoOnWith};
 ghost use Rattle.base.specs.declared.limits.TheConstants.{TABLES_LIMIT};
 
@@ -89,7 +89,7 @@ impl Session {
 
     /// What the last table answers.
     pub(crate) fn answer(&mut self, question: &StateNumbers) -> Option<u32>
-        ensures answer { IfSome self.old.table (λ table. IsAnswerOf table question.now result) }
+        ensures answer { IfSome self.old.table (λ table. result ≡ answer_of table question.now) }
         ensures same { self.new ≡ self.old }
     {
         let table = self.table.as_ref()?;

@@ -1,27 +1,19 @@
 -- The answers of a script are one text.
-use Rattle.std.proofs.Common.{◌≡◌, ℕ, List, [], ◌∷◌, ◌++◌, length, Option, Some, None, refl, sym, ap, ap₂, subst, ◌∙◌}
+use Rattle.std.proofs.Common.{◌≡◌, ℕ, List, [], ◌∷◌, ◌++◌, length, sym, ap, ap₂, subst, ◌∙◌}
 use Rattle.std.specs.Prelude.{ℤ}
 use Rattle.controller_table.specs.Tables.{TableModel}
 use Rattle.live_script.specs.declared.command.ScriptCommand.{ScriptCommand}
 use Rattle.live_script.specs.declared.command.ScriptCommand.TheVariants.{Publish, Ask}
-use Rattle.live_script.specs.Questions.{IsAnswerOf}
+use Rattle.live_script.specs.Questions.{answer_of}
 use Rattle.live_script.specs.LiveText.{answer_line, IsAnswerLine, AreAnswers}
 use Rattle.live_script.specs.Laws.{OneLiveText}
 use Rattle.live_script.proofs.ScriptLaws.{one_script}
 use Rattle.base.proofs.Lists.{same_last}
-use Rattle.controller_table.proofs.OneTable.{one_choice_at}
-
-one_answer : (table : TableModel) (numbers : List ℤ) (a b : Option ℕ) → IsAnswerOf table numbers a → IsAnswerOf table numbers b → a ≡ b
-one_answer table numbers None None h k = refl
-one_answer table numbers None (Some v) h k = absurd (h.none v k.chosen.0 k.chosen.1)
-one_answer table numbers (Some u) None h k = absurd (k.none u h.chosen.0 h.chosen.1)
-one_answer table numbers (Some u) (Some v) h k = ap Some (one_choice_at table.plant table.rows _ u v h.chosen.1 k.chosen.1)
 
 one_line : (tables : List TableModel) (numbers : List ℤ) (a b : List ℕ) → IsAnswerLine tables numbers a → IsAnswerLine tables numbers b → a ≡ b
 one_line tables numbers a b h k =
     let last = same_last h.before k.before h.table k.table (sym h.last ∙ k.last) in
-    let same = one_answer k.table numbers h.answer k.answer (subst (λ (t : TableModel). IsAnswerOf t numbers h.answer) last h.answers) k.answers in
-    h.is ∙ ap (answer_line (length tables)) same ∙ sym k.is
+    h.is ∙ ap (λ (t : TableModel). answer_line (length tables) (answer_of t numbers)) last ∙ sym k.is
 
 one_list_of_answers : (tables : List TableModel) (commands : List ScriptCommand) (a b : List ℕ) → AreAnswers tables commands a → AreAnswers tables commands b → a ≡ b
 one_list_of_answers tables [] a b h k = h ∙ sym k

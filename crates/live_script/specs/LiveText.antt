@@ -5,7 +5,7 @@ use Rattle.base.specs.Lines.{line}
 use Rattle.controller_table.specs.Tables.{TableModel}
 use Rattle.live_script.specs.declared.command.ScriptCommand.{ScriptCommand}
 use Rattle.live_script.specs.declared.command.ScriptCommand.TheVariants.{Publish, Ask}
-use Rattle.live_script.specs.Questions.{IsAnswerOf}
+use Rattle.live_script.specs.Questions.{answer_of}
 use Rattle.live_script.specs.Scripts.{IsScript}
 
 -- an answer as a word: the number of the input vector, or a sign for none
@@ -22,9 +22,7 @@ pub record IsAnswerLine (tables : List TableModel) (numbers : List ℤ) (text : 
   pub before : List TableModel
   pub table : TableModel
   pub last : tables ≡ before ++ table ∷ []
-  pub answer : Option ℕ
-  pub answers : IsAnswerOf table numbers answer
-  pub is : text ≡ answer_line (length tables) answer
+  pub is : text ≡ answer_line (length tables) (answer_of table numbers)
 
 -- the text is the lines for the questions among commands after these tables
 abbrev pub AreAnswers : List TableModel → List ScriptCommand → List ℕ → Type 0

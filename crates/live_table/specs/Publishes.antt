@@ -1,10 +1,9 @@
 -- Lists of publishes: that of a publisher, what a reader has seen and was told of, and what an answer says of them.
-use Rattle.std.specs.Prelude.{◌≡◌, ℕ, ℤ, List, [], ◌∷◌, ◌++◌, length, Option, IfSome, if◌then◌else◌, nat_lt}
-use Rattle.std.specs.Option.{IfNone}
+use Rattle.std.specs.Prelude.{◌≡◌, ℕ, ℤ, List, [], ◌∷◌, ◌++◌, length, Option, if◌then◌else◌, nat_lt}
 use mathlib.Core.List.{IsPrefix}
 use Rattle.logbook.specs.Pages.{Book}
 use Rattle.controller_table.specs.Tables.{TableModel}
-use Rattle.controller_table.specs.Choice.{Chooses}
+use Rattle.controller_table.specs.Choice.{choice_at}
 
 -- The tables that were published since an opening, in order: all of them for a publisher, those so far for a `Told`.
 pub record Published : Type 0 where
@@ -33,14 +32,9 @@ longer_list xs ys = if nat_lt (length xs) (length ys) then ys else xs
 abbrev pub EndsWith : List TableModel → TableModel → Type 0
 EndsWith list table = (before : List TableModel) × (list ≡ before ++ table ∷ [])
 
--- What a table chooses at a state: an input, or none where it chooses none.
-pub record IsChoiceOf (table : TableModel) (x : List ℤ) (choice : Option ℕ) : Type 0 where
-  pub chosen : IfSome choice (λ u. Chooses table.plant table.rows x u)
-  pub none : IfNone choice ((u : ℕ) → Chooses table.plant table.rows x u → ⊥)
-
 -- what the last table of a list chooses at a state
 abbrev pub LastChooses : List TableModel → List ℤ → Option ℕ → Type 0
-LastChooses list x choice = (table : TableModel) × EndsWith list table × IsChoiceOf table x choice
+LastChooses list x choice = (table : TableModel) × EndsWith list table × (choice ≡ choice_at table.plant table.rows x)
 
 -- A reader answers by the last table of a list of publishes, which it then has seen, and which begins with all that
 -- it had seen or was told of.

@@ -18,18 +18,18 @@ use Rattle.loop_sim.specs.Noise.{generator, noises_at, noises_from}
 use Rattle.loop_sim.specs.Trace.{trace_lines}
 use Rattle.loop_sim.specs.inside.Stages.{lines_on}
 use Rattle.loop_sim.proofs.Draws.{noise_count, noises_later, noises_lie}
-use Rattle.controller_table.proofs.RowsAtStates.{has_row}
+use Rattle.controller_table.proofs.RowsAtStates.{in_cell}
 
 -- the row at a state fits the plant
 pub row_fits : (p : Description) (rows : List (Option Row)) (x : List ℤ) (row : Row) → RowsFit p rows → row_at p rows x ≡ Some row → row.input < vectors_of p.inputs
-row_fits p rows x row fit e = (fits p rows fit (cell_of (axes_of p) x) row (has_row p rows x row e).is).input
+row_fits p rows x row fit e = (fits p rows fit (cell_of (axes_of p) x) row (in_cell p rows x row e).1).input
 
 -- the noises that are drawn keep the step in the range
 pub stays : (p : Description) (rows : List (Option Row)) (x w : List ℤ) (row : Row) (before : ℕ) → IsWithinLimits p → RowsFit p rows → HasNoOverflow p → row_at p rows x ≡ Some row → w ≡ point_of (noises_from p.noises before 0)
     → StepStaysInRange p x row.input w
 stays p rows x w row before limits fit overflow e drawn =
     let noises : List ℤ = noises_from p.noises before 0 in
-    step_stays p row.input x w (sound p limits.plant) overflow (row_fits p rows x row fit e) (has_row p rows x row e).inside (subst (IsNoise p.noises) (sym drawn) (noises_lie p.noises (replicate (6 - length noises) (pos 0)) before 0 limits.plant.noises))
+    step_stays p row.input x w (sound p limits.plant) overflow (row_fits p rows x row fit e) (in_cell p rows x row e).0 (subst (IsNoise p.noises) (sym drawn) (noises_lie p.noises (replicate (6 - length noises) (pos 0)) before 0 limits.plant.noises))
 
 -- what lies past the noises is not looked at
 same_step : (p : Description) (x w past : List ℤ) (u : ℕ) → length p.noises ≤ length w → step_of p x u (w ++ past) ≡ step_of p x u w

@@ -1,10 +1,12 @@
 -- What holds of every trace.
 use Rattle.std.specs.Prelude.{◌≡◌, ℕ, ◌↔◌, ℤ, List, [], ◌∷◌, Option, Some}
 use Rattle.game_core.specs.declared.game.Row.{Row}
-use Rattle.plant_record.specs.Description.{Description}
+use Rattle.game_core.specs.Solution.{row_of}
+use Rattle.grid_quantiser.specs.Cells.{IsInDomain, cell_of}
+use Rattle.plant_record.specs.Description.{Description, axes_of}
 use Rattle.plant_record.specs.Plants.{IsPlant}
 use Rattle.plant_record.specs.Steps.{IsNoise}
-use Rattle.controller_table.specs.Choice.{row_at, HasRowAt}
+use Rattle.controller_table.specs.Choice.{HasRowAt}
 use Rattle.loop_sim.specs.declared.sim_line.SimLine.{SimLine}
 use Rattle.loop_sim.specs.declared.sim_line.SimLine.TheVariants.{At, Arrived, Stopped, Lost}
 use Rattle.loop_sim.specs.Noise.{noises_at}
@@ -16,7 +18,7 @@ NoisesLieInTheirRanges = (p : Description) (seed t : ℕ) → IsPlant p → IsNo
 
 -- the row at a state is that of its cell, and there is none outside the domain
 abbrev pub RowsStandAtStates : Type 0
-RowsStandAtStates = (p : Description) (rows : List (Option Row)) (x : List ℤ) (row : Row) → row_at p rows x ≡ Some row ↔ HasRowAt p rows x row
+RowsStandAtStates = (p : Description) (rows : List (Option Row)) (x : List ℤ) (row : Row) → HasRowAt p rows x row ↔ (IsInDomain (axes_of p) x × (row_of rows (cell_of (axes_of p) x) ≡ Some row))
 
 -- a line of a sample, after which the trace goes on
 abbrev pub IsSampleLine : SimLine → Type 0

@@ -16,8 +16,7 @@ use Rattle.controller_table.specs.Choice.{Chooses, HasRowAt}
 use Rattle.plant_record.specs.States.{state_point, LiesInSome, IsClear}
 use Rattle.plant_refine.specs.Trajectories.{StepsTo, IsStateAt, ArrivesFirst}
 use Rattle.plant_refine.specs.inside.Descents.{HasLowerRow, LeadDown}
-use Rattle.controller_table.proofs.OneTable.{one_choice_at}
-use Rattle.plant_refine.proofs.Choosing.{one_row}
+use Rattle.controller_table.proofs.RowsAtStates.{in_cell, row_stands}
 
 -- what stands past the states is not looked at
 inside_take : (axes : List Axis) (xs : List ℤ) → IsInDomain axes xs → (IsInDomain axes (take (length axes) xs)) × (length axes ≤ length xs)
@@ -34,13 +33,14 @@ cell_take (a ∷ axes) (x ∷ xs) = ap (λ (n : ℕ). index_of a x * cells_of ax
 at_start : (p : Description) (rows : List (Option Row)) (x : List ℤ) (row : Row) → HasRowAt p rows x row → HasRowAt p rows (state_point p x) row
 at_start p rows x row has =
     let count : length (axes_of p) ≡ length p.states = length-map p.states axis_of in
-    let inside = inside_take (axes_of p) x has.inside in
+    let at = in_cell p rows x row has in
+    let inside = inside_take (axes_of p) x at.0 in
     let start : List ℤ = take (length p.states) x in
     let in_start : IsInDomain (axes_of p) start = subst (λ (n : ℕ). IsInDomain (axes_of p) (take n x)) count inside.0 in
     let cell : cell_of (axes_of p) start ≡ cell_of (axes_of p) x = subst (λ (n : ℕ). cell_of (axes_of p) (take n x) ≡ cell_of (axes_of p) x) count (cell_take (axes_of p) x) in
     let long : length start ≡ length p.states = length-take-le (length p.states) x (omega (arith, count, inside.1)) in
     let same = point_lies p start (omega (arith, long)) in
-    record { inside = same.0.1 in_start; is = ap (row_of rows) (same.1 ∙ cell) ∙ has.is }
+    row_stands p rows (state_point p x) row (same.0.1 in_start) (ap (row_of rows) (same.1 ∙ cell) ∙ at.1)
 
 -- How far the run has come at a sample before which it lies in no target.
 pub record IsUnderWay (p : Description) (rows : List (Option Row)) (x : List ℤ) (ws : List (List ℤ)) (n : ℕ) (y : List ℤ) : Type 0 where
@@ -58,7 +58,7 @@ module _ {p : Description} {rows : List (Option Row)} (down : LeadDown p rows) (
   one_state (suc t) y z h k =
       let state : h.0 ≡ k.0 = one_state t h.0 k.0 h.2 k.2 in
       let noise : h.1 ≡ k.1 = same_Some h.1 k.1 (sym h.3 ∙ k.3) in
-      let input : h.4.0 ≡ k.4.0 = one_choice_at p rows k.0 h.4.0 k.4.0 (subst (λ (s : List ℤ). Chooses p rows s h.4.0) state h.4.1) k.4.1 in
+      let input : h.4.0 ≡ k.4.0 = same_Some h.4.0 k.4.0 (sym (subst (λ (s : List ℤ). Chooses p rows s h.4.0) state h.4.1) ∙ k.4.1) in
       h.4.2
       ∙ ap (λ (s : List ℤ). point_of (step_of p s h.4.0 h.1)) state
       ∙ ap (λ (u : ℕ). point_of (step_of p k.0 u h.1)) input
@@ -81,7 +81,7 @@ module _ {p : Description} {rows : List (Option Row)} (down : LeadDown p rows) (
         state = is;
         row = row;
         has = there;
-        falls = λ start k. subst (λ (r : Row). row.rank + 0 ≤ r.rank) (one_row p rows x row start has k) (omega arith);
+        falls = λ start k. subst (λ (r : Row). row.rank + 0 ≤ r.rank) (same_Some row start (sym has ∙ k)) (omega arith);
         before = λ t z lt. absurd (omega (arith, lt));
         clear = clear_to 0 y row is there (λ t z lt. absurd (omega (arith, lt)));
       }

@@ -18,6 +18,7 @@ use Rattle.successor_box.proofs.Enabled.{enabled_exactly}
 use Rattle.successor_box.proofs.Padding.{point_lies}
 use Rattle.plant_record.specs.declared.aims.GoalKind.TheVariants.{Reach}
 use Rattle.controller_table.specs.Choice.{Chooses, HasRowAt}
+use Rattle.controller_table.proofs.RowsAtStates.{in_cell, row_stands}
 use Rattle.plant_record.specs.States.{LiesInSome}
 use Rattle.plant_game.proofs.GameLaws.{refines}
 use Rattle.plant_refine.specs.RightRows.{AreRightRowsOf}
@@ -46,13 +47,14 @@ module _ (p : Description) (rows : List (Option Row)) (plant : IsPlant p) (h : A
   enabled x (suc n) u has some =
       let c : ℕ = cell_of (axes_of p) x in
       let on : IsEnabled h.game c u = enabled_at guides x n u has in
-      (enabled_exactly p c u (successors_of h.game c u) (sound p plant) (h.abstraction.successors c u (below_cells rows h.game.cells c (record { rank = suc n; input = u }) h.right.one_each has.is) on.0)).0 on.1
+      (enabled_exactly p c u (successors_of h.game c u) (sound p plant) (h.abstraction.successors c u (below_cells rows h.game.cells c (record { rank = suc n; input = u }) h.right.one_each (in_cell p rows x (record { rank = suc n; input = u }) has).1) on.0)).0 on.1
 
   -- a row stands at the point of a state as at the state
   at_point : (y : List ℤ) (row : Row) → length p.states ≡ length y → HasRowAt p rows y row → HasRowAt p rows (point_of y) row
   at_point y row long has =
       let same = point_lies p y (omega (arith, long)) in
-      record { inside = same.0.1 has.inside; is = ap (row_of rows) same.1 ∙ has.is }
+      let at = in_cell p rows y row has in
+      row_stands p rows (point_of y) row (same.0.1 at.0) (ap (row_of rows) same.1 ∙ at.1)
 
   lower : (x w : List ℤ) (rank u : ℕ) → HasRowAt p rows x (record { rank = rank; input = u }) → 0 < rank → IsNoise p.noises w → HasLowerRow p rows rank (point_of (step_of p x u w))
   lower x w zero u has some noise = absurd (omega (arith, some))

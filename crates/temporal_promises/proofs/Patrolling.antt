@@ -23,6 +23,7 @@ use Rattle.plant_game.specs.Abstraction.{IsGameOf}
 use Rattle.plant_game.specs.Refinement.{IsRefinement}
 use Rattle.controller_table.specs.declared.text_kind.TextKind.TheVariants.{Patrol}
 use Rattle.controller_table.specs.Choice.{HasRowAt}
+use Rattle.controller_table.proofs.RowsAtStates.{in_cell, row_stands}
 use Rattle.controller_table.proofs.TextRows.{turn_of_row, row_told}
 use Rattle.temporal_texts.specs.PatrolText.{IsPatrolText, HasPatrolRow, IsArrivalIn}
 use Rattle.plant_game.proofs.GameLaws.{refines, clear_at, lands}
@@ -85,7 +86,7 @@ module _ {bytes : List ℕ} {p : Description} {g : Game} {rows : List (List (Opt
   turns = length p.targets
 
   has_row : (j : ℕ) (x : List ℤ) (row : Row) → IsInDomain (axes_of p) x → row_of (rows_for rows j) (cell_of (axes_of p) x) ≡ Some row → HasPatrolRow bytes j x row
-  has_row j x row inside is = record { plant = p; turns = rows; text = k.table; has = record { inside = inside; is = is } }
+  has_row j x row inside is = record { plant = p; turns = rows; text = k.table; has = row_stands p (rows_for rows j) x row inside is }
 
   row_from : (j : ℕ) (x : List ℤ) (row : Row) → HasPatrolRow bytes j x row → HasRowAt p (rows_for rows j) x row
   row_from j x row has = (row_told Patrol bytes p rows k.table j x row has).1
@@ -101,7 +102,7 @@ module _ {bytes : List ℕ} {p : Description} {g : Game} {rows : List (List (Opt
     where
       by_row : IsInTarget p j (cell_of (axes_of p) y) → (o : Option Row) → row_of (rows_for rows (next_turn turns j)) (cell_of (axes_of p) y) ≡ o
           → ((row : Row) × IsArrivalIn bytes p j y row × (row_of (rows_for rows (next_turn turns j)) (cell_of (axes_of p) y) ≡ Some row)) ⊎ ((row : Row) → IsArrivalIn bytes p j y row → ⊥)
-      by_row target None e = inr (λ row is. let f = (row_from (next_turn turns j) y row is.next).is in cc)
+      by_row target None e = inr (λ row is. let f = (in_cell p (rows_for rows (next_turn turns j)) y row (row_from (next_turn turns j) y row is.next)).1 in cc)
       by_row target (Some row) e = inl (row, record { target = target; next = has_row (next_turn turns j) y row inside e }, e)
 
   clear_of : (j : ℕ) (x : List ℤ) (row : Row) → j < turns → IsInDomain (axes_of p) x → row_of (rows_for rows j) (cell_of (axes_of p) x) ≡ Some row → IsClear p x
@@ -146,4 +147,5 @@ patrol_text_patrols bytes p g rows table abstraction solution j x row ws has noi
       solution = solution;
     } in
     let row_at = row_from k j x row has in
-    goes k ws j x row row.rank (turn_of_row Patrol bytes p rows table j x row row_at) row_at.inside row_at.is (omega arith) (recursion_from_All (IsNoise p.noises) ws noises)
+    let at = in_cell p (rows_for rows j) x row row_at in
+    goes k ws j x row row.rank (turn_of_row Patrol bytes p rows table j x row row_at) at.0 at.1 (omega arith) (recursion_from_All (IsNoise p.noises) ws noises)

@@ -18,7 +18,7 @@ use Rattle.plant_record.specs.Steps.{step_of, IsNoise}
 use Rattle.plant_game.specs.Abstraction.{IsGameOf}
 use Rattle.plant_game.specs.Refinement.{IsRefinement}
 use Rattle.controller_table.specs.declared.text_kind.TextKind.TheVariants.{Stay}
-use Rattle.controller_table.specs.Choice.{HasRowAt}
+use Rattle.controller_table.proofs.RowsAtStates.{in_cell, row_stands}
 use Rattle.controller_table.proofs.TextRows.{row_told}
 use Rattle.temporal_texts.specs.StayText.{IsStayText, HasStayRow}
 use Rattle.temporal_texts.specs.Settles.{IsUnderWay, Holds, Settles}
@@ -77,7 +77,7 @@ record Keeps (bytes : List ℕ) (p : Description) (g : Game) (rows : List (Optio
 
 module _ {bytes : List ℕ} {p : Description} {g : Game} {rows : List (Option Row)} (k : Keeps bytes p g rows) where
   has_row : (x : List ℤ) (row : Row) → IsInDomain (axes_of p) x → row_of rows (cell_of (axes_of p) x) ≡ Some row → HasStayRow bytes x row
-  has_row x row inside is = record { plant = p; turns = rows ∷ []; text = k.table; has = record { inside = inside; is = is } }
+  has_row x row inside is = record { plant = p; turns = rows ∷ []; text = k.table; has = row_stands p rows x row inside is }
 
   here : (x : List ℤ) (row : Row) (n : ℕ) → IsInDomain (axes_of p) x → row_of rows (cell_of (axes_of p) x) ≡ Some row → row.rank ≤ n → IsUnderWay p bytes x n
   here x row n inside is le =
@@ -103,5 +103,5 @@ module _ {bytes : List ℕ} {p : Description} {g : Game} {rows : List (Option Ro
 -- and settles the plant
 pub stay_text_settles : (bytes : List ℕ) (p : Description) (g : Game) (rows : List (Option Row)) → IsStayText bytes p rows → IsGameOf p g → IsStaySolution g rows → Settles p bytes
 stay_text_settles bytes p g rows table abstraction solution x row ws has noises =
-    let row_at : HasRowAt p rows x row = (row_told Stay bytes p (rows ∷ []) table 0 x row has).1 in
-    holds (record { table = table; abstraction = abstraction; refined = refines p g table.limits.plant abstraction; solution = solution }) ws x row row.rank row_at.inside row_at.is (omega arith) (recursion_from_All (IsNoise p.noises) ws noises)
+    let at = in_cell p rows x row (row_told Stay bytes p (rows ∷ []) table 0 x row has).1 in
+    holds (record { table = table; abstraction = abstraction; refined = refines p g table.limits.plant abstraction; solution = solution }) ws x row row.rank at.0 at.1 (omega arith) (recursion_from_All (IsNoise p.noises) ws noises)

@@ -11,6 +11,7 @@ use Rattle.plant_record.specs.Steps.{step_of, IsNoise}
 use Rattle.row_reading.specs.RowsTexts.{IsRowWithin}
 use Rattle.controller_table.specs.declared.text_kind.TextKind.TheVariants.{Stay, Patrol}
 use Rattle.controller_table.specs.TextKinds.{patrol_rules}
+use Rattle.controller_table.proofs.RowsAtStates.{in_cell}
 use Rattle.controller_table.proofs.TextRows.{turn_known, one_text_row}
 use Rattle.temporal_texts.specs.Settles.{IsUnderWay, Holds}
 use Rattle.temporal_texts.specs.PatrolText.{HasPatrolRow}
@@ -82,8 +83,9 @@ module _ (p : Description) (bytes : List ℕ) where
   some_rank j x row h =
       let rows : List (Option Row) = rows_for h.turns j in
       let c : ℕ = cell_of (axes_of h.plant) x in
-      let each = (h.text.within.each j [] (turn_known h.turns j c row h.has.is)).each c None (below_from_row rows c row h.has.is) in
-      (subst (λ (o : Option Row). IfSome o (IsRowWithin (patrol_rules h.plant))) h.has.is each).least
+      let is = (in_cell h.plant rows x row h.has).1 in
+      let each = (h.text.within.each j [] (turn_known h.turns j c row is)).each c None (below_from_row rows c row is) in
+      (subst (λ (o : Option Row). IfSome o (IsRowWithin (patrol_rules h.plant))) is each).least
 
   some_left : (j : ℕ) (x : List ℤ) (k : ℕ) (ws : List (List ℤ)) → Goes p bytes j x k ws → 1 ≤ k
   some_left j x k [] h = let some = some_rank j x h.1.0 h.1.1 in let le = h.1.2 in omega (arith, some, le)

@@ -1,34 +1,29 @@
 -- What is answered, by each text that says the same.
-use Rattle.std.proofs.Common.{◌≡◌, ℕ, List, sym, subst, ◌∙◌}
+use Rattle.std.proofs.Common.{◌≡◌, ℕ, List, None, sym, ap, subst, ◌∙◌}
 use Rattle.std.specs.Prelude.{ℤ}
-use Rattle.std.proofs.lemmas.Option.{same_Some}
-use Rattle.game_core.specs.declared.game.Row.{Row}
-use Rattle.controller_table.specs.Choice.{HasRowAt}
+use Rattle.std.proofs.lemmas.Option.{none-some, same_Some}
+use Rattle.controller_table.specs.Choice.{HasTextRank}
 use Rattle.text_control.specs.declared.reply.Reply.{Reply}
 use Rattle.text_control.specs.declared.reply.Reply.TheVariants.{Apply, Arrived, NoRow, WrongSizes}
-use Rattle.text_control.specs.Texts.{TextModel, due_rows, Tells}
-use Rattle.text_control.specs.Control.{AppliesAs, HasArrived, HasNoRow, HasTextRank, HasNoTextRank, AppliesNone, IsReply, IsReplyByText}
+use Rattle.text_control.specs.Texts.{TextModel, Tells}
+use Rattle.text_control.specs.Control.{due_row, applied_as, HasArrived, HasNoTextRank, AppliesNone, IsReply, IsReplyByText}
 use Rattle.text_control.proofs.OneText.{applied_row, ranked_row, text_values, text_rank}
 
--- a state has one row
-pub same_row : (t : TextModel) (x : List ℤ) (a b : Row) → HasRowAt t.plant (due_rows t) x a → HasRowAt t.plant (due_rows t) x b → a ≡ b
-same_row t x a b h k = same_Some a b (sym h.is ∙ k.is)
-
 module _ (t : TextModel) (x : List ℤ) (bytes : List ℕ) (tells : Tells bytes t) where
-  pub none_ranked : HasNoRow t x → HasNoTextRank t.kind t.turn bytes x
+  pub none_ranked : due_row t x ≡ None → HasNoTextRank t.kind t.turn bytes x
   none_ranked none k ranked =
       let row = ranked_row bytes t tells x k ranked in
-      none row.0 row.1
+      none-some row.0 (sym none ∙ row.1)
 
-  none_applied : HasNoRow t x → AppliesNone t.kind t.turn bytes x
+  none_applied : due_row t x ≡ None → AppliesNone t.kind t.turn bytes x
   none_applied none values are =
       let row = applied_row bytes t tells x values are in
-      none row.0 row.1
+      none-some row.0 (sym none ∙ row.1)
 
   arrived_applies_none : HasArrived t x → AppliesNone t.kind t.turn bytes x
   arrived_applies_none arrived values are =
       let row = applied_row bytes t tells x values are in
-      arrived.none row.2.0 (subst (λ (r : Row). AppliesAs t.kind t.plant.goal r row.2.0) (same_row t x row.0 arrived.row row.1 arrived.has) row.2.1)
+      none-some row.2.0 (sym arrived.none ∙ ap (applied_as t.kind t.plant.goal) (same_Some arrived.row row.0 (sym arrived.has ∙ row.1)) ∙ row.2.1)
 
 pub by_text : (t : TextModel) (x before after : List ℤ) (reply : Reply) → IsReply t x before after reply → IsReplyByText t x after reply
 by_text t x before after Apply is = λ bytes tells. text_values bytes t tells x after is.1.row is.1.input is.1.has is.1.applies is.1.are

@@ -1,4 +1,3 @@
-mod Cells
 mod Pieces
 mod Replies
 pub mod OneText

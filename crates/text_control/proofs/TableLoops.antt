@@ -1,5 +1,5 @@
 -- Loops of the answers of tables that drive or keep their plants.
-use Rattle.std.proofs.Common.{inl, inr, ◌≡◌, ◌⊎◌, ℕ, zero, suc, ◌<◌, List, [], ◌∷◌, Option, length, replicate, refl, sym, ap, subst, ◌∙◌, arith}
+use Rattle.std.proofs.Common.{inl, inr, ◌≡◌, ◌⊎◌, ℕ, zero, suc, ◌<◌, List, [], ◌∷◌, Option, Some, option_and_then, length, replicate, refl, sym, ap, subst, ◌∙◌, arith}
 use Rattle.std.specs.Prelude.{ℤ}
 use Rattle.std.specs.Int.Signed.{≤ℤ_refl}
 use Rattle.std.specs.List.{All, AllByRecursion}
@@ -11,12 +11,12 @@ use Rattle.plant_record.specs.Variables.{IsNoiseVariable}
 use Rattle.plant_record.specs.States.{LiesInSome, IsClear}
 use Rattle.plant_record.specs.Steps.{step_of, IsNoise}
 use Rattle.row_runs.specs.declared.run.TableVersion.{TableVersion}
-use Rattle.controller_table.specs.Choice.{IsChoice, HasRank}
+use Rattle.controller_table.specs.Choice.{applied, IsChoice, HasTextRow, HasTextRank, HasRank}
 use Rattle.controller_table.specs.Tables.{IsTable}
 use Rattle.controller_table.specs.KindTexts.{IsTextOf}
 use Rattle.controller_table.specs.TextKinds.{turn_rules}
-use Rattle.controller_table.specs.TextRows.{HasTextRow}
 use Rattle.controller_table.proofs.HeadedLaws.{one_text}
+use Rattle.controller_table.proofs.Applied.{chosen_row}
 use Rattle.controller_table.proofs.OneTable.{one_choice}
 use Rattle.controller_table.proofs.TableTexts.{only_turn}
 use Rattle.game_core.specs.declared.game.Row.{Row}
@@ -26,7 +26,7 @@ use Rattle.plant_refine.specs.Stays.{HasSomeRow, Stays}
 use Rattle.controller_table.specs.declared.text_kind.TextKind.{TextKind}
 use Rattle.controller_table.specs.declared.text_kind.TextKind.TheVariants.{Table}
 use Rattle.text_control.specs.Texts.{TextModel, due_rows, Tells}
-use Rattle.text_control.specs.Control.{AppliesAs, AreTextValues, IsRank}
+use Rattle.text_control.specs.Control.{applied_as, AreTextValues, IsRank}
 use Rattle.text_control.specs.Loops.{LoopSample, moved_by, Answers, AlwaysAnswers, IsLoop}
 use Rattle.text_control.specs.Laws.{ReachLoopsArrive, KeepLoopsGoOn}
 use Rattle.text_control.proofs.OneText.{first_due}
@@ -64,21 +64,22 @@ module _ (bytes : List ℕ) (t : TextModel) (version : TableVersion) (tells : Te
   noises = table.1.limits.plant.noises
 
   rank_told : (x : List ℤ) (k : ℕ) → IsRank t x k → HasRank bytes x k
-  rank_told x k rank = record { plant = p; rows = due_rows t; table = table; row = rank.0.row; has = rank.0.has; ranked = sym rank.0.is }
+  rank_told x k rank = (version, subst (λ (due : TextKind × ℕ). HasTextRank due.0 due.1 bytes x k) (λ i. (kind i, first i)) (rank.1 bytes tells))
 
   -- what is answered is what the table chooses
   choice : (x values : List ℤ) → Answers t x values → (u : ℕ) × IsChoice bytes x u × (values ≡ vector_of p.inputs u)
   choice x values answers =
       let c = chosen t x values answers in
-      let applies = subst (λ (kd : TextKind). AppliesAs kd p.goal c.row c.input) kind c.applies in
-      (c.input, record { plant = p; rows = due_rows t; table = table; chosen = (c.row, c.has, applies) }, c.are)
+      let applies = subst (λ (kd : TextKind). applied_as kd p.goal c.row ≡ Some c.input) kind c.applies in
+      (c.input, record { plant = p; rows = due_rows t; table = table; chosen = ap (option_and_then (applied p.goal)) c.has ∙ applies }, c.are)
 
   chooses : (x : List ℤ) (u : ℕ) → IsChoice bytes x u → AlwaysAnswers t x
   chooses x u c =
       let same = (one_text (Table c.table.0) t.kind bytes c.plant p (c.rows ∷ []) t.turns c.table.1 tells).0 in
-      let has : HasTextRow (Table c.table.0) bytes 0 x c.chosen.0 = record { plant = c.plant; turns = c.rows ∷ []; text = c.table.1; has = c.chosen.1 } in
+      let by = chosen_row c.plant c.rows x u c.chosen in
+      let has : HasTextRow (Table c.table.0) bytes 0 x by.0 = record { plant = c.plant; turns = c.rows ∷ []; text = c.table.1; has = by.1 } in
       always_answers t x bytes tells (vector_of c.plant.inputs u)
-      (subst (λ (due : TextKind × ℕ). AreTextValues due.0 due.1 bytes x (vector_of c.plant.inputs u)) (λ i. (same i, sym first i)) (c.chosen.0, has, u, c.chosen.2, refl))
+      (subst (λ (due : TextKind × ℕ). AreTextValues due.0 due.1 bytes x (vector_of c.plant.inputs u)) (λ i. (same i, sym first i)) (by.0, has, u, by.2, refl))
 
   -- the plant makes a step under the input that a choice names
   moves_on : (s : LoopSample) (x : List ℤ) (u : ℕ) → s.state ≡ x → Answers t x s.values → IsChoice bytes x u → step_of p x u s.noise ≡ moved_by p s

@@ -1,13 +1,13 @@
 -- Loops of the answers of stay texts that settle their plants, and of patrol texts that patrol.
-use Rattle.std.proofs.Common.{◌≡◌, ℕ, zero, suc, ◌<◌, ◌≤◌, List, [], ◌∷◌, length, take, refl, sym, ap, subst, ◌∙◌, arith}
+use Rattle.std.proofs.Common.{◌≡◌, ℕ, zero, suc, ◌<◌, ◌≤◌, List, [], ◌∷◌, Some, length, take, refl, sym, ap, subst, ◌∙◌, arith}
 use Rattle.std.specs.Prelude.{ℤ, slice_index_or}
 use Rattle.std.specs.List.{Any}
 use Rattle.std.proofs.lemmas.List.{length-map}
+use Rattle.std.proofs.lemmas.Option.{same_Some}
 use Rattle.game_core.specs.declared.game.Row.{Row}
 use Rattle.grid_quantiser.specs.CellBoxes.{IsInBox}
 use Rattle.plant_record.specs.Description.{Description, axes_of, vector_of}
-use Rattle.controller_table.specs.Choice.{HasRowAt}
-use Rattle.controller_table.specs.TextRows.{HasTextRow}
+use Rattle.controller_table.specs.Choice.{HasRowAt, HasTextRow}
 use Rattle.turn_rows.specs.Rows.{rows_for}
 use Rattle.temporal_texts.specs.StayText.{HasStayRow}
 use Rattle.temporal_texts.specs.PatrolText.{HasPatrolRow}
@@ -18,9 +18,9 @@ use Rattle.temporal_texts.proofs.Trajectories.{stay_trajectories_settle, patrol_
 use Rattle.controller_table.specs.declared.text_kind.TextKind.{TextKind}
 use Rattle.controller_table.specs.declared.text_kind.TextKind.TheVariants.{Stay, Patrol}
 use Rattle.text_control.specs.declared.visits.Visit.{Visit}
-use Rattle.text_control.specs.declared.visits.Visit.TheVariants.{Next, Same, WrongSize}
+use Rattle.text_control.specs.declared.visits.Visit.TheVariants.{WrongSize}
 use Rattle.text_control.specs.Texts.{TextModel, due_rows, Tells}
-use Rattle.text_control.specs.Control.{AppliesAs, AreTextValues}
+use Rattle.text_control.specs.Control.{applied_as, AreTextValues}
 use Rattle.text_control.specs.Visits.{HasArrivedInTurn, with_turn, IsVisit, IsVisitByText}
 use Rattle.text_control.specs.Loops.{LoopSample, moved_by, Answers, AlwaysAnswers, IsLoop, IsPatrolLoop}
 use Rattle.text_control.specs.Laws.{EndsTurn, StayLoopsSettle, PatrolLoopsGoOn}
@@ -57,7 +57,7 @@ module _ (bytes : List ℕ) (t : TextModel) (tells : Tells bytes t) (kind : t.ki
   answered_row : (x values : List ℤ) → Answers t x values → (row : Row) × HasStayRow bytes x row × (values ≡ vector_of p.inputs row.input)
   answered_row x values answers =
       let c = chosen t x values answers in
-      let applies : c.row.input ≡ c.input = subst (λ (k : TextKind). AppliesAs k p.goal c.row c.input) kind c.applies in
+      let applies = same_Some c.row.input c.input (subst (λ (k : TextKind). applied_as k p.goal c.row ≡ Some c.input) kind c.applies) in
       (c.row, stay_row x c.row c.has, c.are ∙ ap (vector_of p.inputs) (sym applies))
 
   as_trajectory : (samples : List LoopSample) (x y : List ℤ) → IsLoop t x samples y → (rows : List Sample) × IsStayTrajectory p bytes x rows y × AreAlike p rows samples
@@ -91,7 +91,7 @@ module _ (bytes : List ℕ) (t : TextModel) (tells : Tells bytes t) (kind : t.ki
   turn_row : (j : ℕ) (x values : List ℤ) → Answers (with_turn t j) x values → (row : Row) × HasPatrolRow bytes j x row × (values ≡ vector_of t.plant.inputs row.input)
   turn_row j x values answers =
       let c = chosen (with_turn t j) x values answers in
-      let applies : c.row.input ≡ c.input = subst (λ (k : TextKind). AppliesAs k t.plant.goal c.row c.input) kind c.applies in
+      let applies = same_Some c.row.input c.input (subst (λ (k : TextKind). applied_as k t.plant.goal c.row ≡ Some c.input) kind c.applies) in
       (c.row, patrol_row j x c.row c.has, c.are ∙ ap (vector_of t.plant.inputs) (sym applies))
 
   one_number_each : (s : LoopSample) → length (moved_by t.plant s) ≡ length t.plant.states
@@ -100,9 +100,8 @@ module _ (bytes : List ℕ) (t : TextModel) (tells : Tells bytes t) (kind : t.ki
   -- what is held after a visit is the same text, and its turn is the text's
   visited : (j : ℕ) (y : List ℤ) (m : TextModel) (visit : Visit) → length y ≡ length t.plant.states → IsVisit (with_turn t j) y m visit → IsVisitByText (with_turn t j) y m visit
       → (m ≡ with_turn t m.turn) × IsTurnFrom t.plant bytes j y m.turn
-  visited j y m Next sized is by = (is.2 ∙ ap (with_turn t) (sym (ap (λ (n : TextModel). n.turn) is.2)), by bytes tells kind)
-  visited j y m Same sized is by = (is.2 ∙ ap (with_turn t) (sym (ap (λ (n : TextModel). n.turn) is.2)), by bytes tells kind)
   visited j y m WrongSize sized is by = absurd (is.0 sized)
+  visited j y m visit sized is by = (is.2 ∙ ap (with_turn t) (sym (ap (λ (n : TextModel). n.turn) is.2)), by bytes tells kind)
 
   as_patrol : (samples : List LoopSample) (j : ℕ) (x y : List ℤ) (u : TextModel) → IsPatrolLoop (with_turn t j) x samples u y
       → (rows : List Sample) × IsPatrolTrajectory t.plant bytes j x rows u.turn y × AreAlike t.plant rows samples × (u ≡ with_turn t u.turn)

@@ -1,14 +1,13 @@
 -- What is to be done at a state by what a text says, and by each text that says it.
-use Rattle.std.specs.Prelude.{◌≡◌, ℕ, ◌<◌, ℤ, pos, negsuc, List, length}
+use Rattle.std.specs.Prelude.{◌≡◌, ℕ, ℤ, pos, negsuc, List, length, Option, Some, None}
 use Rattle.game_core.specs.declared.game.Row.{Row}
 use Rattle.plant_record.specs.declared.aims.GoalKind.{GoalKind}
-use Rattle.plant_record.specs.Description.{vector_of, vectors_of}
-use Rattle.controller_table.specs.Choice.{HasRowAt, Applies}
-use Rattle.controller_table.specs.TextRows.{HasTextRow}
+use Rattle.plant_record.specs.Description.{vector_of}
+use Rattle.controller_table.specs.Choice.{row_at, applied, HasTextRow, HasTextRank}
 use Rattle.text_control.specs.declared.reply.Reply.{Reply}
 use Rattle.text_control.specs.declared.reply.Reply.TheVariants as replies
 use Rattle.controller_table.specs.declared.text_kind.TextKind.{TextKind}
-use Rattle.controller_table.specs.declared.text_kind.TextKind.TheVariants.{Table, Stay, Patrol}
+use Rattle.controller_table.specs.declared.text_kind.TextKind.TheVariants.{Table}
 use Rattle.text_control.specs.Texts.{TextModel, due_rows, Tells}
 
 -- One number for each state, and room for one for each input variable.
@@ -16,40 +15,35 @@ pub record AreSized (t : TextModel) (x before : List ℤ) : Type 0 where
   pub states : length x ≡ length t.plant.states
   pub inputs : length before ≡ length t.plant.inputs
 
--- a row of a text applies an input: that of a table does by the goal, any other always
-abbrev pub AppliesAs : TextKind → GoalKind → Row → ℕ → Type 0
-AppliesAs (Table version) goal row u = Applies goal row u
-AppliesAs Stay goal row u = row.input ≡ u
-AppliesAs Patrol goal row u = row.input ≡ u
+-- what a row of a text applies: that of a table by the goal, and any other its input
+abbrev pub applied_as : TextKind → GoalKind → Row → Option ℕ
+applied_as (Table version) goal row = applied goal row
+applied_as kind goal row = Some row.input
+
+-- the row of the state's cell for the turn that is due
+abbrev pub due_row : TextModel → List ℤ → Option Row
+due_row t x = row_at t.plant (due_rows t) x
 
 -- These are the values of the input that the row at the state applies.
 pub record AreChosen (t : TextModel) (x values : List ℤ) : Type 0 where
   pub row : Row
-  pub has : HasRowAt t.plant (due_rows t) x row
+  pub has : due_row t x ≡ Some row
   pub input : ℕ
-  pub applies : AppliesAs t.kind t.plant.goal row input
+  pub applies : applied_as t.kind t.plant.goal row ≡ Some input
   pub are : values ≡ vector_of t.plant.inputs input
 
 -- The state lies in a cell of rank 0 of a table that brings a plant to its targets: nothing is applied there.
 pub record HasArrived (t : TextModel) (x : List ℤ) : Type 0 where
   pub row : Row
-  pub has : HasRowAt t.plant (due_rows t) x row
-  pub none : (u : ℕ) → AppliesAs t.kind t.plant.goal row u → ⊥
+  pub has : due_row t x ≡ Some row
+  pub none : applied_as t.kind t.plant.goal row ≡ None
   pub rank : row.rank ≡ 0
-
--- the state is outside the domain, or its cell has no row for the turn
-abbrev pub HasNoRow : TextModel → List ℤ → Type 0
-HasNoRow t x = (row : Row) → HasRowAt t.plant (due_rows t) x row → ⊥
-
--- the row of the state's cell for the turn, whose input is one of the input vectors
-abbrev pub IsDueRow : TextModel → List ℤ → Row → Type 0
-IsDueRow t x row = HasRowAt t.plant (due_rows t) x row × (row.input < vectors_of t.plant.inputs)
 
 -- a reply, by the numbers in the inputs before and after it
 abbrev pub IsReply : TextModel → List ℤ → List ℤ → List ℤ → Reply → Type 0
 IsReply t x before after replies.Apply = AreSized t x before × AreChosen t x after
 IsReply t x before after replies.Arrived = AreSized t x before × HasArrived t x × (after ≡ before)
-IsReply t x before after replies.NoRow = AreSized t x before × HasNoRow t x × (after ≡ before)
+IsReply t x before after replies.NoRow = AreSized t x before × (due_row t x ≡ None) × (after ≡ before)
 IsReply t x before after replies.WrongSizes = (AreSized t x before → ⊥) × (after ≡ before)
 
 -- the number of a reply: 1, 0 and -1 as examples/device has them
@@ -59,14 +53,10 @@ reply_number replies.Arrived = pos 0
 reply_number replies.NoRow = negsuc 0
 reply_number replies.WrongSizes = negsuc 1
 
--- the text has a row of this rank at the state, for a turn
-abbrev pub HasTextRank : TextKind → ℕ → List ℕ → List ℤ → ℕ → Type 0
-HasTextRank kind j bytes x k = (row : Row) × HasTextRow kind bytes j x row × (row.rank ≡ k)
-
 -- these are the values of the input that the text applies at the state, for a turn
 abbrev pub AreTextValues : TextKind → ℕ → List ℕ → List ℤ → List ℤ → Type 0
 AreTextValues kind j bytes x values =
-    (row : Row) × (has : HasTextRow kind bytes j x row) × (u : ℕ) × AppliesAs kind has.plant.goal row u × (values ≡ vector_of has.plant.inputs u)
+    (row : Row) × (has : HasTextRow kind bytes j x row) × (u : ℕ) × (applied_as kind has.plant.goal row ≡ Some u) × (values ≡ vector_of has.plant.inputs u)
 
 -- the text has no row at the state
 abbrev pub HasNoTextRank : TextKind → ℕ → List ℕ → List ℤ → Type 0
@@ -95,7 +85,7 @@ EncodesReply t x before after number =
 -- The state's cell has a row of this rank for the turn.
 pub record IsRankAt (t : TextModel) (x : List ℤ) (rank : ℕ) : Type 0 where
   pub row : Row
-  pub has : HasRowAt t.plant (due_rows t) x row
+  pub has : due_row t x ≡ Some row
   pub is : rank ≡ row.rank
 
 -- the rank at the state, and by whatever text says this
@@ -104,4 +94,4 @@ IsRank t x rank = IsRankAt t x rank × ((bytes : List ℕ) → Tells bytes t →
 
 -- the cell of the state has no row for the turn, and by whatever text says this
 abbrev pub IsUnranked : TextModel → List ℤ → Type 0
-IsUnranked t x = HasNoRow t x × ((bytes : List ℕ) → Tells bytes t → HasNoTextRank t.kind t.turn bytes x)
+IsUnranked t x = (due_row t x ≡ None) × ((bytes : List ℕ) → Tells bytes t → HasNoTextRank t.kind t.turn bytes x)

@@ -44,9 +44,8 @@ IsVisit t x after WrongSize = (length x ≡ length t.plant.states → ⊥) × (a
 
 -- the turn is that of whatever patrol text says this
 abbrev pub IsVisitByText : TextModel → List ℤ → TextModel → Visit → Type 0
-IsVisitByText t x after Next = (bytes : List ℕ) → Tells bytes t → t.kind ≡ Patrol → IsTurnFrom t.plant bytes t.turn x after.turn
-IsVisitByText t x after Same = (bytes : List ℕ) → Tells bytes t → t.kind ≡ Patrol → IsTurnFrom t.plant bytes t.turn x after.turn
 IsVisitByText t x after WrongSize = Unit {0}
+IsVisitByText t x after visit = (bytes : List ℕ) → Tells bytes t → t.kind ≡ Patrol → IsTurnFrom t.plant bytes t.turn x after.turn
 
 -- the number of a visit
 abbrev pub visit_number : Visit → ℤ

@@ -1,9 +1,9 @@
 //! The inputs at a state.
 
-ghost use Rattle.std.specs.Prelude.{◌≡◌, ℕ, ◌<◌, ◌↔◌, length, IsTrue, IsFalse};
+ghost use Rattle.std.specs.Prelude.{◌≡◌, ◌<◌, ◌↔◌, length, Some, None, IsTrue, IsFalse};
 ghost use Rattle.plant_record.specs.Description.{vector_of, vectors_of};
 ghost use Rattle.plant_record.specs.Limits.{IsWithinLimits};
-ghost use Rattle.text_control.specs.Control.{AreSized, AppliesAs, IsReply, IsReplyByText};
+ghost use Rattle.text_control.specs.Control.{AreSized, applied_as, IsReply, IsReplyByText};
 
 use crate::packed_text::PackedText;
 use crate::reply::Reply;
@@ -39,8 +39,8 @@ fn are_sized(text: &PackedText, state: &[i64], input: &[i64]) -> bool
 
 /// Whether a row's input is applied: it is, but for rank 0 of a table that brings a plant to its targets.
 fn applies(text: &PackedText, row: Row) -> bool
-    ensures some { IsTrue result → AppliesAs text.now.kind text.now.plant.goal row row.input }
-    ensures none { IsFalse result → (row.rank ≡ 0) × ((u : ℕ) → AppliesAs text.now.kind text.now.plant.goal row u → ⊥) }
+    ensures some { IsTrue result → applied_as text.now.kind text.now.plant.goal row ≡ Some row.input }
+    ensures none { IsFalse result → (row.rank ≡ 0) × (applied_as text.now.kind text.now.plant.goal row ≡ None) }
 {
     match text.kind() {
         TextKind::Table(_) => !has_arrived(text.plant().goal(), row),

@@ -42,6 +42,7 @@ pub fn begin_turn(text: &mut PackedText, turn: u32) -> bool
 }
 
 /// The turn that begins at a state, if the state is an arrival.
+#[tactic(auto, using(controller_table::proofs::RowsAtStates::row_inside, controller_table::proofs::RowsAtStates::in_cell))]
 fn turn_from(text: &PackedText, state: &[i64]) -> Option<u32>
     requires { length state.now ≡ length text.now.plant.states }
     ensures { MatchOption result (HasArrivedInTurn text.now state.now → ⊥) (BeginsAt text.now state.now) }

@@ -7,7 +7,7 @@ use Rattle.live_table.specs.Publishes.{EndsWith}
 use Rattle.live_script.specs.declared.command.ScriptCommand.{ScriptCommand}
 use Rattle.live_script.specs.declared.command.ScriptCommand.TheVariants.{Publish, Ask}
 use Rattle.live_script.specs.declared.script_fault.ScriptFault.{ScriptFault}
-use Rattle.live_script.specs.Questions.{IsAnswerOf}
+use Rattle.live_script.specs.Questions.{answer_of}
 use Rattle.live_script.specs.Scripts.{published_tables, CommandStep}
 use Rattle.live_script.specs.LiveText.{AreAnswers, answer_line}
 use Rattle.live_script.specs.ScriptReading.{Unread}
@@ -35,7 +35,7 @@ pub record IsAnsweredSoFar (script : List ℕ) (unread : Unread) (standing : Sta
 abbrev pub IsExecuted : ScriptCommand → Standing → Standing → List ℕ → List ℕ → Type 0
 IsExecuted (Publish t) before after text new = (after ≡ record { count = before.count + 1; table = Some t }) × (new ≡ text)
 IsExecuted (Ask numbers) before after text new =
-    (after ≡ before) × ((answer : Option ℕ) × IfSome before.table (λ t. IsAnswerOf t numbers answer) × (new ≡ text ++ answer_line before.count answer))
+    (after ≡ before) × ((answer : Option ℕ) × IfSome before.table (λ t. answer ≡ answer_of t numbers) × (new ≡ text ++ answer_line before.count answer))
 
 -- there was no memory, or the script is refused so
 abbrev pub IsUnanswered : List ℕ → ScriptFault → Type 0

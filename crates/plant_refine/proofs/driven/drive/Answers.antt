@@ -4,6 +4,7 @@ use Rattle.plant_record.specs.Plants.{IsPlant}
 use Rattle.plant_refine.specs.Trajectories.{ArrivesFirst}
 use Rattle.plant_refine.specs.inside.Descents.{LeadDown}
 use Rattle.controller_table.proofs.OneRow.{rank_below_cells}
+use Rattle.controller_table.proofs.RowsAtStates.{in_cell}
 use Rattle.plant_refine.proofs.InBoxes.{gets}
 use Rattle.plant_refine.proofs.Arriving.{begins, goes_on, comes_in, some_rank}
 use Rattle.plant_refine.proofs.Down.{lead_down}
@@ -19,7 +20,7 @@ rank_fits c =
     let start = c.requires.start in
     let fits = c.every_table_fits.ensures in
     let goal_is = ap (λ (p : Description). p.goal) c.requires.plant ∙ c.requires.goal in
-    let below = rank_below_cells c.args.t.now.plant c.args.t.now.rows fits.rows _ start.0 start.1.is goal_is in
+    let below = rank_below_cells c.args.t.now.plant c.args.t.now.rows fits.rows _ start.0 (in_cell c.args.p.now c.args.t.now.rows c.args.x.now start.0 start.1).1 goal_is in
     omega (arith, below, fits.limits.cells)
 
 pub loop-sample-init : goal.loop-sample-init
