@@ -1,5 +1,5 @@
 -- What right rows promise at a state whose cell has one.
-use Rattle.std.proofs.Common.{◌≡◌, ℕ, suc, ◌<◌, List, length, Option, Some, None, refl}
+use Rattle.std.proofs.Common.{◌≡◌, ℕ, suc, ◌<◌, List, length, Option, None, refl}
 use Rattle.std.specs.Prelude.{ℤ}
 use Rattle.std.proofs.lemmas.List.Elements.{All-contains}
 use Rattle.game_core.specs.declared.game.Row.{Row}
