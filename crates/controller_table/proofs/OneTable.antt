@@ -6,10 +6,9 @@ use Rattle.base.proofs.Lists.{same_head}
 use Rattle.row_runs.specs.declared.run.TableVersion.{TableVersion}
 use Rattle.controller_table.specs.declared.text_kind.TextKind.TheVariants.{Table}
 use Rattle.controller_table.specs.Tables.{IsTable}
-use Rattle.controller_table.specs.Choice.{choice_at}
+use Rattle.controller_table.specs.Choice.{row_at, choice_at}
 use Rattle.controller_table.specs.Laws.{OneChoice, OneRank}
 use Rattle.controller_table.proofs.HeadedLaws.{one_text}
-use Rattle.controller_table.proofs.TextRows.{one_text_row}
 use Rattle.std.proofs.lemmas.Option.{same_Some}
 
 -- ---- one table
@@ -24,10 +23,16 @@ one_table bytes p q rows others h k =
 
 -- ---- one row and one choice at a state
 
+-- tables of the same bytes say the same
+same_of : {A : Type 0} (said : Description → List (Option Row) → A) (bytes : List ℕ) (p q : Description) (rows others : List (Option Row)) → IsTable bytes p rows → IsTable bytes q others → said p rows ≡ said q others
+same_of said bytes p q rows others h k =
+    let same = one_table bytes p q rows others h k in
+    ap (said p) same.1 ∙ ap (λ (d : Description). said d others) same.0
+
 pub one_choice : OneChoice
-one_choice bytes x u v a b =
-    let same = one_table bytes a.plant b.plant a.rows b.rows a.table b.table in
-    same_Some u v (sym a.chosen ∙ ap (λ (r : List (Option Row)). choice_at a.plant r x) same.1 ∙ ap (λ (p : Description). choice_at p b.rows x) same.0 ∙ b.chosen)
+one_choice bytes x u v a b = same_Some u v (sym a.chosen ∙ same_of (λ p rows. choice_at p rows x) bytes a.plant b.plant a.rows b.rows a.table b.table ∙ b.chosen)
 
 pub one_rank : OneRank
-one_rank bytes x j k a b = sym a.1.2 ∙ ap (λ (r : Row). r.rank) (one_text_row (Table b.0) bytes 0 x a.1.0 b.1.0 a.1.1 b.1.1) ∙ b.1.2
+one_rank bytes x j k a b =
+    let row = same_Some a.row b.row (sym a.has ∙ same_of (λ p rows. row_at p rows x) bytes a.plant b.plant a.rows b.rows a.table b.table ∙ b.has) in
+    sym a.ranked ∙ ap (λ (r : Row). r.rank) row ∙ b.ranked

@@ -12,7 +12,8 @@ use Rattle.turn_rows.specs.Rows.{rows_for}
 use Rattle.controller_table.specs.declared.text_kind.TextKind.{TextKind}
 use Rattle.controller_table.specs.TextKinds.{turn_rules}
 use Rattle.controller_table.specs.KindTexts.{IsTextOf}
-use Rattle.controller_table.specs.Choice.{HasRowAt, HasTextRow}
+use Rattle.controller_table.specs.Choice.{HasRowAt}
+use Rattle.controller_table.specs.TextRows.{HasTextRow}
 use Rattle.controller_table.proofs.HeadedLaws.{one_text}
 use Rattle.controller_table.proofs.RowsAtStates.{in_cell}
 
@@ -29,10 +30,10 @@ module _ (kind : TextKind) (bytes : List ℕ) (p : Description) (turns : List (L
   turn_of_row has = omega (arith, turn_known turns j (cell_of (axes_of p) x) row (in_cell p (rows_for turns j) x row has).1, text.within.one_list_each)
 
   -- a row of the text is one of what it says
-  pub row_told : {other : TextKind} (h : HasTextRow other bytes j x row) → (h.plant ≡ p) × HasRowAt p (rows_for turns j) x row
-  row_told {other = other} h =
-      let same = one_text other kind bytes h.plant p h.turns turns h.text text in
+  pub row_told : (h : HasTextRow kind bytes j x row) → (h.plant ≡ p) × HasRowAt p (rows_for turns j) x row
+  row_told h =
+      let same = one_text kind kind bytes h.plant p h.turns turns h.text text in
       (same.1, subst (λ (says : Description × List (List (Option Row))). HasRowAt says.0 (rows_for says.1 j) x row) (λ i. (same.1 i, same.2 i)) h.has)
 
-pub one_text_row : (kind : TextKind) {other : TextKind} (bytes : List ℕ) (j : ℕ) (x : List ℤ) (a b : Row) → HasTextRow other bytes j x a → HasTextRow kind bytes j x b → a ≡ b
+pub one_text_row : (kind : TextKind) (bytes : List ℕ) (j : ℕ) (x : List ℤ) (a b : Row) → HasTextRow kind bytes j x a → HasTextRow kind bytes j x b → a ≡ b
 one_text_row kind bytes j x a b h k = same_Some a b (sym (row_told kind bytes k.plant k.turns k.text j x a h).1 ∙ k.has)

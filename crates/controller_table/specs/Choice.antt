@@ -1,4 +1,4 @@
--- What a text says to do at a state. A table is the static quantiser with one input for each cell (Reissig, Weber and
+-- What a table says to do at a state: the static quantiser with one input for each cell (Reissig, Weber and
 -- Rungger, 2017, section VI).
 use Rattle.std.specs.Prelude.{◌≡◌, ℕ, ◌==◌, ◌&&◌, Bool, true, false, ℤ, int_le, int_lt, List, [], ◌∷◌, Option, Some, None, option_and_then, if◌then◌else◌}
 use Rattle.game_core.specs.declared.game.Row.{Row}
@@ -9,11 +9,6 @@ use Rattle.grid_quantiser.specs.Cells.{cell_of}
 use Rattle.plant_record.specs.declared.aims.GoalKind.{GoalKind}
 use Rattle.plant_record.specs.declared.aims.GoalKind.TheVariants.{Reach, Keep}
 use Rattle.plant_record.specs.Description.{Description, axes_of}
-use Rattle.turn_rows.specs.Rows.{rows_for}
-use Rattle.row_runs.specs.declared.run.TableVersion.{TableVersion}
-use Rattle.controller_table.specs.declared.text_kind.TextKind.{TextKind}
-use Rattle.controller_table.specs.declared.text_kind.TextKind.TheVariants.{Table}
-use Rattle.controller_table.specs.KindTexts.{IsTextOf}
 use Rattle.controller_table.specs.Tables.{IsTable}
 
 -- whether a state lies in the domain
@@ -54,17 +49,11 @@ pub record IsChoice (bytes : List ℕ) (x : List ℤ) (u : ℕ) : Type 0 where
   pub table : IsTable bytes plant rows
   pub chosen : Chooses plant rows x u
 
--- The bytes are a text of the kind in which the state's cell has this row for a turn.
-pub record HasTextRow (kind : TextKind) (bytes : List ℕ) (j : ℕ) (x : List ℤ) (row : Row) : Type 0 where
+-- The bytes are a table in which the state lies in a cell with a row of this rank.
+pub record HasRank (bytes : List ℕ) (x : List ℤ) (rank : ℕ) : Type 0 where
   pub plant : Description
-  pub turns : List (List (Option Row))
-  pub text : IsTextOf kind bytes plant turns
-  pub has : HasRowAt plant (rows_for turns j) x row
-
--- the text has a row of this rank at the state, for a turn
-abbrev pub HasTextRank : TextKind → ℕ → List ℕ → List ℤ → ℕ → Type 0
-HasTextRank kind j bytes x k = (row : Row) × HasTextRow kind bytes j x row × (row.rank ≡ k)
-
--- the bytes are a table in which the state lies in a cell with a row of this rank
-abbrev pub HasRank : List ℕ → List ℤ → ℕ → Type 0
-HasRank bytes x rank = (version : TableVersion) × HasTextRank (Table version) 0 bytes x rank
+  pub rows : List (Option Row)
+  pub table : IsTable bytes plant rows
+  pub row : Row
+  pub has : HasRowAt plant rows x row
+  pub ranked : row.rank ≡ rank

@@ -3,6 +3,7 @@ pub mod Tables
 pub mod Choice
 pub mod TextKinds
 pub mod KindTexts
+pub mod TextRows
 pub mod HeadedTexts
 pub mod TableRefusals
 pub mod Laws

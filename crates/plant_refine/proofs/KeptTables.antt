@@ -33,7 +33,7 @@ pub record Keeps (bytes : List ℕ) (p : Description) (g : Game) (rows : List (O
 
 module _ {bytes : List ℕ} {p : Description} {g : Game} {rows : List (Option Row)} (k : Keeps bytes p g rows) where
   some_row : (x : List ℤ) (row : Row) → HasRowAt p rows x row → HasSomeRow bytes x
-  some_row x row has = (row.rank, (k.table.0, (row, record { plant = p; turns = rows ∷ []; text = k.table.1; has = has }, refl)))
+  some_row x row has = (row.rank, record { plant = p; rows = rows; table = k.table; row = row; has = has; ranked = refl })
 
   applies : (row : Row) → applied p.goal row ≡ Some row.input
   applies row = ap (λ (goal : GoalKind). applied goal row) k.goal

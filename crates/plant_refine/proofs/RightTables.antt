@@ -1,5 +1,5 @@
 -- A right table drives its plant: by induction on the noises.
-use Rattle.std.proofs.Common.{◌≡◌, ℕ, zero, suc, ◌≤◌, List, [], ◌∷◌, length, Option, Some, option_and_then, refl, ap, ◌∙◌, arith, inl, inr}
+use Rattle.std.proofs.Common.{◌≡◌, ℕ, zero, suc, ◌≤◌, List, [], ◌∷◌, length, Option, Some, option_and_then, refl, ap, subst, ◌∙◌, arith, inl, inr}
 use Rattle.std.specs.Prelude.{ℤ}
 use Rattle.std.specs.List.{AllByRecursion}
 use Rattle.std.proofs.lemmas.List.Elements.{recursion_from_All}
@@ -11,8 +11,7 @@ use Rattle.plant_record.specs.Description.{Description}
 use Rattle.plant_record.specs.Steps.{step_of, IsNoise}
 use Rattle.controller_table.specs.Choice.{applied, HasRowAt, HasRank}
 use Rattle.controller_table.specs.Tables.{IsTable}
-use Rattle.controller_table.specs.declared.text_kind.TextKind.TheVariants.{Table}
-use Rattle.controller_table.proofs.TextRows.{row_told}
+use Rattle.controller_table.proofs.OneTable.{one_table}
 use Rattle.controller_table.proofs.Applied.{applies_above_zero}
 use Rattle.plant_refine.specs.Drives.{Comes, Drives}
 use Rattle.plant_refine.specs.Laws.{RightTablesDrivePlants}
@@ -25,7 +24,10 @@ applies Keep k u = refl
 
 -- the row that the bytes have at a state is that of the table
 pub row_of_table : (bytes : List ℕ) (p : Description) (rows : List (Option Row)) (x : List ℤ) (k : ℕ) → IsTable bytes p rows → HasRank bytes x k → (row : Row) × HasRowAt p rows x row × (row.rank ≡ k)
-row_of_table bytes p rows x k table h = (h.1.0, (row_told (Table table.0) bytes p (rows ∷ []) table.1 0 x h.1.0 h.1.1).1, h.1.2)
+row_of_table bytes p rows x k table h =
+    let same = one_table bytes h.plant p h.rows rows h.table table in
+    let has : HasRowAt p h.rows x h.row = subst (λ (q : Description). HasRowAt q h.rows x h.row) same.0 h.has in
+    (h.row, subst (λ (r : List (Option Row)). HasRowAt p r x h.row) same.1 has, h.ranked)
 
 module _ {p : Description} {g : Game} {rows : List (Option Row)} (h : Guides p g rows) (bytes : List ℕ) (table : IsTable bytes p rows) where
   -- from a state with a row, under at least so many noises as its rank

@@ -5,7 +5,7 @@ use Rattle.grid_quantiser.specs.Cells.{cell_of}
 use Rattle.plant_record.specs.Description.{Description, axes_of}
 use Rattle.controller_table.specs.declared.text_kind.TextKind.TheVariants.{Patrol}
 use Rattle.controller_table.specs.KindTexts.{rows_text, IsTextOf}
-use Rattle.controller_table.specs.Choice.{HasTextRow}
+use Rattle.controller_table.specs.TextRows.{HasTextRow}
 use Rattle.turn_rows.specs.Targets.{IsInTarget, next_turn}
 
 -- the text of a plant and of one optional row for each turn and cell: the lines of runs have the rank and the input

@@ -4,7 +4,7 @@ use Rattle.game_core.specs.declared.game.Row.{Row}
 use Rattle.plant_record.specs.Description.{Description}
 use Rattle.controller_table.specs.declared.text_kind.TextKind.TheVariants.{Stay}
 use Rattle.controller_table.specs.KindTexts.{rows_text, IsTextOf}
-use Rattle.controller_table.specs.Choice.{HasTextRow}
+use Rattle.controller_table.specs.TextRows.{HasTextRow}
 
 -- the text of a plant and of one optional row for each of its cells: of one turn, and the lines of runs have the rank and the input
 abbrev pub stay_text : Description → List (Option Row) → List ℕ

@@ -2,11 +2,10 @@
 use Rattle.std.proofs.Common.{◌≡◌, ℕ, List, None, sym, ap, subst, ◌∙◌}
 use Rattle.std.specs.Prelude.{ℤ}
 use Rattle.std.proofs.lemmas.Option.{none-some, same_Some}
-use Rattle.controller_table.specs.Choice.{HasTextRank}
 use Rattle.text_control.specs.declared.reply.Reply.{Reply}
 use Rattle.text_control.specs.declared.reply.Reply.TheVariants.{Apply, Arrived, NoRow, WrongSizes}
 use Rattle.text_control.specs.Texts.{TextModel, Tells}
-use Rattle.text_control.specs.Control.{due_row, applied_as, HasArrived, HasNoTextRank, AppliesNone, IsReply, IsReplyByText}
+use Rattle.text_control.specs.Control.{due_row, applied_as, HasArrived, HasTextRank, HasNoTextRank, AppliesNone, IsReply, IsReplyByText}
 use Rattle.text_control.proofs.OneText.{applied_row, ranked_row, text_values, text_rank}
 
 module _ (t : TextModel) (x : List ℤ) (bytes : List ℕ) (tells : Tells bytes t) where

@@ -6,10 +6,11 @@ use Rattle.plant_record.specs.Description.{Description, vector_of}
 use Rattle.turn_rows.specs.Rows.{rows_for}
 use Rattle.controller_table.specs.declared.text_kind.TextKind.{TextKind}
 use Rattle.controller_table.specs.TextKinds.{turn_rules}
-use Rattle.controller_table.specs.Choice.{HasRowAt, HasTextRow, HasTextRank}
+use Rattle.controller_table.specs.Choice.{HasRowAt}
+use Rattle.controller_table.specs.TextRows.{HasTextRow}
 use Rattle.controller_table.proofs.TextRows.{turn_of_row, row_told}
 use Rattle.text_control.specs.Texts.{TextModel, due_rows, Tells}
-use Rattle.text_control.specs.Control.{applied_as, AreTextValues}
+use Rattle.text_control.specs.Control.{applied_as, HasTextRank, AreTextValues}
 
 module _ (bytes : List ℕ) (t : TextModel) (tells : Tells bytes t) (x : List ℤ) where
   abbrev HasRow : Row → Type 0

@@ -11,10 +11,11 @@ use Rattle.plant_record.specs.Variables.{IsNoiseVariable}
 use Rattle.plant_record.specs.States.{LiesInSome, IsClear}
 use Rattle.plant_record.specs.Steps.{step_of, IsNoise}
 use Rattle.row_runs.specs.declared.run.TableVersion.{TableVersion}
-use Rattle.controller_table.specs.Choice.{applied, IsChoice, HasTextRow, HasTextRank, HasRank}
+use Rattle.controller_table.specs.Choice.{applied, IsChoice, HasRank}
 use Rattle.controller_table.specs.Tables.{IsTable}
 use Rattle.controller_table.specs.KindTexts.{IsTextOf}
 use Rattle.controller_table.specs.TextKinds.{turn_rules}
+use Rattle.controller_table.specs.TextRows.{HasTextRow}
 use Rattle.controller_table.proofs.HeadedLaws.{one_text}
 use Rattle.controller_table.proofs.Applied.{chosen_row}
 use Rattle.controller_table.proofs.OneTable.{one_choice}
@@ -64,7 +65,7 @@ module _ (bytes : List ℕ) (t : TextModel) (version : TableVersion) (tells : Te
   noises = table.1.limits.plant.noises
 
   rank_told : (x : List ℤ) (k : ℕ) → IsRank t x k → HasRank bytes x k
-  rank_told x k rank = (version, subst (λ (due : TextKind × ℕ). HasTextRank due.0 due.1 bytes x k) (λ i. (kind i, first i)) (rank.1 bytes tells))
+  rank_told x k rank = record { plant = p; rows = due_rows t; table = table; row = rank.0.row; has = rank.0.has; ranked = sym rank.0.is }
 
   -- what is answered is what the table chooses
   choice : (x values : List ℤ) → Answers t x values → (u : ℕ) × IsChoice bytes x u × (values ≡ vector_of p.inputs u)

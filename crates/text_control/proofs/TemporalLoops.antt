@@ -7,7 +7,8 @@ use Rattle.std.proofs.lemmas.Option.{same_Some}
 use Rattle.game_core.specs.declared.game.Row.{Row}
 use Rattle.grid_quantiser.specs.CellBoxes.{IsInBox}
 use Rattle.plant_record.specs.Description.{Description, axes_of, vector_of}
-use Rattle.controller_table.specs.Choice.{HasRowAt, HasTextRow}
+use Rattle.controller_table.specs.Choice.{HasRowAt}
+use Rattle.controller_table.specs.TextRows.{HasTextRow}
 use Rattle.turn_rows.specs.Rows.{rows_for}
 use Rattle.temporal_texts.specs.StayText.{HasStayRow}
 use Rattle.temporal_texts.specs.PatrolText.{HasPatrolRow}

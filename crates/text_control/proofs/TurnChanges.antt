@@ -7,7 +7,7 @@ use Rattle.text_control.specs.declared.visits.Visit.{Visit}
 use Rattle.text_control.specs.declared.visits.Visit.TheVariants.{Next, Same, WrongSize}
 use Rattle.controller_table.specs.declared.text_kind.TextKind.{TextKind}
 use Rattle.controller_table.specs.declared.text_kind.TextKind.TheVariants.{Patrol}
-use Rattle.controller_table.specs.Choice.{HasTextRow}
+use Rattle.controller_table.specs.TextRows.{HasTextRow}
 use Rattle.controller_table.proofs.TextRows.{row_told}
 use Rattle.text_control.specs.Texts.{TextModel, Tells}
 use Rattle.text_control.specs.Visits.{turn_after, HasArrivedInTurn, IsVisit, IsVisitByText}

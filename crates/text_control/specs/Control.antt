@@ -3,7 +3,8 @@ use Rattle.std.specs.Prelude.{◌≡◌, ℕ, ℤ, pos, negsuc, List, length, Op
 use Rattle.game_core.specs.declared.game.Row.{Row}
 use Rattle.plant_record.specs.declared.aims.GoalKind.{GoalKind}
 use Rattle.plant_record.specs.Description.{vector_of}
-use Rattle.controller_table.specs.Choice.{row_at, applied, HasTextRow, HasTextRank}
+use Rattle.controller_table.specs.Choice.{row_at, applied}
+use Rattle.controller_table.specs.TextRows.{HasTextRow}
 use Rattle.text_control.specs.declared.reply.Reply.{Reply}
 use Rattle.text_control.specs.declared.reply.Reply.TheVariants as replies
 use Rattle.controller_table.specs.declared.text_kind.TextKind.{TextKind}
@@ -52,6 +53,10 @@ reply_number replies.Apply = pos 1
 reply_number replies.Arrived = pos 0
 reply_number replies.NoRow = negsuc 0
 reply_number replies.WrongSizes = negsuc 1
+
+-- the text has a row of this rank at the state, for a turn
+abbrev pub HasTextRank : TextKind → ℕ → List ℕ → List ℤ → ℕ → Type 0
+HasTextRank kind j bytes x k = (row : Row) × HasTextRow kind bytes j x row × (row.rank ≡ k)
 
 -- these are the values of the input that the text applies at the state, for a turn
 abbrev pub AreTextValues : TextKind → ℕ → List ℕ → List ℤ → List ℤ → Type 0
