@@ -52,7 +52,7 @@ extern "C" {
 #endif
 
 /* The version of this header: two digits for each number. gaffcurrant_version() is that of the library. */
-#define GAFFCURRANT_VERSION 12000
+#define GAFFCURRANT_VERSION 12100
 
 /* Bytes of stack that gaffcurrant_open takes at most (measured over the deepest texts that the limits allow). Threads
    of some C libraries have less. */

@@ -22,8 +22,8 @@ use std::alloc::Global;
 use text_control::statuses::{CLOSED, DONE, OPEN, WRONG_SIZE};
 use text_control::{begin_turn, control, control_each, follows, visit};
 
-/// The version of the library, 1.20.0: two digits for each number.
-pub const VERSION: u32 = 12_000;
+/// The version of the library, 1.21.0: two digits for each number.
+pub const VERSION: u32 = 12_100;
 
 /// Reads the table, the stay text or the patrol text that the bytes are. 0: it is open. Else the controller is closed: 1,
 /// the line is the first that doesn't fit; 2, a limit is exceeded; 3, there was no memory.
