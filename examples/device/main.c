@@ -29,7 +29,7 @@ static int complain(const char *what)
 
 int main(int count, char *words[])
 {
-    int64_t state[STATES], input[INPUTS + 1];
+    int64_t state[STATES], input[INPUTS + 1] = {0};
     char line[STATES * 32 + 2];
     if (count > 2 || (count == 2 && strspn(words[1], "0123456789abcdef") != strlen(words[1]))) {
         complain("the one word is the checksum of the table, eight digits as 0a1b2c3d");

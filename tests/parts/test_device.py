@@ -298,6 +298,13 @@ class Programs(DeviceCase):
         self.equal("two tables in one program are compiled", (0, ""), built(self.folder, "two", TWO))
         self.equal("two tables in one program", (0, "100 -24 0 1\n", ""), called(["./two"], self.folder, ""))
 
+    def test_text_without_rows(self):
+        bare = re.sub(rb"(?s)\nrows .*", b"\nrows 0\nend\n", self.gate)
+        for words in ([], ["--runs"], ["--ranks"], ["--runs", "--ranks"]):
+            self.placed("table.h", self.header(*words, data=bare))
+            self.equal(f"main.c without rows is compiled {words}", (0, ""), built(self.folder, "main"))
+            self.equal(f"main.c without rows {words}", (0, "no row\n", ""), called(["./main"], self.folder, "20 0\n"))
+
     def of_gate(self):
         """Writes table.h of the gate with ranks and units; answers the header."""
         header = self.header("--ranks", "--model", self.model_of("gate"), data=self.gate)

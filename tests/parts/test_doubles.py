@@ -13,6 +13,16 @@ from .tool_case import TOP, ToolCase, needs_numpy
 RUNS = 2000
 # The heading's plant as it was without noise in the heading: turns of two cells.
 BARE = [("input t 0.1 0 -0.5 0.5", "input t 0.1 0 -0.4 0.4"), ("between\n", "")]
+# Swings that come round three and seven times in a sample.
+SWING = """sample 1
+state x -1 1 cells 81
+state y -1 1 cells 81
+input u 0.1 -1 0 1
+d x = {0}*y - 0.7*x
+d y = -{0}*x - 0.7*y + 0.2*{0}*u
+target -0.4 0.4 -0.4 0.4
+goal reach
+"""
 # Words that are refused, the status, and a part of the line.
 REFUSED = [
     (["--real", "MODEL"], 2, "TEXT"),
@@ -106,6 +116,25 @@ class WithoutNoise(ToolCase):
         self.holds("lint notes a state without noise that moves by whole cells", said in lint, lint)
         lint = self.tool("lint", TOP / "examples/heading/heading.plant")[1]
         self.holds("lint notes nothing of a state with noise", "has no noise" not in lint, lint)
+
+
+@needs_numpy
+class Swings(ToolCase):
+    """Models that swing several times in a sample: their steps are fine enough."""
+
+    def test_promises_are_kept(self):
+        for speed in (20, 45):
+            model = self.placed(f"swing_{speed}.model", SWING.format(speed))
+            table = self.solved("synth", self.scaled(SWING.format(speed)))
+            status, output, _ = self.tool("sim", "--real", model, "-", data=table)
+            kept = re.match(rf"{RUNS} runs, [1-9]\d* samples: 0 violations\n", output)
+            self.holds(f"a swing of {speed} rad in a sample breaks no promise", status == 0 and kept, output)
+
+    def test_scale_try(self):
+        for speed in (20, 45):
+            status, output, error = self.tool("scale", "--try", "200", "-", data=SWING.format(speed).encode())
+            got = (status, output.count("the noise allows -1 to 1"), error)
+            self.equal(f"scale --try of a swing of {speed} rad in a sample", (0, 2, ""), got)
 
 
 class GateCase(ToolCase):

@@ -75,6 +75,15 @@ MESSAGES_OF_FUNCTIONS = [
         "line 1: the sampling time is too long: on the way the divisor `0.1 + x` may lie between -",
     ),
     (
+        "sample 1\nstate x -1 1 0.2 0.01\ninput u 0.1 -0.3 0 0.3\nd x = 1/x + u\ngoal keep\n",
+        "line 4: the divisor `x` may lie between -0.0625 and 0, and has to keep off 0, as 1 / max(x, 0.01) does",
+    ),
+    (
+        "sample 1\nstate x 0.1 1 cells 9\nstate y 0 1 cells 10\nnoise w -0.01 0.01\nd x = 1000*y + w - x\n"
+        "d y = -0.001*y^2*x + w\ngoal keep\n",
+        "line 1: the sampling time is too long beside the fastest time of the system; `sample 0.1` may do",
+    ),
+    (
         "sample 5\n" + CELL + "d x = -50*x\ngoal keep\n",
         "line 1: the sampling time is too long beside the fastest time of the system; `sample 1` would do",
     ),

@@ -62,7 +62,8 @@ LINES = {
     ),
     "unit NAME WORD": "The name of a state's or an input's unit, such as m/s, for pictures (may be left out).",
     "next NAME = EXPRESSION": (
-        "The next value, one line for each state, with + - * / ^ (powers by numbers), sin cos tan asin acos atan "
+        "The next value, one line for each state in the states' order, with + - * / ^ (powers by numbers), sin cos tan "
+        "asin acos atan "
         "sinh cosh tanh sqrt exp log abs, min(a, b), max(a, b), atan2(y, x) and pi. `lut(a, x0, y0, x1, "
         "y1, ..)` "
         "is a curve as it was measured, by 2 to 32 points with rising x: straight from point to point, "

@@ -79,7 +79,7 @@ class Flow:
         try:
             courses = self.courses(self.areas(*boxes), halvings)
         except NoBox as no_box:
-            raise self.shorter(no_box) from None
+            raise self.shorter(no_box, self.areas(*boxes)) from None
         self.course = [tuple(map(self.hulls, zip(*step))) for step in zip(*courses)]
 
     def nodes(self, step: int, before: Mapping[str, Node]) -> list[Node]:
@@ -249,13 +249,14 @@ class Flow:
             box = {name: self.maths.hull(box[name], one[name]) for name in one}
         return box, end
 
-    def shorter(self, no_box: NoBox) -> Trouble:
+    def shorter(self, no_box: NoBox, areas: Iterable[Area]) -> Trouble:
         """The fault of a sampling time up to which no box was found, with one for which there is a box; or what is
-        wrong with an equation where the sample begins."""
+        wrong with an equation where a sample begins, in one of all areas."""
         said = ": no box was found that holds the solutions up to it"
         if no_box.fault:
             try:
-                self.slopes_over(no_box.area)
+                for area in areas:
+                    self.slopes_over(area)
             except Trouble as trouble:
                 return trouble
             said = f": on the way {str(no_box.fault).partition(': ')[2]}"
@@ -318,7 +319,8 @@ class Flow:
         ]
         norm = max(sum(row, Fraction(0)) for row in matrix)
         if self.time * norm > FASTEST:
-            raise too_long(self.model, self.time * norm / FASTEST, SYSTEM)
+            # Over the boxes of other areas, and of another time, the bound is another one.
+            raise too_long(self.model, self.time * norm / FASTEST, SYSTEM, "may")
         power, total = [push * self.time for push in pushes], [Fraction(0)] * size
         for k in range(2, TERMS + 2 * math.ceil(self.time * norm)):
             total = [rounded_up(a + b) for a, b in zip(total, power)]

@@ -17,11 +17,13 @@ from .arithmetic import Exact, Floats, is_exact
 from .kinds import Maths, ModelState, Real, Value
 from .model import Model
 
-FINE, STEPS = 10**6, 24
+FINE = 10**6
+# Fine steps of a sample, at the least and at the most, and the parts of it in which a disturbance is held.
+STEPS, MOST_STEPS, PARTS = 24, 1536, 4
+# Fine steps are enough if twice as many lead from so many points to ends that are so close, in units.
+TRIED, CLOSE = 16, 0.01
 # What floats may be beside, in units.
 NEAR = 1e-6
-# A disturbance of a differential equation may change before each of so many steps.
-HELD = 6
 # Points that are tried at once.
 BLOCK = 10_000
 
@@ -74,7 +76,7 @@ class Point:
         self.values |= self.noises(model, draws)
         # What the disturbances become on the way; where they stay as they are, nothing.
         self.changes: list[dict[str, Fraction]] = (
-            [self.noises(model, draws) if model.noises and draws.random() < 0.5 else {} for _ in range(0, STEPS, HELD)]
+            [self.noises(model, draws) if model.noises and draws.random() < 0.5 else {} for _ in range(PARTS)]
             if model.flows
             else []
         )
@@ -89,11 +91,12 @@ class Point:
 def trial(model: Model, plant: Plant, count: int, seed: int = 1) -> list[Seen]:
     """What was seen of each state at so many random points."""
     draws, seen, progress = random.Random(seed), [Seen() for _ in model.states], Progress("scale")
+    fine = 0
     for begin in range(0, count, BLOCK):
         points = [Point(model, draws) for _ in range(min(BLOCK, count - begin))]
         progress.show(begin / count)
-        after = steps_of(plant, points)
-        for one, real, whole, state in zip(seen, real_steps(model, points), after, model.states):
+        after, fine = steps_of(plant, points), fine or fine_steps(model, points[:TRIED])
+        for one, real, whole, state in zip(seen, real_steps(model, points, fine), after, model.states):
             unit: Real = state[4] if isinstance(real[0], Fraction) else float(state[4])
             differences = [value / unit - number for value, number in zip(real, whole)]
             one.take([around(each, model, state) for each in differences] if state[0] in model.wraps else differences)
@@ -114,21 +117,38 @@ def steps_of(plant: Plant, points: Sequence[Point]) -> list[Sequence[int]]:
     return list(zip(*(plant.step(point.whole, point.inputs, still) for point in points)))
 
 
-def real_steps(model: Model, points: Sequence[Point]) -> list[Sequence[Real]]:
-    """For each state the real steps: by numpy for all points at once where floats are needed and it is there."""
+def fine_steps(model: Model, points: Sequence[Point]) -> int:
+    """How many fine steps of a sample are enough: a model that swings many times in a sample needs more of them."""
+    steps = STEPS
+    ends = real_steps(model, points, steps) if model.flows else []
+    while model.flows and steps < MOST_STEPS:
+        before, ends = ends, real_steps(model, points, 2 * steps)
+        gaps = [
+            max(abs(float(one) - float(other)) for one, other in zip(*pair)) / float(state[4])
+            for pair, state in zip(zip(before, ends), model.states)
+        ]
+        if not any(gap > CLOSE for gap in gaps):
+            break
+        steps *= 2
+    return steps
+
+
+def real_steps(model: Model, points: Sequence[Point], fine: int = STEPS) -> list[Sequence[Real]]:
+    """For each state the real steps, of differential equations by so many fine steps: by numpy for all points at once
+    where floats are needed and it is there."""
     if not model.flows and all(isinstance(equation, dict) or is_exact(equation) for equation in model.equations):
         return list(zip(*(exact_step(model, point) for point in points)))
     if importlib.util.find_spec("numpy"):
-        return steps_at_once(model, points)
+        return steps_at_once(model, points, fine)
     floats = ((as_floats(point.values), list(map(as_floats, point.changes))) for point in points)
-    return list(zip(*(step_of(model, values, changes, Floats()) for values, changes in floats)))
+    return list(zip(*(step_of(model, values, changes, Floats(), fine) for values, changes in floats)))
 
 
 def as_floats(values: Mapping[str, Fraction]) -> dict[str, float]:
     return {name: float(value) for name, value in values.items()}
 
 
-def steps_at_once(model: Model, points: Sequence[Point]) -> list[Sequence[Real]]:
+def steps_at_once(model: Model, points: Sequence[Point], fine: int) -> list[Sequence[Real]]:
     """For each state the real steps from all points, by numpy."""
     from ..ways.doubles import Arrays, numpy
 
@@ -139,7 +159,8 @@ def steps_at_once(model: Model, points: Sequence[Point]) -> list[Sequence[Real]]
         {name: numpy.array([float(change[name]) for change in of_points]) for name in names} for of_points in kinds
     ]
     with numpy.errstate(all="ignore"):
-        return [numpy.broadcast_to(real, len(points)).tolist() for real in step_of(model, values, changes, Arrays())]
+        after = step_of(model, values, changes, Arrays(), fine)
+        return [numpy.broadcast_to(real, len(points)).tolist() for real in after]
 
 
 def exact_step(model: Model, point: Point) -> Iterator[Real]:
@@ -151,29 +172,37 @@ def exact_step(model: Model, point: Point) -> Iterator[Real]:
 
 
 def step_of(
-    model: Model, values: Mapping[str, Value], changes: Sequence[Mapping[str, Value]], maths: HeldMaths[Value]
+    model: Model,
+    values: Mapping[str, Value],
+    changes: Sequence[Mapping[str, Value]],
+    maths: HeldMaths[Value],
+    fine: int,
 ) -> list[Value]:
     """The real next values of equations that are formulas."""
     if model.flows:
-        return flow_step(model, values, changes, maths)
+        return flow_step(model, values, changes, maths, fine)
     return [formula.value_of(equation, values, maths) for equation in model.equations if isinstance(equation, tuple)]
 
 
 def flow_step(
-    model: Model, values: Mapping[str, Value], changes: Sequence[Mapping[str, Value]], maths: HeldMaths[Value]
+    model: Model,
+    values: Mapping[str, Value],
+    changes: Sequence[Mapping[str, Value]],
+    maths: HeldMaths[Value],
+    fine: int,
 ) -> list[Value]:
-    """The real state after a sample, under a disturbance that changes a few times on the way."""
+    """The real state after a sample, by so many fine steps, under a disturbance that changes a few times on the way."""
     names = [state[0] for state in model.states]
     now = dict(values)
-    state, step = [now[name] for name in names], float(model.time) / STEPS
+    state, step = [now[name] for name in names], float(model.time) / fine
 
     def slope(at: Sequence[Value]) -> list[Value]:
         now.update(zip(names, at))
         return [formula.value_of(side, now, maths) for side in model.flows]
 
-    for k in range(STEPS):
-        if k % HELD == 0:
-            now.update({name: maths.held(now[name], new) for name, new in changes[k // HELD].items()})
+    for k in range(fine):
+        if k % (fine // PARTS) == 0:
+            now.update({name: maths.held(now[name], new) for name, new in changes[k * PARTS // fine].items()})
         state = runge_kutta(slope, state, step)
     return state
 

@@ -9,6 +9,7 @@ from typing import TYPE_CHECKING, Callable, Dict, Iterable, Iterator, Optional, 
 
 from ..faults import Trouble
 from ..models.formula import value_of
+from ..models.trial import CLOSE, MOST_STEPS, PARTS, STEPS
 
 if TYPE_CHECKING:
     from ..models.kinds import Function, Monomial, RealBox, Side
@@ -24,8 +25,8 @@ except ImportError:
 # A value of arrays by the variables' names; and the least and the greatest corner of a box.
 Values = Callable[[Dict[str, "RealColumn"]], "RealColumn"]
 Corners = Tuple["Reals", "Reals"]
-# Fine steps of a sample, and the parts of it in which a disturbance is held.
-STEPS, PARTS = 24, 4
+# From so many states it is looked how many fine steps are enough.
+TRIED = 64
 # How far rounding may lead into an obstacle, or out of the domain, in units of the state.
 NEAR = 1e-6
 
@@ -104,6 +105,29 @@ class RealPlant:
         self.is_flow = bool(model.flows) or self.of_matrix
         self.sides = self.matrix_sides() if self.of_matrix else list(map(self.side, model.flows or model.equations))
         self.targets, self.obstacles = (self.boxes(keyword) for keyword in ("target", "obstacle"))
+        self.steps = STEPS
+        if self.is_flow:
+            self.find_steps()
+
+    def find_steps(self) -> None:
+        """Doubles the fine steps of a sample until they are enough: a model that swings many times in a sample needs
+        more of them."""
+        draws = numpy.random.default_rng(1)
+        states = self.lows + (self.highs - self.lows) * draws.random((len(self.names), TRIED))
+        inputs = [draws.choice([float(value) for value in values], TRIED) for _, _, values in self.model.inputs]
+        low, high = self.noise_ends
+        noises = [low + (high - low) * draws.integers(0, 2, (len(self.noise_names), TRIED))] * PARTS
+        turns = numpy.array([name in self.model.wraps for name in self.names]).reshape(-1, 1)
+        turns = numpy.where(turns, self.highs - self.lows, numpy.inf)
+        with numpy.errstate(all="ignore"):
+            *_, end = self.way(states, numpy.array(inputs), noises)
+            while self.steps < MOST_STEPS:
+                self.steps, before = 2 * self.steps, end
+                *_, end = self.way(states, numpy.array(inputs), noises)
+                gaps = numpy.abs(end - before)
+                if not (numpy.minimum(gaps, turns - gaps) > CLOSE * self.units).any():
+                    self.steps //= 2
+                    break
 
     def boxes(self, keyword: str) -> list[Corners]:
         """The ends of the boxes of lines with a keyword."""
@@ -148,12 +172,13 @@ class RealPlant:
             if self.of_matrix and self.model.rows["w"]
             else 0.0
         )
-        step, at = float(self.model.time) / STEPS, numpy.array(states)
-        for k in range(STEPS):
+        steps = self.steps
+        step, at = float(self.model.time) / steps, numpy.array(states)
+        for k in range(steps):
             if not self.of_matrix:
-                values.update(zip(self.noise_names, noises[k * PARTS // STEPS]))
+                values.update(zip(self.noise_names, noises[k * PARTS // steps]))
             at = runge_kutta_array(lambda here: self.slope(values, here), at, step)
-            yield self.wrapped(at + moved * ((k + 1) / STEPS), k + 1 == STEPS)
+            yield self.wrapped(at + moved * ((k + 1) / steps), k + 1 == steps)
 
     def wrapped(self, states: Reals, is_last: bool = False) -> Reals:
         """States that come round, brought back into their range; exact ones are whole numbers of units at samples."""

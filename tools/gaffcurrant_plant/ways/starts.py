@@ -5,7 +5,8 @@ from __future__ import annotations
 from typing import TYPE_CHECKING, Callable
 
 from ..faults import Trouble
-from .doubles import PARTS, column, numpy
+from ..models.trial import PARTS
+from .doubles import column, numpy
 
 if TYPE_CHECKING:
     from numpy.random import Generator
