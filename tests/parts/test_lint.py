@@ -216,6 +216,10 @@ class Notes(LintCase):
         status, output, error = self.lint(lines_of(LINE))
         self.equal("lint of the line example", (0, wanted, ""), (status, output.splitlines(), error))
 
+    def test_one_input_vector(self):
+        output = self.lint(changed(LINE, 3, "input u 3"))[1]
+        self.holds("lint counts one input vector", "5 cells, 1 input vector, 5 pairs" in output, output)
+
     def test_steps_of_kept_plants(self):
         for step, said, wanted in KEPT_NOTES:
             output = self.lint(changed(KEPT, 3, f"input u -{step} {step}"))[1]

@@ -47,6 +47,14 @@ MESSAGES = [
         CELL + "state y 0 1 0.1 0.1\nnext x = x\ngoal reach\n",
         "the model has 2 states and 1 equations: `next y = ..` is missing",
     ),
+    (
+        "sample 1\n" + CELL + "target 0.4 0.6\ngoal reach\n",
+        "the model has 1 state and 0 equations: `d x = ..` is missing",
+    ),
+    (
+        "sample 1\n" + CELL + "next x = x\ntarget 0.4 0.6\ngoal reach\n",
+        "line 1: `sample` is for lines `d` or A, B and c; `next` lines are sampled already",
+    ),
 ]
 MESSAGES_OF_FUNCTIONS = [
     (

@@ -146,6 +146,7 @@ COMPLAINTS = [
     ("version\n", "line 1: 1 number is due behind `version`, here are 0"),
     ("sample 0,5\n", "`0,5` is no number; decimals stand behind a point"),
     ("sample \u22121\n", "write the minus of the keyboard"),
+    ("state a -pi pi 0.1 0.01\n", "`-pi` is no number: write the decimal, or take the angle in degrees"),
     ("state x 0 1 0.1\n", "the line is `state NAME LO HI WIDTH UNIT`: 4 numbers are due, here are 3"),
     ("state x: 0 1 0.1 0.1\n", "`x:` is none"),
     (LINE + "state x 0 1 0.1 0.1\n", "`x` is taken by an earlier line"),

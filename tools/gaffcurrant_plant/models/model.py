@@ -120,7 +120,7 @@ def check_equations(model: Model) -> None:
         )
     if model.rows["A"]:
         add_linear_system(model)
-    elif model.sample and not model.flows:
+    elif model.sample and model.equations:
         raise Trouble(
             f"line {model.sample_line}: `sample` is for lines `d` or A, B and c; `next` lines are sampled already"
         )
@@ -130,7 +130,7 @@ def check_equations(model: Model) -> None:
         missing = model.states[len(model.equations or model.flows)][0]
         raise Trouble(
             f"the model has {len(model.states)} state{'s' * (len(model.states) != 1)} and "
-            f"{len(model.equations or model.flows)} equations: `{'d' if model.flows else 'next'} "
+            f"{len(model.equations or model.flows)} equations: `{'d' if model.sample else 'next'} "
             f"{missing} = ..` "
             "is missing"
         )

@@ -11,8 +11,8 @@ WIDTH = 120
 COLUMN = 34
 
 INTRODUCTION = """\
-A model is a text of lines, usually in this order; a name is stated before the lines that use it. Numbers are decimal
-and in the model's own units. `#` begins a comment."""
+A model is a text of lines, usually in this order; a name is stated before the lines that use it. Numbers are decimal,
+such as 0.05 or 5e-2, and in the model's own units. `#` begins a comment."""
 
 # Each line of a model with its meaning.
 LINES = {
@@ -42,7 +42,8 @@ LINES = {
         "The same by the number of cells. Without UNIT one is chosen of which a cell has an odd number."
     ),
     "exact NAME": (
-        "The state is a whole number of units by itself, such as a direction or a mode, and not a measured value."
+        "The state is a whole number of units by itself, such as a direction, a mode or a number that never changes, "
+        "and not a measured value."
     ),
     "input NAME UNIT V1 .. Vm": (
         "The values that the actuator can take, multiples of UNIT. LO:STEP:HI stands for the values from LO to HI."
@@ -62,8 +63,8 @@ LINES = {
     ),
     "unit NAME WORD": "The name of a state's or an input's unit, such as m/s, for pictures (may be left out).",
     "next NAME = EXPRESSION": (
-        "The next value, one line for each state in the states' order, with + - * / ^ (powers by numbers), sin cos tan "
-        "asin acos atan "
+        "The next value, one line for each state in the states' order, with + - * / and ^ or ** (powers by numbers), "
+        "sin cos tan asin acos atan "
         "sinh cosh tanh sqrt exp log abs, min(a, b), max(a, b), atan2(y, x) and pi. `lut(a, x0, y0, x1, "
         "y1, ..)` "
         "is a curve as it was measured, by 2 to 32 points with rising x: straight from point to point, "

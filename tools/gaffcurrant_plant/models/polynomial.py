@@ -29,6 +29,8 @@ def hint_of(word: str) -> str:
         return ": numbers are set apart by blanks alone"
     if word[:1] in ("\u2212", "\u2013"):
         return ": write the minus of the keyboard, `-`"
+    if re.match(r"[+-]?([0-9.]+\*)?pi\Z", word):
+        return ": write the decimal, or take the angle in degrees"
     return ""
 
 

@@ -446,8 +446,8 @@ def sizes(plant: Plant) -> Iterator[str]:
         else f"{total / EDGES:.1f} times"
     )
     yield (
-        f"{plant.cells} cells, {plant.vectors} input vectors, {plant.pairs} pairs, {about}{total} edges: {said} "
-        f"of the {EDGES} that are the most"
+        f"{plant.cells} cells, {plant.vectors} input vector{'s' * (plant.vectors != 1)}, {plant.pairs} pairs, "
+        f"{about}{total} edges: {said} of the {EDGES} that are the most"
     )
 
 
